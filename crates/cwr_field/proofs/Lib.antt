@@ -1,0 +1,4 @@
+pub mod Blanks
+pub mod CodeText
+pub mod DigitSteps
+pub mod DigitText

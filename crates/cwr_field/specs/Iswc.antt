@@ -1,0 +1,29 @@
+-- The International Standard Musical Work Code of ISO 15707: T, nine digits and a check digit.
+use Rattle.std.specs.Prelude.{ℕ, zero, suc, ◌+◌, ◌-◌, ◌*◌, ◌/◌, ◌%◌, List, [], ◌∷◌, ◌++◌, ◌==◌, ◌&&◌, slice_index, slice_range, Option, Some, None, if◌then◌else◌}
+use Rattle.cwr_field.specs.Layout.{is_blank}
+use Rattle.cwr_field.specs.Number.{number_of, number_text}
+use Rattle.cwr_field.specs.declared.codes.Iswc.{Iswc}
+use Rattle.cwr_field.specs.declared.codes.Iswc.TheVariants.{Blank, Valid, Wrong}
+
+-- of the last digits of a number, as many as the count, 1 times the first, 2 times the second, and so on
+abbrev pub weighted_sum : ℕ → ℕ → ℕ
+weighted_sum zero n = 0
+weighted_sum (suc count) n = weighted_sum count (n / 10) + (count + 1) * (n % 10)
+
+-- the check digit of the nine digits: with it, 1 and the digits in their weights add up to a multiple of 10
+abbrev pub check_digit : ℕ → ℕ
+check_digit n = (10 - (1 + weighted_sum 9 n) % 10) % 10
+
+-- the code of a number below 10 ^ 9
+abbrev pub iswc_text : ℕ → List ℕ
+iswc_text n = 84 ∷ number_text 9 n ++ (48 + check_digit n) ∷ []
+
+-- T at 1, a number in digits from 2 to 10, and its check digit at 11
+abbrev pub code_of : List ℕ → Option ℕ → Iswc
+code_of bytes None = Wrong
+code_of bytes (Some n) =
+    if (slice_index bytes 0 == 84) && (slice_index bytes 10 == 48 + check_digit n) then Valid n else Wrong
+
+-- what the eleven bytes of a field are: blanks, a code, or anything else
+abbrev pub iswc_of : List ℕ → Iswc
+iswc_of bytes = if is_blank bytes then Blank else code_of bytes (number_of (slice_range bytes 1 10))

@@ -1,0 +1,5 @@
+pub mod Layout
+pub mod Number
+pub mod Share
+pub mod Calendar
+pub mod Iswc

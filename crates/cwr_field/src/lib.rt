@@ -1,0 +1,27 @@
+//! Fields of fixed width in a line of bytes, as CWR 2.2 writes them: numbers, shares, days, times, work codes
+//! (ISWC), interested party numbers and texts.
+//!
+//! A line is read by [`cut`], which gives a [`Field`], and each kind of value has one reader of a field:
+//! [`digits`], [`share`], [`date`], [`time`], [`iswc`], [`party`]. [`put_digits`] and [`put_text`] write fields.
+//! Positions are counted from 1, as in the CWR manual.
+#![tactic(auto)]
+
+mod clock;
+mod codes;
+mod day;
+mod field;
+mod memory;
+mod number;
+#[cfg(test)]
+mod tests;
+mod text;
+mod work_code;
+
+pub use clock::{Clock, time};
+pub use codes::Iswc;
+pub use day::{Day, date};
+pub use field::{Field, cut, is_blank, party};
+pub use memory::Memory;
+pub use number::{digits, put_digits, share};
+pub use text::put_text;
+pub use work_code::{check_digit, iswc};

@@ -1,0 +1,77 @@
+ghost use Rattle.std.specs.Prelude.{◌≡◌, ◌≤◌, ◌<◌, ◌^◌, ◌+◌, ◌++◌, IfSome, OnOk, OnErr, length, vec_len, vec_capacity};
+ghost use Rattle.cwr_field.specs.Number.{number_of, number_text};
+ghost use Rattle.cwr_field.specs.Share.{share_of};
+
+use crate::field::Field;
+use crate::memory::Memory;
+use std::alloc::Allocator;
+
+/// All of a right, in hundredths of one per cent.
+const WHOLE: u64 = 10000;
+
+/// The number that bytes spell, where each is a digit.
+pub(crate) fn number_in(bytes: &[u8]) -> Option<u64>
+    requires { length bytes.now ≤ 18 }
+    ensures value { result ≡ number_of bytes.now }
+    ensures bound { IfSome result (λ n. n < 10 ^ length bytes.now) }
+{
+    let mut number = 0;
+    for byte in bytes {
+        if !byte.is_ascii_digit() {
+            return None;
+        }
+        number = number * 10 + (*byte - b'0') as u64;
+    }
+    Some(number)
+}
+
+/// The number that a field spells, where each of its bytes is a digit.
+pub fn digits(text: Field) -> Option<u64>
+    requires { length text ≤ 18 }
+    ensures value { result ≡ number_of text.entry }
+    ensures bound { IfSome result (λ n. n < 10 ^ length text.entry) }
+{
+    number_in(text.whole()?)
+}
+
+/// A share of a right in a field of five bytes, in hundredths of one per cent.
+///
+/// Five blanks are 0, and five digits up to 10000 are their number.
+pub fn share(text: Field) -> Option<u16>
+    requires { length text ≡ 5 }
+    ensures value { result ≡ share_of text.entry }
+    ensures bound { IfSome result (λ n. n ≤ 10000) }
+{
+    if text.is_blank() {
+        return Some(0);
+    }
+    match digits(text) {
+        Some(number) if number <= WHOLE => Some(number as u16),
+        _ => None,
+    }
+}
+
+/// Appends a number in so many digits, with leading zeros.
+///
+/// A refusal leaves the vector as it was.
+pub fn put_digits<A: Allocator>(
+    out: &mut Vec<u8, A>,
+    value: u64,
+    width: usize,
+) -> Result<(), Memory>
+    requires fits { value < 10 ^ width }
+    requires width { width ≤ 18 }
+    ensures ok { OnOk result (out.new.items ≡ out.old.items ++ number_text width value) }
+    ensures err { OnErr result (out.new.items ≡ out.old.items) }
+    // Memory is answered only where there was no room.
+    ensures full { OnErr result (vec_capacity out.old < vec_len out.old + width) }
+{
+    let mut digits = [b'0'; 18];
+    let mut rest = value;
+    for index in (0..width).rev() {
+        digits[index] = b'0' + (rest % 10) as u8;
+        rest /= 10;
+    }
+    out.extend_from_slice(&digits[..width])?;
+    Ok(())
+}
