@@ -1,0 +1,6 @@
+pub mod Places
+pub mod TicketLawful
+pub mod TicketRuns
+pub mod ArrayLawful
+pub mod ArrayStates
+pub mod ArrayRuns
