@@ -63,7 +63,9 @@ pub fn put_digits<A: Allocator>(
     requires width { width ≤ 18 }
     ensures ok { OnOk result (out.new.items ≡ out.old.items ++ number_text width value) }
     ensures err { OnErr result (out.new.items ≡ out.old.items) }
-    // Memory is answered only where there was no room.
+    ensures len { OnOk result (vec_len out.new ≡ vec_len out.old + width) }
+    // The capacity never shrinks, and memory is answered only where there was no room.
+    ensures capacity { vec_capacity out.old ≤ vec_capacity out.new }
     ensures full { OnErr result (vec_capacity out.old < vec_len out.old + width) }
 {
     let mut digits = [b'0'; 18];

@@ -11,7 +11,9 @@ pub fn put_text<A: Allocator>(out: &mut Vec<u8, A>, text: &[u8], width: usize) -
     requires { length text.now ≤ width }
     ensures ok { OnOk result (out.new.items ≡ out.old.items ++ padded width text.now) }
     ensures err { OnErr result (out.new.items ≡ out.old.items) }
-    // Memory is answered only where there was no room.
+    ensures len { OnOk result (vec_len out.new ≡ vec_len out.old + width) }
+    // The capacity never shrinks, and memory is answered only where there was no room.
+    ensures capacity { vec_capacity out.old ≤ vec_capacity out.new }
     ensures full { OnErr result (vec_capacity out.old < vec_len out.old + width) }
 {
     out.reserve(width)?;

@@ -1,0 +1,4 @@
+pub mod OutcomeText
+pub mod ThinFile
+pub mod Account
+pub mod Causes

@@ -1,0 +1,10 @@
+-- A reader or a writer of std, as contracts see it behind a source or a sink.
+use Rattle.std.specs.Prelude.{ℕ, Bool}
+
+pub record ThroughState (T : Type 0) : Type 0 where
+  -- the reader or writer itself
+  pub inner : T
+  -- the number of reads so far
+  pub reads : ℕ
+  -- a read or a write failed, or a write took none of some bytes
+  pub has_failed : Bool

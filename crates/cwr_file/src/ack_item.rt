@@ -1,0 +1,84 @@
+ghost use Rattle.std.specs.Prelude.{◌≡◌};
+ghost use Rattle.cwr_file.specs.AckItem.{told_faults, status_text};
+
+use crate::transaction_fault::{Fault, Faults};
+use cwr_record::WorkKind;
+use std::alloc::{Allocator, Global};
+use std::marker::Model;
+
+/// What the registry decided on a transaction: its Transaction Status.
+#[derive(Clone, Copy, Debug, PartialEq, Eq, Hash)]
+pub enum Status {
+    /// AS: the claim is registered.
+    Accepted,
+    /// DU: the submitter had registered the work before.
+    Duplicate,
+    /// CO: the claim is in conflict with others.
+    Conflict,
+    /// RJ: the transaction has faults.
+    Rejected,
+}
+
+impl Status {
+    pub(crate) fn text(self) -> [u8; 2]
+        ensures { result ≡ status_text self }
+    {
+        match self {
+            Status::Accepted => *b"AS",
+            Status::Duplicate => *b"DU",
+            Status::Conflict => *b"CO",
+            Status::Rejected => *b"RJ",
+        }
+    }
+}
+
+/// A transaction of the acknowledged file, and the registry's decision on it.
+#[derive_where(Debug)]
+#[derive(Drop)]
+pub struct AckItem<A: Allocator = Global> {
+    /// Group id of the transaction's group, at most 99999.
+    pub group: u32,
+    /// Transaction sequence, at most 99999999.
+    pub sequence: u32,
+    /// The kind of the transaction.
+    pub kind: WorkKind,
+    /// Title of the work.
+    pub title: [u8; 60],
+    /// The submitter's number of the work.
+    pub number: [u8; 14],
+    /// The decision.
+    pub status: Status,
+    /// The registry's number of the work that the decision names, at most 99999999.
+    pub work: Option<u32>,
+    /// Why the transaction is rejected. The faults of one that is not rejected are not told.
+    pub faults: Faults<A>,
+}
+
+impl<A: Allocator> Model for AckItem<A> {
+    ghost use Rattle.cwr_file.specs.AckItem.{Item};
+
+    ghost Value = { Item };
+
+    ghost view = { λ i. record {
+      group = i.group;
+      sequence = i.sequence;
+      kind = i.kind;
+      title = i.title;
+      number = i.number;
+      status = i.status;
+      work = i.work;
+      faults = i.faults;
+    } };
+}
+
+impl<A: Allocator> AckItem<A> {
+    /// The faults that the acknowledgement tells: those of a rejected transaction.
+    pub(crate) fn told_faults(&self) -> &[Fault]
+        ensures { result.now ≡ told_faults self.now }
+    {
+        match self.status {
+            Status::Rejected => self.faults.as_slice(),
+            Status::Accepted | Status::Duplicate | Status::Conflict => &[],
+        }
+    }
+}

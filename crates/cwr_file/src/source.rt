@@ -1,0 +1,33 @@
+ghost use Rattle.std.specs.Prelude.{◌≡◌, ◌+◌, ◌≤◌, ℕ, List, Option, Bool, false, length, IfOk, is_err};
+ghost use Rattle.std.specs.Io.KnownBytes.{ReadConsumes};
+
+use crate::Failed;
+
+/// Something that gives bytes, a few at a time.
+///
+/// Once a read failed the source has failed, and no call may read it again.
+pub trait Source {
+    // The bytes that reads will give from here on, where the type tells them.
+    ghost left: { Self → Option (List ℕ) };
+
+    // The number of reads so far, the failed one included.
+    ghost reads: { Self → ℕ };
+
+    // A read failed.
+    ghost has_failed: { Self → Bool };
+
+    /// Whether a read failed.
+    fn failed(&self) -> bool
+        ensures { result ≡ has_failed self.now };
+
+    /// Reads the next bytes into the front of the room, and answers how many: at most as many as the room has
+    /// places, and 0 into some room only at the end.
+    ///
+    /// What then stands in the room behind them is left open. A read that answers [`Failed`] gave no byte.
+    fn read_some(&mut self, room: &mut [u8]) -> Result<usize, Failed>
+        requires { has_failed self.old ≡ false }
+        ensures bound { IfOk result (λ n. n ≤ length room.new) }
+        ensures bytes { ReadConsumes (left self.old) (left self.new) result room.new }
+        ensures counted { reads self.new ≡ reads self.old + 1 }
+        ensures fails { has_failed self.new ≡ is_err result };
+}

@@ -1,0 +1,6 @@
+pub mod LeastFault
+pub mod Fronts
+pub mod RoundTrip
+pub mod SameRecords
+pub mod Names
+pub mod TrailingBlanks

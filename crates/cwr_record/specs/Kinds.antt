@@ -1,0 +1,23 @@
+-- The record types that two kinds of a record have.
+use Rattle.std.specs.Prelude.{ℕ, List, codes}
+use Rattle.cwr_record.specs.declared.works.WorkKind.{WorkKind}
+use Rattle.cwr_record.specs.declared.works.WorkKind.TheVariants.{Nwr, Rev}
+use Rattle.cwr_record.specs.declared.publishers.PublisherKind.{PublisherKind}
+use Rattle.cwr_record.specs.declared.publishers.PublisherKind.TheVariants.{Spu, Opu}
+use Rattle.cwr_record.specs.declared.writers.WriterKind.{WriterKind}
+use Rattle.cwr_record.specs.declared.writers.WriterKind.TheVariants.{Swr, Owr}
+
+-- a new registration, and a revised one
+abbrev pub work_kind_code : WorkKind → List ℕ
+work_kind_code Nwr = codes "NWR"
+work_kind_code Rev = codes "REV"
+
+-- a publisher controlled by the submitter, and another one
+abbrev pub publisher_kind_code : PublisherKind → List ℕ
+publisher_kind_code Spu = codes "SPU"
+publisher_kind_code Opu = codes "OPU"
+
+-- a writer controlled by the submitter, and another one
+abbrev pub writer_kind_code : WriterKind → List ℕ
+writer_kind_code Swr = codes "SWR"
+writer_kind_code Owr = codes "OWR"

@@ -1,0 +1,17 @@
+pub mod Layout
+pub mod Rows
+pub mod Kinds
+pub mod Control
+pub mod Works
+pub mod Publishers
+pub mod Writers
+pub mod Acknowledgement
+pub mod Faults
+pub mod Lines
+pub mod RecordTypes
+pub mod Parties
+pub mod Territory
+pub mod Stamp
+pub mod Readable
+pub mod Ranges
+pub mod Pieces

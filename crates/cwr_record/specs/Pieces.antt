@@ -1,0 +1,38 @@
+-- What is written field by field.
+use Rattle.std.specs.Prelude.{ℕ, ◌<◌, ◌≤◌, ◌^◌, List, [], length, Some, None}
+use Rattle.cwr_field.specs.Layout.{padded}
+use Rattle.cwr_field.specs.Number.{number_text}
+use Rattle.cwr_field.specs.Iswc.{iswc_text}
+use Rattle.cwr_record.specs.declared.pieces.Piece.{Piece}
+use Rattle.cwr_record.specs.declared.pieces.Piece.TheVariants.{Text, Digits, Share, Day, Time, OptionalDay, OptionalTime, Code}
+
+abbrev pub piece_text : Piece → List ℕ
+piece_text (Text text width) = padded width text.now
+piece_text (Digits value width) = number_text width value
+piece_text (Share value) = number_text 5 value
+piece_text (Day day) = number_text 8 day
+piece_text (Time time) = number_text 6 time
+piece_text (OptionalDay None) = padded 8 []
+piece_text (OptionalDay (Some day)) = number_text 8 day
+piece_text (OptionalTime None) = padded 6 []
+piece_text (OptionalTime (Some time)) = number_text 6 time
+piece_text (Code None) = padded 11 []
+piece_text (Code (Some n)) = iswc_text n
+
+-- the bytes that the field takes
+abbrev pub piece_width : Piece → ℕ
+piece_width (Text text width) = width
+piece_width (Digits value width) = width
+piece_width (Share value) = 5
+piece_width (Day day) = 8
+piece_width (Time time) = 6
+piece_width (OptionalDay day) = 8
+piece_width (OptionalTime time) = 6
+piece_width (Code n) = 11
+
+abbrev pub FitsPiece : Piece → Type 0
+FitsPiece (Text text width) = length text.now ≤ width
+FitsPiece (Digits value width) = (value < 10 ^ width) × (width ≤ 18)
+FitsPiece (Share value) = value ≤ 10000
+FitsPiece (Code (Some n)) = n < 10 ^ 9
+FitsPiece piece = Unit {0}

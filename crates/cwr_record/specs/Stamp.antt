@@ -1,0 +1,22 @@
+-- Who acknowledges, and when.
+use Rattle.std.specs.Prelude.{ℕ, nat_le, Bool, ◌&&◌, List, length, Option, Some, None, if◌then◌else◌}
+use Rattle.std.specs.List.{list_all}
+use Rattle.cwr_field.specs.Layout.{padded}
+
+-- a society's number, its name filled with blanks, and a date and a time as the numbers that their digits spell
+pub record StampParts : Type 0 where
+  pub society : ℕ
+  pub name : List ℕ
+  pub date : ℕ
+  pub time : ℕ
+
+-- no byte is below 32, as those of line ends and other controls are
+abbrev pub is_printable : List ℕ → Bool
+is_printable bytes = list_all (nat_le 32) bytes
+
+-- a society of three digits, and a name of at most 45 bytes
+abbrev pub stamp_of : ℕ → List ℕ → ℕ → ℕ → Option StampParts
+stamp_of society name date time =
+    if nat_le society 999 && nat_le (length name) 45 && is_printable name
+    then Some (record { society = society; name = padded 45 name; date = date; time = time })
+    else None

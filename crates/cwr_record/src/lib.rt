@@ -1,0 +1,67 @@
+//! The records of CWR 2.2 (Common Works Registration, CISAC): what each line of a file says, read and written.
+//!
+//! A line here is a record without its line end. [`type_of`] tells its [`RecordType`]. Each type with a layout has a
+//! struct with the layout's fields, a reader and a writer:
+//!
+//! - control records: [`Header`] (HDR), [`GroupHead`] (GRH), [`GroupTrailer`] (GRT), [`FileTrailer`] (TRL);
+//! - a work: [`WorkHead`] (NWR, REV), [`AltTitle`] (ALT), [`CrossRef`] (XRF);
+//! - its publishers: [`Publisher`] (SPU, OPU), [`PublisherTerritory`] (SPT);
+//! - its writers: [`Writer`] (SWR, OWR), [`WriterTerritory`] (SWT), [`Link`] (PWR);
+//! - an acknowledgement: [`Ack`] (ACK), [`Message`] (MSG), and the [`Stamp`] of who acknowledges.
+//!
+//! A reader gives the value that the line stands for, or the least [`FieldFault`]: of the fields that cannot be read,
+//! the one that starts first. What a layout does not name is not read, and a line that is too short reads as if
+//! blanks followed it. A writer appends the line, or leaves the vector as it was where memory is refused. A line that
+//! was written is read as the value that was written.
+//!
+//! [`party_of`], [`publisher_of`], [`ownership_of`], [`collection_of`], [`indicator_of`] and [`territory_of`] read one
+//! field of a line, whatever its other fields hold, and take no memory.
+//!
+//! Positions are bytes counted from 1, and a blank is byte 32. A text is an array of its field's width, blanks
+//! included. A share is in hundredths of one per cent, so that 10000 is the whole.
+//!
+//! The layouts stand in `specs/`, one table for each struct. There `StandsFor table line x` says that each field of
+//! the line is that part of `x`, `IsLeastFault` which fault is answered, and `line_of table x` is the line written.
+#![tactic(auto)]
+
+mod acknowledgement;
+mod control;
+mod parties;
+mod pieces;
+mod prefix;
+mod publishers;
+mod record_type;
+mod slot;
+mod stamp;
+mod values;
+mod works;
+mod writers;
+
+pub use acknowledgement::{Ack, Message, read_ack, read_message, write_ack, write_message};
+pub use control::{
+    FileTrailer, GroupHead, GroupTrailer, Header, read_file_trailer, read_group_head,
+    read_group_trailer, read_header, write_file_trailer, write_group_head, write_group_trailer,
+    write_header,
+};
+pub use parties::{
+    collection_of, indicator_of, ownership_of, party_of, publisher_of, territory_of,
+};
+pub use prefix::Prefix;
+pub use publishers::{
+    Publisher, PublisherKind, PublisherTerritory, read_publisher, read_publisher_territory,
+    write_publisher, write_publisher_territory,
+};
+pub use record_type::{RecordType, type_of};
+pub use slot::FieldFault;
+pub use stamp::Stamp;
+pub use works::{
+    AltTitle, CrossRef, WorkHead, WorkKind, read_alt_title, read_cross_ref, read_work_head,
+    write_alt_title, write_cross_ref, write_work_head,
+};
+pub use writers::{
+    Link, Writer, WriterKind, WriterTerritory, read_link, read_writer, read_writer_territory,
+    write_link, write_writer, write_writer_territory,
+};
+
+#[cfg(test)]
+mod tests;

@@ -1,0 +1,159 @@
+use super::*;
+
+/// The NWR line with this work code and what follows it.
+fn registration<'a>(alloc: Global, code: &'a [u8], rest: &'a [u8]) -> Result<Vec<u8>, AllocError> {
+    line(
+        alloc,
+        &[
+            (b"NWR0000000000000000SONG ONE", 54),
+            (b"W1", 12),
+            (code, 0),
+            (rest, 0),
+        ],
+    )
+}
+
+#[test]
+fn fault_of_a_work_code(rt: HostRuntime) -> Result<(), Fail> {
+    let wrong = registration(
+        rt.alloc(),
+        b"T0345246802",
+        b"20010203               000330U",
+    )?;
+    assert_eq!(rt;
+        read_work_head(&wrong),
+        Err(FieldFault {
+            start: 96,
+            number: 5
+        })
+    );
+    Ok(())
+}
+
+#[test]
+fn optional_fields(rt: HostRuntime) -> Result<(), Fail> {
+    let blank = read_work_head(&registration(rt.alloc(), b"", b"")?)
+        .ok()
+        .ok_or("a fault")?;
+    assert_eq!(rt;
+        (blank.iswc, blank.copyright_date, blank.duration),
+        (None, None, None)
+    );
+    let zeros = read_work_head(&registration(rt.alloc(), b"           ", b"00000000")?)
+        .ok()
+        .ok_or("a fault")?;
+    assert_eq!(rt; zeros.copyright_date, None);
+    let leap_day = read_work_head(&registration(rt.alloc(), b"           ", b"20240229")?)
+        .ok()
+        .ok_or("a fault")?;
+    assert_eq!(rt; leap_day.copyright_date, Some(day(b"20240229")?));
+    let no_day = registration(rt.alloc(), b"           ", b"20230229")?;
+    assert_eq!(rt;
+        read_work_head(&no_day),
+        Err(FieldFault {
+            start: 107,
+            number: 3
+        })
+    );
+    let no_time = registration(rt.alloc(), b"           ", b"20240229               240000")?;
+    assert_eq!(rt;
+        read_work_head(&no_time),
+        Err(FieldFault {
+            start: 130,
+            number: 4
+        })
+    );
+    Ok(())
+}
+
+#[test]
+fn faults_of_the_type(rt: HostRuntime) {
+    assert_eq!(rt;
+        read_writer(b"ALT0000000000000004OTHER NAME"),
+        Err(FieldFault {
+            start: 1,
+            number: 6
+        })
+    );
+    assert_eq!(rt;
+        read_header(b""),
+        Err(FieldFault {
+            start: 1,
+            number: 6
+        })
+    );
+    assert_eq!(rt;
+        read_work_head(b"ACK0000000000000000"),
+        Err(FieldFault {
+            start: 1,
+            number: 6
+        })
+    );
+}
+
+#[test]
+fn least_faults(rt: HostRuntime) -> Result<(), Fail> {
+    let later = read_group_trailer(b"GRT000010000000100x00004");
+    assert_eq!(rt;
+        later,
+        Err(FieldFault {
+            start: 17,
+            number: 1
+        })
+    );
+    let both = read_group_trailer(b"GRT00x010000000100x00004");
+    assert_eq!(rt;
+        both,
+        Err(FieldFault {
+            start: 4,
+            number: 1
+        })
+    );
+    let header = line(
+        rt.alloc(),
+        &[
+            (b"HDRPB000000123PUBLISHER A", 34),
+            (b"01.102024023024000020240501", 15),
+        ],
+    )?;
+    assert_eq!(rt;
+        read_header(&header),
+        Err(FieldFault {
+            start: 65,
+            number: 3
+        })
+    );
+    let share = line(
+        rt.alloc(),
+        &[
+            (b"SWR0000000000000001000000001DOE", 73),
+            (b"CA", 23),
+            (b"10000", 3),
+            (b"10001", 3),
+            (b"1000x", 0),
+        ],
+    )?;
+    assert_eq!(rt;
+        read_writer(&share),
+        Err(FieldFault {
+            start: 138,
+            number: 2
+        })
+    );
+    Ok(())
+}
+
+#[test]
+fn other_kinds(rt: HostRuntime) -> Result<(), Fail> {
+    let revised = read_work_head(b"REV0000000000000000SONG ONE")
+        .ok()
+        .ok_or("a fault")?;
+    assert_eq!(rt; revised.kind, WorkKind::Rev);
+    let publisher = read_publisher(b"OPU0000000000000001")
+        .ok()
+        .ok_or("a fault")?;
+    assert_eq!(rt; publisher.kind, PublisherKind::Opu);
+    let writer = read_writer(b"OWR0000000000000002").ok().ok_or("a fault")?;
+    assert_eq!(rt; writer.kind, WriterKind::Owr);
+    Ok(())
+}
