@@ -1,0 +1,134 @@
+-- The call of a transaction is lawful.
+use Rattle.std.proofs.Common.{◌≡◌, ℕ, zero, suc, ◌-◌, ◌<◌, ◌≤◌, Bool, true, false, leb, not, List, [], ◌∷◌, ◌++◌, length, take, drop, Option, refl, sym, subst, arith, IsTrue}
+use Rattle.std.specs.Prelude.{◌||◌, replicate, filter}
+use Rattle.std.specs.List.{list_all}
+use Rattle.std.proofs.lemmas.Bool.Decides.{nat_tests}
+use Rattle.cwr_field.specs.Layout.{field}
+use Rattle.cwr_field.specs.Iswc.{iswc_of}
+use Rattle.cwr_file.specs.declared.transaction_fault.Fault.{Fault}
+use Rattle.cwr_record.specs.declared.works.WorkKind.{WorkKind}
+use Rattle.cwr_record.specs.Kinds.{work_kind_code}
+use Rattle.cwr_rules.specs.declared.record.Record.{Record}
+use Rattle.cwr_rules.specs.declared.record.Record.TheVariants.{Spu, Opu, Spt, Swr, Owr, Swt, Pwr, Alt, Xrf, Carried}
+use Rattle.cwr_rules.specs.declared.record.Shares.{Shares}
+use Rattle.cwr_rules.specs.declared.totals.Totals.{Totals}
+use Rattle.cwr_rules.specs.Lawful.{is_clean, is_iswc, is_lawful, is_none_found, is_whole, are_at_most, are_faults}
+use Rattle.cwr_rules.specs.Totals.{total, performing_share, mechanical_share, synchronization_share, owns, controls, ownership, control}
+use Rattle.cwr_rules.specs.Calls.{three, call_from}
+use Rattle.cwr_rules.specs.Rules.{publishers}
+use Rattle.cwr_rules.specs.Head.{is_off, number_in}
+use Rattle.cwr_rules.specs.Faults.{found, all_found, faults_after, faults_of, head_rules}
+use Rattle.cwr_rules.specs.Collected.{AreCapped}
+use Rattle.cwr_rules.proofs.SmallShares.{TotalsLe, totals_le}
+use Rattle.cwr_rules.proofs.Rising.{faults_rise}
+use Rattle.cwr_rules.proofs.FaultForms.{both, parts, le_test, faults_are, faults_few}
+
+abbrev is_clear : ℕ → Bool
+is_clear b = leb 32 b
+
+take_clean : (n : ℕ) (xs : List ℕ) → list_all is_clear xs ≡ true → list_all is_clear (take n xs) ≡ true
+take_clean zero xs h = refl
+take_clean (suc n) [] h = refl
+take_clean (suc n) (x ∷ xs) h = let p = parts (is_clear x) (list_all is_clear xs) h in both (is_clear x) (list_all is_clear (take n xs)) p.0 (take_clean n xs p.1)
+
+drop_clean : (n : ℕ) (xs : List ℕ) → list_all is_clear xs ≡ true → list_all is_clear (drop n xs) ≡ true
+drop_clean zero xs h = h
+drop_clean (suc n) [] h = refl
+drop_clean (suc n) (x ∷ xs) h = drop_clean n xs (parts (is_clear x) (list_all is_clear xs) h).1
+
+append_clean : (xs ys : List ℕ) → list_all is_clear xs ≡ true → list_all is_clear ys ≡ true → list_all is_clear (xs ++ ys) ≡ true
+append_clean [] ys h k = k
+append_clean (x ∷ xs) ys h k = let p = parts (is_clear x) (list_all is_clear xs) h in both (is_clear x) (list_all is_clear (xs ++ ys)) p.0 (append_clean xs ys p.1 k)
+
+blanks_clean : (n : ℕ) → list_all is_clear (replicate n 32) ≡ true
+blanks_clean zero = refl
+blanks_clean (suc n) = blanks_clean n
+
+-- a field of a line without control characters has none
+field_clean : (line : List ℕ) (s n : ℕ) → is_clean line ≡ true → is_clean (field line s n) ≡ true
+field_clean line s n h = take_clean n (drop (s - 1) line ++ replicate n 32) (append_clean (drop (s - 1) line) (replicate n 32) (drop_clean (s - 1) line h) (blanks_clean n))
+
+at_most : (limit : ℕ) (t : Totals) → TotalsLe limit t → are_at_most limit (three t) ≡ true
+at_most limit t h =
+    both (leb t.performing limit) _ (le_test t.performing limit h.performing)
+    (both (leb t.mechanical limit) _ (le_test t.mechanical limit h.mechanical) (both (leb t.synchronization limit) true (le_test t.synchronization limit h.synchronization) refl))
+
+control_small : (records : List Record) → length records < 99999999 → AreCapped records → are_at_most 999999990000 (three (control records)) ≡ true
+control_small records lt capped =
+    let le = totals_le controls records capped in
+    at_most 999999990000 (control records) (record { performing = omega (arith, le.performing); mechanical = omega (arith, le.mechanical); synchronization = omega (arith, le.synchronization) })
+
+-- what is controlled is owned
+controlled_le : (right : Shares → Option ℕ) (records : List Record) → total right (filter controls records) ≤ total right (filter owns records)
+controlled_le right [] = omega arith
+controlled_le right (Spu a s ∷ rs) = let h = controlled_le right rs in omega arith
+controlled_le right (Opu a s ∷ rs) = let h = controlled_le right rs in omega arith
+controlled_le right (Spt a s t ∷ rs) = controlled_le right rs
+controlled_le right (Swr a s ∷ rs) = let h = controlled_le right rs in omega arith
+controlled_le right (Owr s ∷ rs) = let h = controlled_le right rs in omega arith
+controlled_le right (Swt a s t ∷ rs) = controlled_le right rs
+controlled_le right (Pwr a ∷ rs) = controlled_le right rs
+controlled_le right (Alt ∷ rs) = controlled_le right rs
+controlled_le right (Xrf ∷ rs) = controlled_le right rs
+controlled_le right (Carried a ∷ rs) = controlled_le right rs
+
+none_parts : (xs ys : List Fault) → is_none_found (xs ++ ys) ≡ true → (is_none_found xs ≡ true) × (is_none_found ys ≡ true)
+none_parts [] ys e = (refl, e)
+none_parts (x ∷ xs) ys e = absurd cc
+
+not_found : (k n : ℕ) (t : List ℕ) (b : Bool) → is_none_found (found k t n b) ≡ true → b ≡ false
+not_found k n t false e = refl
+not_found k n t true e = absurd cc
+
+near : (n : ℕ) → is_off n ≡ false → n ≤ 10006
+near n e = grind (arith, nat_tests)
+
+abbrev NoneHolds : List (ℕ × Bool) → Type 0
+NoneHolds [] = Unit {0}
+NoneHolds (rule ∷ rules) = (rule.1 ≡ false) × NoneHolds rules
+
+none_holds : (k : ℕ) (t : List ℕ) (rules : List (ℕ × Bool)) → is_none_found (all_found k t rules) ≡ true → NoneHolds rules
+none_holds k t [] e = tt
+none_holds k t (rule ∷ rules) e =
+    let two = none_parts (found k t rule.0 rule.1) (all_found k t rules) e in
+    (not_found k rule.0 t rule.1 two.0, none_holds k t rules two.1)
+
+without_faults : (kind : WorkKind) (head : List ℕ) (records : List Record) → is_none_found (faults_of kind head records) ≡ true → are_at_most 10006 (three (control records)) ≡ true
+without_faults kind head records e =
+    let of_whole = (none_parts (all_found 0 (work_kind_code kind) (head_rules head records)) (faults_after (publishers records) [] records) e).0 in
+    let h = none_holds 0 (work_kind_code kind) (head_rules head records) of_whole in
+    at_most 10006 (control records) (record {
+      performing = omega (arith, near (ownership records).performing h.1.1.1.1.1.0, controlled_le performing_share records);
+      mechanical = omega (arith, near (ownership records).mechanical h.1.1.1.1.1.1.0, controlled_le mechanical_share records);
+      synchronization = omega (arith, near (ownership records).synchronization h.1.1.1.1.1.1.1.0, controlled_le synchronization_share records);
+    })
+
+whole : (kind : WorkKind) (head : List ℕ) (records : List Record) → is_whole (faults_of kind head records) (three (control records)) ≡ true
+whole kind head records =
+    let P : Bool → Type 0 = λ b. is_none_found (faults_of kind head records) ≡ b → (not b || are_at_most 10006 (three (control records))) ≡ true in
+    (elim (is_none_found (faults_of kind head records)) as P [ true ↦ λ e. without_faults kind head records e | false ↦ λ e. refl ]) refl
+
+right_faults : (kind : WorkKind) (head : List ℕ) (records : List Record) → length records < 99999999 → are_faults (faults_of kind head records) ≡ true
+right_faults kind head records lt =
+    both _ _ (both _ _ (le_test (length (faults_of kind head records)) 999999999 (faults_few kind head records lt)) (faults_are kind head records lt)) (faults_rise kind head records)
+
+pub lawful : (submitter head : List ℕ) (kind : WorkKind) (records : List Record) → length records < 99999999 → AreCapped records
+    → is_clean submitter ≡ true → is_clean head ≡ true → is_iswc (call_from submitter kind head records).iswc ≡ true → is_lawful (call_from submitter kind head records) ≡ true
+lawful submitter head kind records lt capped a b i =
+    both _ _ (both _ _ (both _ _ (both _ _ (both _ _ (both _ _ a (field_clean head 20 60 b)) (field_clean head 82 14 b)) i) (control_small records lt capped)) (whole kind head records)) (right_faults kind head records lt)
+
+-- the same of parts that are those of the call
+pub lawful_from : (submitter head title number : List ℕ) (kind : WorkKind) (iswc : Option ℕ) (t : Totals) (records : List Record) (out : List Fault)
+    → length records < 99999999 → AreCapped records → IsTrue (is_clean submitter) → IsTrue (is_clean head) → IsTrue (is_iswc iswc)
+    → title ≡ field head 20 60 → number ≡ field head 82 14 → iswc ≡ number_in (iswc_of (field head 96 11)) → t ≡ control records → out ≡ faults_of kind head records
+    → IsTrue (is_lawful (record { submitter = submitter; kind = kind; title = title; number = number; iswc = iswc; control = three t; faults = out }))
+lawful_from submitter head title number kind iswc t records out lt capped a b i title_is number_is iswc_is control_is faults_are_all =
+    let P : List ℕ → List ℕ → Option ℕ → Totals → List Fault → Type 0 = λ v w x y z. IsTrue (is_lawful (record { submitter = submitter; kind = kind; title = v; number = w; iswc = x; control = three y; faults = z })) in
+    let R : Option ℕ → Type 0 = λ x. is_iswc x ≡ true in
+    let whole_is : P (field head 20 60) (field head 82 14) (number_in (iswc_of (field head 96 11))) (control records) (faults_of kind head records) = lawful submitter head kind records lt capped a b (subst R iswc_is i) in
+    let P0 : List Fault → Type 0 = λ z. P (field head 20 60) (field head 82 14) (number_in (iswc_of (field head 96 11))) (control records) z in
+    let P1 : Totals → Type 0 = λ y. P (field head 20 60) (field head 82 14) (number_in (iswc_of (field head 96 11))) y out in
+    let P2 : Option ℕ → Type 0 = λ x. P (field head 20 60) (field head 82 14) x t out in
+    let P3 : List ℕ → Type 0 = λ w. P (field head 20 60) w iswc t out in
+    let P4 : List ℕ → Type 0 = λ v. P v number iswc t out in
+    subst P4 (sym title_is) (subst P3 (sym number_is) (subst P2 (sym iswc_is) (subst P1 (sym control_is) (subst P0 (sym faults_are_all) whole_is))))

@@ -1,0 +1,10 @@
+pub mod OrderLaw
+pub mod Rising
+pub mod Members
+pub mod Collecting
+pub mod SmallShares
+pub mod Steps
+pub mod FaultForms
+pub mod LawfulCall
+pub mod TerritoryLaw
+pub mod NameLaw

@@ -1,0 +1,37 @@
+-- The call of a transaction.
+use Rattle.std.specs.Prelude.{ℕ, List, [], ◌∷◌}
+use Rattle.cwr_field.specs.Layout.{field}
+use Rattle.cwr_field.specs.Iswc.{iswc_of}
+use Rattle.cwr_record.specs.declared.works.WorkKind.{WorkKind}
+use Rattle.cwr_file.specs.RawParts.{RawParts}
+use Rattle.cwr_rules.specs.declared.record.Record.{Record}
+use Rattle.cwr_rules.specs.declared.totals.Totals.{Totals}
+use Rattle.cwr_rules.specs.CallValue.{CallValue}
+use Rattle.cwr_rules.specs.Records.{records_of}
+use Rattle.cwr_rules.specs.Totals.{control}
+use Rattle.cwr_rules.specs.Head.{number_in}
+use Rattle.cwr_rules.specs.Faults.{faults_of}
+
+-- performing, mechanical, synchronization
+abbrev pub three : Totals → List ℕ
+three totals = totals.performing ∷ totals.mechanical ∷ totals.synchronization ∷ []
+
+-- of a header's line and the records after it
+abbrev pub call_from : List ℕ → WorkKind → List ℕ → List Record → CallValue
+call_from submitter kind head records = record {
+  submitter = submitter;
+  kind = kind;
+  title = field head 20 60;
+  number = field head 82 14;
+  iswc = number_in (iswc_of (field head 96 11));
+  control = three (control records);
+  faults = faults_of kind head records;
+}
+
+-- of the lines of a transaction, the header's first
+abbrev pub call_in : List ℕ → WorkKind → List (List ℕ) → CallValue
+call_in submitter kind [] = call_from submitter kind [] []
+call_in submitter kind (head ∷ details) = call_from submitter kind head (records_of details)
+
+abbrev pub call_of : List ℕ → RawParts → CallValue
+call_of submitter transaction = call_in submitter transaction.kind transaction.lines

@@ -1,0 +1,39 @@
+-- What is added up over the records of a transaction.
+use Rattle.std.specs.Prelude.{ℕ, ◌≡◌, ◌<◌, ◌≤◌, ◌^◌, Bool, List, [], ◌∷◌, unwrap_or}
+use Rattle.std.specs.List.{list_any}
+use Rattle.std.specs.BTreeMap.{BTreeMap, get}
+use Rattle.std.specs.Ordering.{nat_cmp}
+use Rattle.cwr_rules.specs.declared.record.Record.{Record}
+use Rattle.cwr_rules.specs.declared.totals.Totals.{Totals}
+use Rattle.cwr_rules.specs.declared.sums.Sums.{Sums}
+use Rattle.cwr_rules.specs.Totals.{valued, shares_of, ownership, control, collection, is_over_somewhere}
+use Rattle.cwr_rules.specs.Rules.{is_writer}
+
+abbrev pub sums_of : List Record → Sums
+sums_of records = record { ownership = ownership records; control = control records; has_writer = list_any is_writer records }
+
+-- so small that a share can be added
+pub record AreSmall (t : Totals) : Type 0 where
+  pub performing : t.performing < 2 ^ 60
+  pub mechanical : t.mechanical < 2 ^ 60
+  pub synchronization : t.synchronization < 2 ^ 60
+
+abbrev pub AreSmallSums : Sums → Type 0
+AreSmallSums s = AreSmall s.ownership × AreSmall s.control
+
+-- each share of the record is at most the whole
+pub record IsCapped (r : Record) : Type 0 where
+  pub performing : valued (shares_of r).performing ≤ 10000
+  pub mechanical : valued (shares_of r).mechanical ≤ 10000
+  pub synchronization : valued (shares_of r).synchronization ≤ 10000
+
+abbrev pub AreCapped : List Record → Type 0
+AreCapped [] = Unit {0}
+AreCapped (r ∷ records) = IsCapped r × AreCapped records
+
+abbrev pub value_at : BTreeMap ℕ Totals → ℕ → Totals
+value_at map code = unwrap_or (get nat_cmp map code) (record { performing = 0; mechanical = 0; synchronization = 0 })
+
+pub record IsCollected (map : BTreeMap ℕ Totals) (over : Bool) (records : List Record) : Type 0 where
+  pub values : (code : ℕ) → value_at map code ≡ collection code records
+  pub over_is : over ≡ is_over_somewhere records

@@ -1,0 +1,54 @@
+-- The rules of a transaction as a whole, which its header's line and its records decide.
+use Rattle.std.specs.Prelude.{ℕ, Bool, true, false, not, ◌&&◌, ◌||◌, ◌==◌, nat_le, List, Option, Some, None, is_some}
+use Rattle.std.specs.List.{list_any}
+use Rattle.cwr_field.specs.Layout.{field, is_blank}
+use Rattle.cwr_field.specs.Calendar.{day_of, time_of}
+use Rattle.cwr_field.specs.Iswc.{iswc_of}
+use Rattle.cwr_field.specs.declared.codes.Iswc.{Iswc}
+use Rattle.cwr_field.specs.declared.codes.Iswc.TheVariants.{Blank, Valid, Wrong}
+use Rattle.cwr_record.specs.Layout.{is_no_day}
+use Rattle.cwr_rules.specs.declared.record.Record.{Record}
+use Rattle.cwr_rules.specs.Rules.{is_writer}
+
+-- the number of the ISWC, where there is one
+abbrev pub number_in : Iswc → Option ℕ
+number_in Blank = None
+number_in (Valid n) = Some n
+number_in Wrong = None
+
+abbrev pub is_wrong_code : Iswc → Bool
+is_wrong_code Blank = false
+is_wrong_code (Valid n) = false
+is_wrong_code Wrong = true
+
+-- J2: the title is blank
+abbrev pub has_no_title : List ℕ → Bool
+has_no_title head = is_blank (field head 20 60)
+
+-- J3: the submitter work number is blank
+abbrev pub has_no_number : List ℕ → Bool
+has_no_number head = is_blank (field head 82 14)
+
+-- J4: the ISWC is neither blank nor valid
+abbrev pub has_wrong_iswc : List ℕ → Bool
+has_wrong_iswc head = is_wrong_code (iswc_of (field head 96 11))
+
+-- the copyright date is blank, zeros or a day
+abbrev pub is_copyright_date : List ℕ → Bool
+is_copyright_date text = is_no_day text || is_some (day_of text)
+
+-- the duration is blank or a time
+abbrev pub is_duration : List ℕ → Bool
+is_duration text = is_blank text || is_some (time_of text)
+
+-- J5: the copyright date or the duration is wrong
+abbrev pub has_wrong_date : List ℕ → Bool
+has_wrong_date head = not (is_copyright_date (field head 107 8) && is_duration (field head 130 6))
+
+-- J10: there is no writer
+abbrev pub has_no_writer : List Record → Bool
+has_no_writer records = not (list_any is_writer records)
+
+-- J11, J12, J13: the ownership of a right is neither none nor the whole, with a tolerance of 0.06 per cent
+abbrev pub is_off : ℕ → Bool
+is_off total = not (total == 0) && not (nat_le 9994 total && nat_le total 10006)

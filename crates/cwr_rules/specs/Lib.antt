@@ -1,0 +1,15 @@
+pub mod Records
+pub mod Order
+pub mod Totals
+pub mod Place
+pub mod Rules
+pub mod Head
+pub mod Faults
+pub mod Holds
+pub mod CallValue
+pub mod Lawful
+pub mod Calls
+pub mod Position
+pub mod Parties
+pub mod Collected
+pub mod Summary

@@ -1,0 +1,15 @@
+-- What is kept of the records of a transaction.
+use Rattle.std.specs.Prelude.{ℕ, ◌≡◌, Bool, List}
+use Rattle.std.specs.BTreeMap.{BTreeMap}
+use Rattle.std.specs.BTreeSet.{BTreeSet}
+use Rattle.cwr_rules.specs.declared.record.Record.{Record}
+use Rattle.cwr_rules.specs.declared.totals.Totals.{Totals}
+use Rattle.cwr_rules.specs.declared.sums.Sums.{Sums}
+use Rattle.cwr_rules.specs.Rules.{publishers}
+use Rattle.cwr_rules.specs.Collected.{sums_of, IsCollected}
+use Rattle.cwr_rules.specs.Parties.{HoldsParties}
+
+pub record IsSummary (sums : Sums) (parties : BTreeSet (List ℕ)) (by_code : BTreeMap ℕ Totals) (is_over : Bool) (records : List Record) : Type 0 where
+  pub sums_are : sums ≡ sums_of records
+  pub holds : HoldsParties parties (publishers records)
+  pub collected : IsCollected by_code is_over records

@@ -1,0 +1,81 @@
+ghost use Rattle.std.specs.Prelude.{◌≡◌, ◌<◌, IsTrue, IfOk, length};
+ghost use Rattle.cwr_field.specs.Layout.{field};
+ghost use Rattle.cwr_field.specs.Iswc.{iswc_of};
+ghost use Rattle.cwr_rules.specs.Lawful.{is_clean, is_iswc};
+ghost use Rattle.cwr_rules.specs.Calls.{call_of};
+ghost use Rattle.cwr_rules.specs.Head.{number_in};
+ghost use Rattle.cwr_rules.specs.Faults.{faults_of};
+ghost use Rattle.cwr_rules.specs.Summary.{IsSummary};
+
+use crate::call::Call;
+use crate::reading::{parts, read_records};
+use crate::record::Record;
+use crate::record_faults::push_faults_of_records;
+use crate::summary::{Summary, summary_of};
+use crate::whole_faults::push_faults_of_whole;
+use cwr_field::{Iswc, Memory, cut, iswc};
+use cwr_file::{Fault, Faults, RawTransaction};
+use cwr_record::WorkKind;
+use std::alloc::Allocator;
+
+/// The number of an ISWC, `None` where it is blank or wrong.
+fn iswc_number(head: &[u8]) -> Option<u64>
+    ensures value { result ≡ number_in (iswc_of (field head.now 96 11)) }
+    ensures nine_digits { IsTrue (is_iswc result) }
+{
+    match iswc(cut(head, 96, 11)) {
+        Iswc::Valid(number) => Some(number),
+        Iswc::Blank | Iswc::Wrong => None,
+    }
+}
+
+/// All faults of a transaction, in order.
+fn faults_of<A: Allocator + Copy>(
+    alloc: A,
+    kind: WorkKind,
+    head: &[u8],
+    records: &[Record],
+    summary: &Summary<A>,
+) -> Result<Vec<Fault, A>, Memory>
+    requires few { length records.now < 99999999 }
+    requires summary { IsSummary summary.now.sums summary.now.parties.set summary.now.collected.by_code summary.now.collected.is_over records.now }
+    ensures { IfOk result (λ faults. faults.items ≡ faults_of kind head.now records.now) }
+{
+    let mut faults = Vec::new(alloc);
+    push_faults_of_whole(&mut faults, kind, head, summary)?;
+    push_faults_of_records(&mut faults, &summary.parties, records)?;
+    Ok(faults)
+}
+
+/// The call of a transaction: its parts, its control, and every fault of its rules.
+///
+/// It is judged whether or not it has faults. Memory is asked for its records and its faults alone.
+pub fn judge<A: Allocator + Copy>(
+    alloc: A,
+    transaction: &RawTransaction,
+    submitter: [u8; 11],
+) -> Result<Call<A>, Memory>
+    requires clean { IsTrue (is_clean submitter) }
+    ensures { IfOk result (λ call. call ≡ call_of submitter transaction.now) }
+{
+    let (head, details) = parts(transaction);
+    let kind = transaction.kind();
+    let records = read_records(alloc, details)?;
+    let summary = summary_of(alloc, &records)?;
+    let faults = faults_of(alloc, kind, head, &records, &summary)?;
+    let control = summary.sums.control;
+    let call = Call::of_lawful(
+        submitter,
+        kind,
+        cut(head, 20, 60).bytes(),
+        cut(head, 82, 14).bytes(),
+        iswc_number(head),
+        [
+            control.performing,
+            control.mechanical,
+            control.synchronization,
+        ],
+        Faults::new(faults),
+    );
+    Ok(call)
+}

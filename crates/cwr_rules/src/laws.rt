@@ -1,0 +1,41 @@
+//! What the definitions mean: the record order is that of the pattern, and the faults are all that hold, in order.
+
+ghost use Rattle.std.specs.Prelude.{◌≡◌, ◌↔◌, ◌∷◌, ℕ, true, List, reverse, IsSome, IsTrue};
+ghost use Rattle.cwr_file.specs.declared.transaction_fault.Fault.{Fault};
+ghost use Rattle.cwr_record.specs.declared.works.WorkKind.{WorkKind};
+ghost use Rattle.cwr_rules.specs.declared.record.Record.{Record};
+ghost use Rattle.cwr_rules.specs.Holds.{Holds, IsIn};
+ghost use Rattle.cwr_rules.specs.Lawful.{rises};
+ghost use Rattle.cwr_rules.specs.Place.{place_of};
+ghost use Rattle.cwr_rules.specs.Order.{IsPrefix, types};
+ghost use Rattle.cwr_field.specs.Layout.{field};
+ghost use Rattle.cwr_rules.specs.Records.{record_of};
+ghost use Rattle.cwr_rules.specs.Rules.{is_out_of_order, name_of};
+ghost use Rattle.cwr_rules.specs.Totals.{collection, is_over, is_over_somewhere};
+ghost use Rattle.cwr_rules.specs.Faults.{faults_of};
+
+/// The order stands after some records exactly where their types are a prefix of the pattern.
+pub fn order_is_prefix()
+    ensures { (before : List Record) → IsSome (place_of before) ↔ IsPrefix (types (reverse before)) }
+{}
+
+/// The order breaks at the record with which the types are no prefix any more, so at one record at the most.
+pub fn order_breaks_once()
+    ensures { (before : List Record) (r : Record) → (is_out_of_order before r ≡ true) ↔ (IsPrefix (types (reverse before)) × ¬ IsPrefix (types (reverse (r ∷ before)))) }
+{}
+
+/// The faults of a transaction rise strictly, and are exactly those that hold.
+pub fn faults_are_all()
+    ensures rises { (kind : WorkKind) (head : List ℕ) (records : List Record) → IsTrue (rises (faults_of kind head records)) }
+    ensures all { (kind : WorkKind) (head : List ℕ) (records : List Record) (f : Fault) → IsIn f (faults_of kind head records) ↔ Holds kind head records f }
+{}
+
+/// A collection total is too large exactly where it is so at some code, whatever codes the records name.
+pub fn territories_are_all()
+    ensures { (records : List Record) → (is_over_somewhere records ≡ true) ↔ ((code : ℕ) × (is_over (collection code records) ≡ true)) }
+{}
+
+/// The record type in a fault is the first three bytes of the record's line.
+pub fn types_are_names()
+    ensures { (line : List ℕ) → name_of (record_of line) ≡ field line 1 3 }
+{}

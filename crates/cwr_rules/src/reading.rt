@@ -1,0 +1,102 @@
+ghost use Rattle.std.specs.Prelude.{◌≡◌, ◌<◌, ◌∷◌, [], IsTrue, IfOk, length};
+ghost use Rattle.cwr_record.specs.Parties.{has_collection};
+ghost use Rattle.cwr_rules.specs.Records.{record_of, records_of, territory_at};
+ghost use Rattle.cwr_rules.specs.Lawful.{is_clean};
+
+use crate::record::{Record, Shares, Territory};
+use cwr_field::{Memory, cut};
+use cwr_file::{Lines, RawTransaction};
+use cwr_record::{
+    RecordType, collection_of, indicator_of, ownership_of, party_of, publisher_of, territory_of,
+    type_of,
+};
+use std::alloc::Allocator;
+
+/// Room for the records of most transactions, so that one request for memory serves them.
+const USUAL_RECORDS: usize = 16;
+
+/// The header's line of a transaction, and the lines of its details.
+pub(crate) fn parts<'a>(transaction: &RawTransaction<'a>) -> (&'a [u8], Lines<'a>)
+    ensures lines { transaction.now.lines ≡ result.0.now ∷ result.1 }
+    ensures clean { IsTrue (is_clean result.0.now) }
+    ensures few { length result.1 < 99999999 }
+{
+    let mut lines = transaction.lines();
+    match lines.next() {
+        Some(head) => (head, lines),
+        None => unreachable!(),
+    }
+}
+
+/// The records of lines, in order.
+pub(crate) fn read_records<A: Allocator>(alloc: A, lines: Lines) -> Result<Vec<Record, A>, Memory>
+    ensures { IfOk result (λ records. records.items ≡ records_of lines.entry) }
+{
+    let mut records = Vec::with_capacity(alloc, USUAL_RECORDS)?;
+    for line in lines {
+        records.push(record_of(line))?;
+    }
+    Ok(records)
+}
+
+/// What the rules read of a line.
+fn record_of(line: &[u8]) -> Record
+    ensures { result ≡ record_of line.now }
+{
+    match type_of(line) {
+        RecordType::Spu => Record::Spu(
+            party_of(line, RecordType::Spu),
+            Shares::of(ownership_of(line, RecordType::Spu)),
+        ),
+        RecordType::Opu => Record::Opu(
+            party_of(line, RecordType::Opu),
+            Shares::of(ownership_of(line, RecordType::Opu)),
+        ),
+        RecordType::Spt => Record::Spt(
+            party_of(line, RecordType::Spt),
+            Shares::of(collection_of(line, RecordType::Spt)),
+            Territory::of(line, RecordType::Spt),
+        ),
+        RecordType::Swr => Record::Swr(
+            party_of(line, RecordType::Swr),
+            Shares::of(ownership_of(line, RecordType::Swr)),
+        ),
+        RecordType::Owr => Record::Owr(Shares::of(ownership_of(line, RecordType::Owr))),
+        RecordType::Swt => Record::Swt(
+            party_of(line, RecordType::Swt),
+            Shares::of(collection_of(line, RecordType::Swt)),
+            Territory::of(line, RecordType::Swt),
+        ),
+        RecordType::Pwr => Record::Pwr(publisher_of(line)),
+        RecordType::Alt => Record::Alt,
+        RecordType::Xrf => Record::Xrf,
+        _ => Record::Carried(cut(line, 1, 3).bytes()),
+    }
+}
+
+impl Shares {
+    /// The shares of the performing, the mechanical and the synchronization right.
+    fn of(shares: [Option<u16>; 3]) -> Shares
+        ensures { result.performing ∷ result.mechanical ∷ result.synchronization ∷ [] ≡ shares }
+    {
+        let [performing, mechanical, synchronization] = shares;
+        Shares {
+            performing,
+            mechanical,
+            synchronization,
+        }
+    }
+}
+
+impl Territory {
+    /// The territory that a line of a type names.
+    fn of(line: &[u8], record_type: RecordType) -> Territory
+        requires { IsTrue (has_collection record_type) }
+        ensures { result ≡ territory_at record_type line.now }
+    {
+        Territory {
+            indicator: indicator_of(line, record_type),
+            code: territory_of(line, record_type),
+        }
+    }
+}

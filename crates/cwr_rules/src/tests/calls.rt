@@ -1,0 +1,121 @@
+use super::judged;
+use crate::{Call, Fault, Faults, WorkKind};
+use std::test::Fail;
+
+/// The parts of a call, with the ISWC, and with the control of a publisher and a writer.
+#[test]
+fn parts_of_a_call(rt: HostRuntime) -> Result<(), Fail> {
+    let call = judged(
+        rt.alloc(),
+        "\
+REV0000000000000000SONG ONE                                                      W1            T0345246801\n\
+SPU000000000000000101000000002PUBLISHER A                                   E                                      05000   10000   10000\n\
+SWR0000000000000002000000001DOE                                                                         CA                       05000   00000   00000\n\
+PWR0000000000000003000000002PUBLISHER A                                                              000000001",
+        WorkKind::Rev,
+    )?;
+    assert_eq!(rt; call.submitter(), *b"PB000000123");
+    assert_eq!(rt; call.kind(), WorkKind::Rev);
+    assert_eq!(rt;
+        call.title(),
+        *b"SONG ONE                                                    "
+    );
+    assert_eq!(rt; call.number(), *b"W1            ");
+    assert_eq!(rt; call.iswc(), Some(34524680));
+    assert_eq!(rt; call.control(), [10000, 10000, 10000]);
+    assert_eq!(rt; call.faults().len(), 0);
+    Ok(())
+}
+
+/// A fault of the whole has the type of the header.
+#[test]
+fn faults_of_a_revision(rt: HostRuntime) -> Result<(), Fail> {
+    let call = judged(rt.alloc(), "REV0000000000000000", WorkKind::Rev)?;
+    assert_eq!(rt; call.iswc(), None);
+    assert_eq!(rt; call.faults().len(), 3);
+    for fault in call.faults() {
+        assert_eq!(rt; fault.sequence, 0);
+        assert_eq!(rt; fault.rtype, *b"REV");
+    }
+    Ok(())
+}
+
+/// Whether there is a call of a number, an ISWC, controls and faults.
+fn is_call(number: [u8; 14], iswc: Option<u64>, control: [u64; 3], faults: Vec<Fault>) -> bool {
+    let faults = Faults::new(faults);
+    Call::of(
+        *b"PB000000123",
+        WorkKind::Nwr,
+        [b' '; 60],
+        number,
+        iswc,
+        control,
+        faults,
+    )
+    .is_some()
+}
+
+fn fault(sequence: u32, number: u8, rtype: [u8; 3]) -> Fault {
+    Fault {
+        sequence,
+        number,
+        rtype,
+    }
+}
+
+#[test]
+fn calls_of_parts(rt: HostRuntime) -> Result<(), Fail> {
+    let number = *b"W1            ";
+    assert!(rt; is_call(number, None, [10006, 0, 10006], Vec::new(rt.alloc())));
+    assert!(rt; !is_call(number, None, [10006, 0, 10007], Vec::new(rt.alloc())));
+    assert!(rt; is_call(number, Some(999999999), [0, 0, 0], Vec::new(rt.alloc())));
+    assert!(rt; !is_call(number, Some(1000000000), [0, 0, 0], Vec::new(rt.alloc())));
+    assert!(rt; !is_call(*b"W1           \x1f", None, [0, 0, 0], Vec::new(rt.alloc())));
+    Ok(())
+}
+
+#[test]
+fn calls_with_faults(rt: HostRuntime) -> Result<(), Fail> {
+    let number = *b"W1            ";
+    for (control, is_right) in [(10007, true), (999999990000, true), (999999990001, false)] {
+        let faults = [fault(1, 6, *b"SWR")].to_vec(rt.alloc())?;
+        assert_eq!(rt; is_call(number, None, [0, control, 0], faults), is_right);
+    }
+    for (first, second, is_right) in [
+        (fault(0, 2, *b"NWR"), fault(0, 3, *b"NWR"), true),
+        (fault(0, 15, *b"NWR"), fault(99999999, 1, *b"SWR"), true),
+        (fault(0, 2, *b"NWR"), fault(0, 2, *b"NWR"), false),
+        (fault(2, 1, *b"SWR"), fault(1, 6, *b"SWR"), false),
+        (fault(0, 2, *b"NWR"), fault(100000000, 1, *b"SWR"), false),
+        (fault(0, 0, *b"NWR"), fault(0, 1, *b"NWR"), false),
+        (fault(0, 15, *b"NWR"), fault(0, 16, *b"NWR"), false),
+        (fault(0, 2, *b"NWR"), fault(1, 6, *b"SwR"), false),
+    ] {
+        let faults = [first, second].to_vec(rt.alloc())?;
+        assert_eq!(rt; is_call(number, None, [0, 0, 0], faults), is_right);
+    }
+    Ok(())
+}
+
+#[test]
+fn texts_of_calls(rt: HostRuntime) {
+    for (submitter, first, is_right) in [
+        (*b"PB000000123", b' ', true),
+        (*b"PB00000012\n", b' ', false),
+        (*b"PB000000123", 31, false),
+    ] {
+        let mut title = [b' '; 60];
+        title[0] = first;
+        let faults = Faults::new(Vec::new(rt.alloc()));
+        let call = Call::of(
+            submitter,
+            WorkKind::Nwr,
+            title,
+            [b' '; 14],
+            None,
+            [0, 0, 0],
+            faults,
+        );
+        assert_eq!(rt; call.is_some(), is_right);
+    }
+}

@@ -1,0 +1,64 @@
+ghost use Rattle.std.specs.Prelude.{◌≡◌, ◌+◌, ◌<◌, ◌||◌};
+ghost use Rattle.cwr_rules.specs.Totals.{valued, is_over, included_in};
+ghost use Rattle.cwr_rules.specs.Collected.{AreSmall};
+
+use crate::record::{Shares, Territory};
+
+/// Shares of the three rights, added up, in hundredths of one per cent.
+#[derive(Clone, Copy)]
+pub(crate) struct Totals {
+    pub(crate) performing: u64,
+    pub(crate) mechanical: u64,
+    pub(crate) synchronization: u64,
+}
+
+/// A share that is not valid counts 0.
+fn valued(share: Option<u16>) -> u64
+    ensures value { result ≡ valued share }
+    ensures small { result < 65536 }
+{
+    match share {
+        None => 0,
+        Some(share) => share as u64,
+    }
+}
+
+impl Totals {
+    pub(crate) const NONE: Totals = Totals {
+        performing: 0,
+        mechanical: 0,
+        synchronization: 0,
+    };
+
+    /// Adds the shares of a record.
+    pub(crate) fn add(&mut self, shares: Shares)
+        requires { AreSmall self.old }
+        ensures performing { self.new.performing ≡ self.old.performing + valued shares.performing }
+        ensures mechanical { self.new.mechanical ≡ self.old.mechanical + valued shares.mechanical }
+        ensures synchronization { self.new.synchronization ≡ self.old.synchronization + valued shares.synchronization }
+    {
+        self.performing += valued(shares.performing);
+        self.mechanical += valued(shares.mechanical);
+        self.synchronization += valued(shares.synchronization);
+    }
+
+    /// Whether some right is above the whole by more than the tolerance, or it was so before.
+    pub(crate) fn is_over_or(&self, before: bool) -> bool
+        ensures { result ≡ (is_over self.now || before) }
+    {
+        self.performing > 10006 || self.mechanical > 10006 || self.synchronization > 10006 || before
+    }
+}
+
+impl Territory {
+    /// The code, of a territory that is included.
+    pub(crate) fn included(&self) -> Option<u16>
+        ensures { result ≡ included_in self.now }
+    {
+        if self.indicator == b'I' {
+            self.code
+        } else {
+            None
+        }
+    }
+}

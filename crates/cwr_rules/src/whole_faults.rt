@@ -1,0 +1,88 @@
+ghost use Rattle.std.specs.Prelude.{◌≡◌, ◌++◌, List, OnOk};
+ghost use Rattle.cwr_field.specs.Layout.{field};
+ghost use Rattle.cwr_record.specs.Kinds.{work_kind_code};
+ghost use Rattle.cwr_rules.specs.declared.record.Record.{Record};
+ghost use Rattle.cwr_rules.specs.Head.{has_wrong_iswc, has_wrong_date, is_copyright_date, is_duration, is_off};
+ghost use Rattle.cwr_rules.specs.Faults.{all_found, head_rules};
+ghost use Rattle.cwr_rules.specs.Summary.{IsSummary};
+
+use crate::record_faults::push_found;
+use crate::summary::Summary;
+use cwr_field::{Iswc, Memory, cut, date, is_blank, iswc, time};
+use cwr_file::Fault;
+use cwr_record::WorkKind;
+use std::alloc::Allocator;
+
+/// Whether the ISWC is neither blank nor valid (J4).
+fn has_wrong_iswc(head: &[u8]) -> bool
+    ensures { result ≡ has_wrong_iswc head.now }
+{
+    match iswc(cut(head, 96, 11)) {
+        Iswc::Blank | Iswc::Valid(_) => false,
+        Iswc::Wrong => true,
+    }
+}
+
+/// Whether the copyright date is blank, zeros or a day.
+fn is_copyright_date(head: &[u8]) -> bool
+    ensures { result ≡ is_copyright_date (field head.now 107 8) }
+{
+    is_blank(cut(head, 107, 8))
+        || cut(head, 107, 8).bytes::<8>() == *b"00000000"
+        || date(cut(head, 107, 8)).is_some()
+}
+
+/// Whether the duration is blank or a time.
+fn is_duration(head: &[u8]) -> bool
+    ensures { result ≡ is_duration (field head.now 130 6) }
+{
+    is_blank(cut(head, 130, 6)) || time(cut(head, 130, 6)).is_some()
+}
+
+/// Whether the copyright date or the duration is wrong (J5).
+fn has_wrong_date(head: &[u8]) -> bool
+    ensures { result ≡ has_wrong_date head.now }
+{
+    !(is_copyright_date(head) && is_duration(head))
+}
+
+/// Whether an ownership total is neither 0 nor the whole, with a tolerance of 0.06 per cent (J11, J12, J13).
+fn is_off(total: u64) -> bool
+    ensures { result ≡ is_off total }
+{
+    total != 0 && !(9994 <= total && total <= 10006)
+}
+
+/// The record type of a transaction's header.
+fn header_name(kind: WorkKind) -> [u8; 3]
+    ensures { result ≡ work_kind_code kind }
+{
+    match kind {
+        WorkKind::Nwr => *b"NWR",
+        WorkKind::Rev => *b"REV",
+    }
+}
+
+/// Appends the faults of the transaction as a whole.
+pub(crate) fn push_faults_of_whole<A: Allocator + Copy>(
+    faults: &mut Vec<Fault, A>,
+    kind: WorkKind,
+    head: &[u8],
+    summary: &Summary<A>,
+) -> Result<(), Memory>
+    ensures { OnOk result ((records : List Record) → IsSummary summary.now.sums summary.now.parties.set summary.now.collected.by_code summary.now.collected.is_over records
+        → faults.new.items ≡ faults.old.items ++ all_found 0 (work_kind_code kind) (head_rules head.now records)) }
+{
+    let rtype = header_name(kind);
+    let ownership = summary.sums.ownership;
+    push_found(faults, 0, rtype, 2, is_blank(cut(head, 20, 60)))?;
+    push_found(faults, 0, rtype, 3, is_blank(cut(head, 82, 14)))?;
+    push_found(faults, 0, rtype, 4, has_wrong_iswc(head))?;
+    push_found(faults, 0, rtype, 5, has_wrong_date(head))?;
+    push_found(faults, 0, rtype, 10, !summary.sums.has_writer)?;
+    push_found(faults, 0, rtype, 11, is_off(ownership.performing))?;
+    push_found(faults, 0, rtype, 12, is_off(ownership.mechanical))?;
+    push_found(faults, 0, rtype, 13, is_off(ownership.synchronization))?;
+    push_found(faults, 0, rtype, 15, summary.collected.is_over)?;
+    Ok(())
+}
