@@ -1,0 +1,105 @@
+-- The lines of a text, by the place of its first LF.
+use Rattle.std.proofs.Common.{◌≡◌, ◌∙◌, ℕ, zero, suc, ◌+◌, ◌<◌, ◌≤◌, eqb, ltb, Bool, true, false, cond, List, [], ◌∷◌, ◌++◌, length, take, drop, get_or, Option, Some, None, arith, ap, sym, subst, refl, append_assoc, inl, inr}
+use Rattle.std.specs.Prelude.{◌||◌, ◌==◌, ◌⊎◌, codes, if◌then◌else◌}
+use Rattle.std.specs.List.{list_any, position, position_or_len}
+use Rattle.std.proofs.lemmas.List.{take_all, drop_more, take-append-drop, get_or-take, length-take, append_cancel_right}
+use Rattle.std.proofs.lemmas.List.Folds.{list_any_none}
+use Rattle.std.proofs.lemmas.List.Elements.{All-from_get_or}
+use Rattle.std.proofs.lemmas.List.Sums.{fails_before_first, passes_at_first}
+use Rattle.std.proofs.lemmas.Bool.Decides.{nat_tests}
+use Rattle.work_registry.specs.RegisterLine.{Column, at, number, line_of, StandsFor}
+use Rattle.work_registry.specs.Register.{count_line}
+use Rattle.work_registry.specs.RegisterFaults.{in_front, lines, has_end}
+use Rattle.work_registry.proofs.RegisterTables.{spelled, stands}
+
+either : (a b : Bool) → (a || b) ≡ false → (a ≡ false) × (b ≡ false)
+either true b h = absurd cc
+either false b h = (refl, h)
+
+-- a line that an LF ends
+pub lines_first : (front rest : List ℕ) → has_end front ≡ false → lines (front ++ 10 ∷ rest) ≡ (front ++ 10 ∷ []) ∷ lines rest
+lines_first [] rest h = refl
+lines_first (b ∷ front) rest h =
+    let p = either (b == 10) (has_end front) h in
+    let more = lines_first front rest p.1 in
+    ap (λ (t : Bool). if t then (10 ∷ []) ∷ lines (front ++ 10 ∷ rest) else in_front b (lines (front ++ 10 ∷ rest))) p.0 ∙ ap (in_front b) more
+
+-- a last line that lacks its LF
+pub lines_last : (b : ℕ) (text : List ℕ) → has_end (b ∷ text) ≡ false → lines (b ∷ text) ≡ (b ∷ text) ∷ []
+lines_last b [] h =
+    let p = either (b == 10) false h in
+    ap (λ (t : Bool). if t then (10 ∷ []) ∷ [] else in_front b []) p.0
+lines_last b (a ∷ text) h =
+    let p = either (b == 10) (has_end (a ∷ text)) h in
+    ap (λ (t : Bool). if t then (10 ∷ []) ∷ lines (a ∷ text) else in_front b (lines (a ∷ text))) p.0 ∙ ap (in_front b) (lines_last a text p.1)
+
+abbrev is_end : ℕ → Bool
+is_end b = b == 10
+
+-- an index that `position` finds is the first place, and lies inside
+found : (xs : List ℕ) (i : ℕ) → Some i ≡ position is_end xs → (i ≡ position_or_len is_end xs) × (i < length xs)
+found xs i e = by (ltb (position_or_len is_end xs) (length xs)) refl e
+  where
+    by : (b : Bool) → ltb (position_or_len is_end xs) (length xs) ≡ b → Some i ≡ cond b (Some (position_or_len is_end xs)) None → (i ≡ position_or_len is_end xs) × (i < length xs)
+    by true inside h = let same : i ≡ position_or_len is_end xs = cc in (same, rw same (grind (arith, nat_tests)))
+    by false inside h = absurd (let none : Some i ≡ None = h in cc)
+
+-- where it finds none, the first place is the end
+missing : (xs : List ℕ) → None ≡ position is_end xs → length xs ≤ position_or_len is_end xs
+missing xs e = by (ltb (position_or_len is_end xs) (length xs)) refl e
+  where
+    by : (b : Bool) → ltb (position_or_len is_end xs) (length xs) ≡ b → None ≡ cond b (Some (position_or_len is_end xs)) None → length xs ≤ position_or_len is_end xs
+    by true inside h = absurd (let some : None ≡ Some (position_or_len is_end xs) = h in cc)
+    by false past h = grind (arith, nat_tests)
+
+no_end : (xs : List ℕ) (i : ℕ) → i ≤ position_or_len is_end xs → has_end (take i xs) ≡ false
+no_end xs i le =
+    list_any_none is_end (take i xs) (All-from_get_or (λ b. is_end b ≡ false) (take i xs) 0
+    (λ k lt. let near : k < i = omega (arith, lt, length-take i xs) in rw (get_or-take i xs k 0 near) (fails_before_first is_end xs k 0 (omega (arith, near, le)))))
+
+is_ten : (b : ℕ) → (b == 10) ≡ true → b ≡ 10
+is_ten b h = grind (arith, nat_tests)
+
+-- the text before the first LF, and that after it
+cut_at : (text : List ℕ) (i : ℕ) → Some i ≡ position is_end text → text ≡ take i text ++ 10 ∷ drop (i + 1) text
+cut_at text i e =
+    let f = found text i e in
+    let lt = f.1 in
+    let at : get_or text i 0 ≡ 10 = is_ten (get_or text i 0) (ap (λ (n : ℕ). is_end (get_or text n 0)) f.0 ∙ passes_at_first is_end text 0 (let same = f.0 in omega (arith, lt, same))) in
+    sym (take-append-drop i text) ∙ ap (λ (xs : List ℕ). take i text ++ xs) (drop_more text i 0 lt ∙ ap (λ (b : ℕ). b ∷ drop (i + 1) text) at)
+
+pub cut_lines : (text line rest : List ℕ) (i : ℕ) → Some i ≡ position is_end text → line ≡ take i text → rest ≡ drop (i + 1) text
+    → (text ≡ line ++ 10 ∷ rest) × (lines text ≡ (line ++ 10 ∷ []) ∷ lines rest)
+cut_lines text line rest i e p q =
+    let split : text ≡ line ++ 10 ∷ rest = cut_at text i e ∙ ap (λ (xs : List ℕ). xs ++ 10 ∷ drop (i + 1) text) (sym p) ∙ ap (λ (xs : List ℕ). line ++ 10 ∷ xs) (sym q) in
+    let first = (found text i e).0 in
+    (split, ap lines split ∙ lines_first line rest (ap has_end p ∙ no_end text i (omega (arith, first))))
+
+pub unended : (text : List ℕ) → None ≡ position is_end text → has_end text ≡ false
+unended text e =
+    let past = missing text e in
+    ap has_end (sym (take_all (length text) text (omega arith))) ∙ no_end text (length text) past
+
+pub unended_lines : (text : List ℕ) → None ≡ position is_end text → (text ≡ []) ⊎ (lines text ≡ text ∷ [])
+unended_lines [] e = inl refl
+unended_lines (b ∷ text) e = inr (lines_last b text (unended (b ∷ text) e))
+
+-- ---- the first line of a register
+
+abbrev count_columns : List (Column ℕ)
+count_columns = at 1 3 (λ n. codes "REG") ∷ number 4 8 (λ n. n) ∷ []
+
+pub count_says : (line : List ℕ) (n : ℕ) → length line ≡ 11 → StandsFor count_columns line n → line ++ 10 ∷ [] ≡ count_line n
+count_says line n len st =
+    ap (λ (xs : List ℕ). xs ++ 10 ∷ []) (sym (take_all 11 line (omega (arith, len))) ∙ sym (spelled count_columns line n 1 (omega arith) refl (omega (arith, len)) st))
+
+pub count_stands : (line : List ℕ) (n : ℕ) → line ++ 10 ∷ [] ≡ count_line n → StandsFor count_columns line n
+count_stands line n e =
+    let same : line ≡ line_of count_columns n = append_cancel_right line (line_of count_columns n) (10 ∷ []) e in
+    let P : List ℕ → Type 0 = λ xs. StandsFor count_columns xs n in
+    subst P (sym same) (stands count_columns n refl (refl, (refl, tt)))
+
+pub length-count : (line : List ℕ) (n : ℕ) → line ++ 10 ∷ [] ≡ count_line n → length line ≡ 11
+length-count line n e =
+    let same : line ≡ line_of count_columns n = append_cancel_right line (line_of count_columns n) (10 ∷ []) e in
+    ap length same

@@ -1,0 +1,13 @@
+use Rattle.std.proofs.Common.{arith, ◌≡◌, ◌<◌, ap, length}
+use Rattle.work_registry.specs.Rows.{rows_of}
+use Rattle.work_registry.specs.Numbers.{most_entries}
+use Rattle.work_registry.specs.Indexes.{decision_on}
+use Rattle.work_registry.proofs.SoundHistories.{reply-within}
+use Rattle.work_registry.proofs.book.Book.apply.Goals as goal
+
+pub returns-clause-within : goal.returns-clause-within
+returns-clause-within g c =
+    let h = c.self.inside.history.items in
+    let is : c.decide-decision.result ≡ decision_on (rows_of h) c.args.call = rw (← c.self.view_is) at c.decide-decision.ensures in
+    let lt : length h < most_entries = omega (arith, c.if-len-self.false, c.len.ensures, c.self.invariant.0.most, c.self.inside.history.ok.0) in
+    rw (ap (λ d. d.reply) is) (reply-within h c.args.call c.self.invariant.0.lawful lt)

@@ -1,0 +1,18 @@
+use Rattle.std.proofs.Common.{arith}
+use Rattle.work_registry.specs.Rows.{rows_of}
+use Rattle.work_registry.proofs.NumberedReplies.{numbered}
+use Rattle.work_registry.proofs.SoundHistories.{sound, named_once}
+use Rattle.work_registry.proofs.book.Book.history.Goals as goal
+
+pub returns-clause-shared : goal.returns-clause-shared
+returns-clause-shared g c = rw (← c.self.view_is) (sound c.self.inside.history.items c.self.invariant.0.lawful).small
+
+pub returns-clause-named_once : goal.returns-clause-named_once
+returns-clause-named_once g c = rw (← c.self.view_is) (named_once (rows_of c.self.inside.history.items) (sound c.self.inside.history.items c.self.invariant.0.lawful))
+
+pub returns-clause-numbered : goal.returns-clause-numbered
+returns-clause-numbered g c =
+    let book = c.self.invariant.0 in
+    let fits = book.fits in
+    let most = book.most in
+    rw (← c.self.view_is) (numbered c.self.inside.history.items book.lawful (omega (arith, fits, most)))

@@ -1,0 +1,5 @@
+use Rattle.work_registry.proofs.RegisterFits.{entries_fit}
+use Rattle.work_registry.proofs.book.Book.write_register.Goals as goal
+
+pub register_of-requires-clause-fit : goal.register_of-requires-clause-fit
+register_of-requires-clause-fit g c = rw c.history.ensures.entries (entries_fit _ c.history.ensures.numbered)

@@ -1,0 +1,16 @@
+pub mod EntryValue
+pub mod BookValue
+pub mod Refusals
+pub mod Rows
+pub mod Works
+pub mod Claims
+pub mod Reply
+pub mod Numbers
+pub mod History
+pub mod Replay
+pub mod Indexes
+pub mod RegisterLine
+pub mod RegisterPieces
+pub mod Register
+pub mod RegisterFaults
+pub mod RegisterReading

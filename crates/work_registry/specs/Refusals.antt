@@ -1,0 +1,21 @@
+-- A call that was not taken, and why.
+use Rattle.std.specs.Prelude.{Bool, true, false}
+use Rattle.std.specs.declared.result.Result.{Result}
+use Rattle.std.specs.declared.result.Result.TheVariants.{Ok, Err}
+use Rattle.cwr_rules.specs.CallValue.{CallValue}
+use Rattle.work_registry.specs.declared.reply.Reply.{Reply}
+use Rattle.work_registry.specs.declared.refused.WhyRefused.{WhyRefused}
+use Rattle.work_registry.specs.declared.refused.WhyRefused.TheVariants.{Full, Memory}
+
+pub record RefusedValue : Type 0 where
+  pub call : CallValue
+  pub why : WhyRefused
+
+abbrev pub is_for_limit : WhyRefused → Bool
+is_for_limit Full = true
+is_for_limit Memory = false
+
+-- whether a book answered that it is full
+abbrev pub is_full : Result Reply RefusedValue → Bool
+is_full (Ok reply) = false
+is_full (Err refused) = is_for_limit refused.why

@@ -1,0 +1,72 @@
+-- The text of a register: a line with the number of entries, and a line for each entry. An LF ends each line.
+use Rattle.std.specs.Prelude.{◌≡◌, ℕ, ◌+◌, ◌<◌, ◌^◌, List, [], ◌∷◌, ◌++◌, length, codes, IsTrue}
+use Rattle.cwr_field.specs.Number.{number_text}
+use Rattle.cwr_file.specs.declared.ack_item.Status.{Status}
+use Rattle.cwr_file.specs.declared.ack_item.Status.TheVariants as status
+use Rattle.cwr_rules.specs.CallValue.{CallValue}
+use Rattle.work_registry.specs.declared.reply.Reply.{Reply}
+use Rattle.work_registry.specs.declared.reply.Reply.TheVariants.{Accepted, Duplicate, Conflict, Rejected}
+use Rattle.work_registry.specs.EntryValue.{EntryValue}
+use Rattle.work_registry.specs.History.{IsHistory}
+use Rattle.work_registry.specs.Replay.{is_opening}
+use Rattle.work_registry.specs.RegisterLine.{EntryLine, line_text}
+
+-- what a register tells of a reply
+
+abbrev pub status_of : Reply → Status
+status_of (Accepted work version) = status.Accepted
+status_of (Duplicate work) = status.Duplicate
+status_of (Conflict work) = status.Conflict
+status_of Rejected = status.Rejected
+
+-- the work, or 0 where there is none
+abbrev pub work_of : Reply → ℕ
+work_of (Accepted work version) = work
+work_of (Duplicate work) = work
+work_of (Conflict work) = work
+work_of Rejected = 0
+
+-- the version of an accepted claim, else 0
+abbrev pub version_of : Reply → ℕ
+version_of (Accepted work version) = version
+version_of (Duplicate work) = 0
+version_of (Conflict work) = 0
+version_of Rejected = 0
+
+-- what the line of the entry with this index says
+abbrev pub line_for : ℕ → CallValue → Reply → EntryLine
+line_for index call reply = record {
+  index = index;
+  call = call;
+  status = status_of reply;
+  work = work_of reply;
+  version = version_of reply;
+}
+
+abbrev pub entry_line : ℕ → CallValue → Reply → List ℕ
+entry_line index call reply = line_text (line_for index call reply)
+
+-- the lines of entries, the first of them with this index
+abbrev pub entry_lines : ℕ → List EntryValue → List ℕ
+entry_lines index [] = []
+entry_lines index (e ∷ es) = entry_line index e.call e.reply ++ entry_lines (index + 1) es
+
+-- the first line, with the number of entries
+abbrev pub count_line : ℕ → List ℕ
+count_line count = codes "REG" ++ number_text 8 count ++ 10 ∷ []
+
+abbrev pub register_text : List EntryValue → List ℕ
+register_text entries = count_line (length entries) ++ entry_lines 1 entries
+
+-- what a register can tell: a work and a version of eight digits
+pub record FitsEntry (e : EntryValue) : Type 0 where
+  pub work : work_of e.reply < 10 ^ 8
+  pub version : version_of e.reply < 10 ^ 8
+
+-- the text is the register of a history of one registry with so many entries, all of the opening
+pub record IsAudited (text : List ℕ) (count : ℕ) : Type 0 where
+  pub history : List EntryValue
+  pub register : text ≡ register_text history
+  pub lawful : IsHistory history
+  pub opening : IsTrue (is_opening history)
+  pub entries : length history ≡ count

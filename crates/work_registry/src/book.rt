@@ -1,0 +1,212 @@
+ghost use Rattle.std.specs.Prelude.{◌≡◌, ◌≤◌, ◌<◌, ◌↔◌, ◌∷◌, [], ◌++◌, true, length, vec_len, vec_capacity, IfOk, IfErr, OnOk, OnErr};
+ghost use Rattle.std.specs.List.{AllByRecursion};
+ghost use Rattle.work_registry.specs.Rows.{rows_of};
+ghost use Rattle.work_registry.specs.Works.{work_of_iswc, control_of};
+ghost use Rattle.work_registry.specs.Claims.{claim_of};
+ghost use Rattle.work_registry.specs.Reply.{reply_to};
+ghost use Rattle.work_registry.specs.Numbers.{most_entries, IsNumbered};
+ghost use Rattle.work_registry.specs.History.{IsHistory, IsShared, IsNamedOnce};
+ghost use Rattle.work_registry.specs.Replay.{is_opening};
+ghost use Rattle.work_registry.specs.Refusals.{is_full};
+ghost use Rattle.work_registry.specs.Indexes.{decision_on};
+ghost use Rattle.work_registry.specs.declared.refused.WhyRefused.TheVariants.{Memory};
+
+use crate::claim::Claim;
+use crate::entry::Entry;
+use crate::indexes::{Decision, Indexes};
+use crate::key::Key;
+use crate::refused::{Refused, WhyRefused};
+use crate::reply::Reply;
+use cwr_rules::Call;
+use indexmap::IndexMap;
+use std::alloc::{Allocator, Global};
+use std::marker::Model;
+
+mod deciding;
+
+/// A registry of works: every call that it answered, in order, with its reply.
+///
+/// It holds at most as many entries as its limit, which is from 1 to 99,999,999. A contract sees the record of its
+/// history and its limit.
+#[derive(Drop)]
+pub struct Book<A: Allocator + Copy + Drop = Global> {
+    history: Vec<Entry<A>, A>,
+    kept: Indexes<A>,
+    limit: u32,
+}
+
+impl<A: Allocator + Copy + Drop> Model for Book<A> {
+    ghost use Rattle.std.specs.Prelude.{nat_eq};
+    ghost use Rattle.indexmap.specs.IndexMap.{get};
+    ghost use Rattle.work_registry.specs.BookValue.{BookValue};
+    ghost use Rattle.work_registry.specs.Rows.{rows_of, same_key};
+    ghost use Rattle.work_registry.specs.Indexes.{AreIndexes, IsBook};
+
+    ghost Value = { BookValue };
+
+    ghost view = { λ b. record { history = b.history.items; limit = b.limit } };
+
+    ghost invariant = { λ b. IsBook b.history.items b.limit
+        × AreIndexes (rows_of b.history.items) (get same_key b.kept.claims) (get nat_eq b.kept.iswcs) b.kept.works.items };
+}
+
+impl<A: Allocator + Copy + Drop> Book<A> {
+    /// A book without entries. No memory is asked for.
+    pub fn new(alloc: A, limit: u32) -> Book<A>
+        requires least { 1 ≤ limit }
+        requires most { limit ≤ most_entries }
+        ensures { result ≡ record { history = []; limit = limit } }
+    {
+        Book {
+            history: Vec::new(alloc),
+            kept: Indexes {
+                claims: IndexMap::new(alloc),
+                iswcs: IndexMap::new(alloc),
+                works: Vec::new(alloc),
+            },
+            limit,
+        }
+    }
+
+    /// Answers a call that a session hands in, and keeps it with its reply as the last entry.
+    ///
+    /// Two refusals hand the call back and change nothing: `Full` exactly where the history holds as many entries as
+    /// the limit, which is tested first, and `Memory`, with which the system refused room for the entry. Sessions are
+    /// numbered from 0, the opening, to 63.
+    pub fn apply(&mut self, session: u32, call: Call<A>) -> Result<Reply, Refused<A>>
+        requires { session ≤ 63 }
+        ensures reply { IfOk result (λ r. r ≡ reply_to (rows_of self.old.history) call) }
+        ensures entry { IfOk result (λ r. self.new.history ≡ self.old.history ++ record { session = session; call = call; reply = r } ∷ []) }
+        ensures limit { self.new.limit ≡ self.old.limit }
+        ensures unchanged { OnErr result (self.new ≡ self.old) }
+        ensures given_back { IfErr result (λ e. e.call ≡ call) }
+        ensures full { (length self.old.history ≡ self.old.limit) ↔ (is_full result ≡ true) }
+        ensures within { IfOk result IsNumbered }
+    {
+        if self.history.len() >= self.limit as usize {
+            return Err(Refused {
+                call,
+                why: WhyRefused::Full,
+            });
+        }
+        let decision = self.decide(&call);
+        self.append(session, call, decision)?;
+        Ok(decision.reply)
+    }
+
+    /// Adds an entry: a call with what is decided on it. All room is made before anything is written.
+    fn append(&mut self, session: u32, call: Call<A>, decision: Decision) -> Result<(), Refused<A>>
+        requires decided { decision ≡ decision_on (rows_of self.old.history) call }
+        requires not_full { length self.old.history < self.old.limit }
+        ensures entry { OnOk result (self.new.history ≡ self.old.history ++ record { session = session; call = call; reply = decision.reply } ∷ []) }
+        ensures limit { self.new.limit ≡ self.old.limit }
+        ensures unchanged { OnErr result (self.new ≡ self.old) }
+        ensures given_back { IfErr result (λ e. e ≡ record { call = call; why = Memory }) }
+    {
+        if self.history.reserve(1).is_err() {
+            return Err(Refused {
+                call,
+                why: WhyRefused::Memory,
+            });
+        }
+        if self.kept.make_room().is_err() {
+            return Err(Refused {
+                call,
+                why: WhyRefused::Memory,
+            });
+        }
+        self.kept
+            .store(deciding::key(&call), call.iswc(), decision.change);
+        store_entry(
+            &mut self.history,
+            Entry {
+                session,
+                call,
+                reply: decision.reply,
+            },
+        );
+        Ok(())
+    }
+
+    /// All entries, the first one first.
+    pub fn history(&self) -> &[Entry<A>]
+        ensures entries { result.now ≡ self.now.history }
+        ensures lawful { IsHistory self.now.history }
+        ensures numbered { AllByRecursion (λ e. IsNumbered e.reply) self.now.history }
+        ensures shared { IsShared (rows_of self.now.history) }
+        ensures named_once { IsNamedOnce (rows_of self.now.history) }
+        ensures fits { length self.now.history ≤ self.now.limit }
+        ensures least { 1 ≤ self.now.limit }
+        ensures most { self.now.limit ≤ most_entries }
+    {
+        &self.history
+    }
+
+    /// How many entries there are.
+    pub fn len(&self) -> usize
+        ensures value { result ≡ length self.now.history }
+        ensures fits { length self.now.history ≤ self.now.limit }
+    {
+        self.history.len()
+    }
+
+    /// How many entries there can be.
+    pub fn limit(&self) -> u32
+        ensures value { result ≡ self.now.limit }
+        ensures least { 1 ≤ result }
+        ensures most { result ≤ most_entries }
+    {
+        self.limit
+    }
+
+    /// Whether every entry is of the opening, session 0.
+    pub fn is_opening(&self) -> bool
+        ensures { result ≡ is_opening self.now.history }
+    {
+        self.history.iter().all(|entry| entry.session == 0)
+    }
+
+    /// What is registered under a submitter's number of a work; `None` where no call under it was accepted.
+    ///
+    /// The submitter is sender type and sender id, bytes 4 to 14 of HDR, and the number bytes 82 to 95 of NWR or REV.
+    pub fn claim(&self, submitter: &[u8; 11], number: &[u8; 14]) -> Option<Claim>
+        ensures { result ≡ claim_of (record { submitter = submitter.now; number = number.now }) (rows_of self.now.history) }
+    {
+        self.claim_under(&Key {
+            submitter: *submitter,
+            number: *number,
+        })
+    }
+
+    /// The claim under a key.
+    fn claim_under(&self, key: &Key) -> Option<Claim>
+        ensures { result ≡ claim_of key.now (rows_of self.now.history) }
+    {
+        self.kept.claims.get(key).copied()
+    }
+
+    /// The work that has an ISWC, given as the number of its nine digits.
+    pub fn work_of_iswc(&self, iswc: u64) -> Option<u32>
+        ensures { result ≡ work_of_iswc iswc (rows_of self.now.history) }
+    {
+        self.kept.iswcs.get(&iswc).copied()
+    }
+
+    /// The control of a work: what all submitters' claims on it own together of the performing, the mechanical and the
+    /// synchronization right, in hundredths of one per cent. It is 0 of each for a work that there is not.
+    pub fn control_of(&self, work: u32) -> [u64; 3]
+        ensures { result ≡ control_of work (rows_of self.now.history) }
+    {
+        self.work(work).control
+    }
+}
+
+/// Writes an entry as the last. No memory is asked for.
+fn store_entry<A: Allocator>(history: &mut Vec<Entry<A>, A>, entry: Entry<A>)
+    requires { vec_len history.old < vec_capacity history.old }
+    ensures { history.new.items ≡ history.old.items ++ entry ∷ [] }
+{
+    let Ok(_) = history.push(entry) else {
+        unreachable!()
+    };
+}

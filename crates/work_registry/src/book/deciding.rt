@@ -1,0 +1,249 @@
+ghost use Rattle.std.specs.Prelude.{◌≡◌, ◌≤◌, ◌||◌, ◌+◌, slice_index, nat_lt};
+ghost use Rattle.work_registry.specs.Rows.{rows_of, key_of};
+ghost use Rattle.work_registry.specs.Works.{others_of, work_count};
+ghost use Rattle.work_registry.specs.Claims.{claim_of};
+ghost use Rattle.work_registry.specs.Reply.{reply_to, reply_for_work, is_over, work_for, clashes, differs, most_control};
+ghost use Rattle.work_registry.specs.Numbers.{most_entries};
+ghost use Rattle.work_registry.specs.Indexes.{kept_work, change_of, decision_on, newer};
+
+use super::Book;
+use crate::claim::Claim;
+use crate::indexes::{Change, Decision, KeptWork};
+use crate::key::Key;
+use crate::reply::Reply;
+use cwr_rules::{Call, WorkKind};
+use std::alloc::Allocator;
+
+/// The whole of a right, in hundredths of one per cent, with a tolerance of 0.06 per cent.
+const MOST_CONTROL: u64 = 10_006;
+
+impl<A: Allocator + Copy + Drop> Book<A> {
+    /// What is decided on a call, by what the book keeps of its history.
+    pub(super) fn decide(&self, call: &Call<A>) -> Decision
+        ensures { result ≡ decision_on (rows_of self.now.history) call.now }
+    {
+        let key = key(call);
+        let claim = self.claim_under(&key);
+        let reply = self.reply(call, &key, claim);
+        let change = self.change(call, &key, claim, reply);
+        Decision { reply, change }
+    }
+
+    /// The reply to a call, from the claim under its key.
+    fn reply(&self, call: &Call<A>, key: &Key, claim: Option<Claim>) -> Reply
+        requires own { key.now ≡ key_of call.now }
+        requires known { claim ≡ claim_of (key_of call.now) (rows_of self.now.history) }
+        ensures { result ≡ reply_to (rows_of self.now.history) call.now }
+    {
+        let _ = &self.history;
+        if !call.faults().is_empty() {
+            return Reply::Rejected;
+        }
+        match claim {
+            None => self.reply_for_work(call, key, claim, self.work_for(call.iswc())),
+            Some(kept) => match call.kind() {
+                WorkKind::Nwr => Reply::Duplicate { work: kept.work },
+                WorkKind::Rev => {
+                    if self.clashes(call.iswc(), kept.work) {
+                        Reply::Conflict { work: kept.work }
+                    } else {
+                        self.reply_for_work(call, key, claim, kept.work)
+                    }
+                }
+            },
+        }
+    }
+
+    /// The reply to a call for a work: it is accepted, unless a right would be owned beyond the whole.
+    fn reply_for_work(&self, call: &Call<A>, key: &Key, claim: Option<Claim>, work: u32) -> Reply
+        requires own { key.now ≡ key_of call.now }
+        requires known { claim ≡ claim_of (key_of call.now) (rows_of self.now.history) }
+        ensures { result ≡ reply_for_work (rows_of self.now.history) call.now work }
+    {
+        let _ = &self.history;
+        if self.is_over(key, claim, work, call.control()) {
+            return Reply::Conflict { work };
+        }
+        match claim {
+            Some(kept) => Reply::Accepted {
+                work,
+                version: kept.version + 1,
+            },
+            None => Reply::Accepted { work, version: 1 },
+        }
+    }
+
+    /// Whether some right of a work would be owned beyond the whole, by a call under a key, whose claim is given.
+    fn is_over(&self, key: &Key, claim: Option<Claim>, work: u32, control: [u64; 3]) -> bool
+        requires { claim ≡ claim_of key.now (rows_of self.now.history) }
+        ensures { result ≡ is_over work key.now control (rows_of self.now.history) }
+    {
+        let _ = &self.history;
+        are_over_whole(self.others(key, claim, work), control)
+    }
+
+    /// The control of a work under other keys than one, whose claim is given.
+    fn others(&self, key: &Key, claim: Option<Claim>, work: u32) -> [u64; 3]
+        requires { claim ≡ claim_of key.now (rows_of self.now.history) }
+        ensures { result ≡ others_of work key.now (rows_of self.now.history) }
+    {
+        let all = self.control_of(work);
+        match claim {
+            Some(kept) => {
+                if kept.work == work {
+                    [
+                        all[0] - kept.control[0],
+                        all[1] - kept.control[1],
+                        all[2] - kept.control[2],
+                    ]
+                } else {
+                    all
+                }
+            }
+            None => all,
+        }
+    }
+
+    /// The number of works.
+    fn works(&self) -> u32
+        ensures count { result ≡ work_count (rows_of self.now.history) }
+        ensures few { result ≤ most_entries }
+    {
+        self.kept.works.len() as u32
+    }
+
+    /// What is kept of a work; nothing of one that there is not.
+    pub(super) fn work(&self, work: u32) -> KeptWork
+        ensures { result ≡ kept_work work (rows_of self.now.history) }
+    {
+        let _ = &self.kept;
+        if work == 0 {
+            return KeptWork {
+                iswc: None,
+                control: [0; 3],
+            };
+        }
+        match self.kept.works.get(work as usize - 1) {
+            Some(kept) => *kept,
+            None => KeptWork {
+                iswc: None,
+                control: [0; 3],
+            },
+        }
+    }
+
+    /// The work of a call under a key without claim: the one that has its ISWC, else a new one.
+    fn work_for(&self, iswc: Option<u64>) -> u32
+        ensures { result ≡ work_for iswc (rows_of self.now.history) }
+    {
+        match iswc {
+            None => self.works() + 1,
+            Some(iswc) => match self.work_of_iswc(iswc) {
+                Some(work) => work,
+                None => self.works() + 1,
+            },
+        }
+    }
+
+    /// Whether the ISWC is that of another work, or the work has another.
+    fn clashes(&self, iswc: Option<u64>, work: u32) -> bool
+        ensures { result ≡ clashes iswc work (rows_of self.now.history) }
+    {
+        match iswc {
+            None => false,
+            Some(iswc) => {
+                is_other_work(work, self.work_of_iswc(iswc))
+                    || is_other_iswc(iswc, self.work(work).iswc)
+            }
+        }
+    }
+
+    /// What a call with this reply leaves, from the claim under its key.
+    fn change(
+        &self,
+        call: &Call<A>,
+        key: &Key,
+        claim: Option<Claim>,
+        reply: Reply,
+    ) -> Option<Change>
+        requires own { key.now ≡ key_of call.now }
+        requires known { claim ≡ claim_of (key_of call.now) (rows_of self.now.history) }
+        requires decided { reply ≡ reply_to (rows_of self.now.history) call.now }
+        ensures { result ≡ change_of (rows_of self.now.history) call.now reply }
+    {
+        let _ = &self.history;
+        let Reply::Accepted { work, version } = reply else {
+            return None;
+        };
+        let control = call.control();
+        let others = self.others(key, claim, work);
+        let iswc = newer(call.iswc(), self.work(work).iswc);
+        Some(Change {
+            claim: Claim {
+                work,
+                version,
+                control,
+            },
+            work: KeptWork {
+                iswc,
+                control: [
+                    others[0] + control[0],
+                    others[1] + control[1],
+                    others[2] + control[2],
+                ],
+            },
+        })
+    }
+}
+
+/// The key of a call.
+pub(super) fn key<A: Allocator>(call: &Call<A>) -> Key
+    ensures { result ≡ key_of call.now }
+{
+    Key {
+        submitter: call.submitter(),
+        number: call.number(),
+    }
+}
+
+/// Whether the controls of some right are together beyond the whole.
+fn are_over_whole(others: [u64; 3], control: [u64; 3]) -> bool
+    requires performing { slice_index others 0 ≤ most_control }
+    requires mechanical { slice_index others 1 ≤ most_control }
+    requires synchronization { slice_index others 2 ≤ most_control }
+    ensures { result ≡ (nat_lt most_control (slice_index others 0 + slice_index control 0) || (nat_lt most_control (slice_index others 1 + slice_index control 1) || nat_lt most_control (slice_index others 2 + slice_index control 2))) }
+{
+    control[0] > MOST_CONTROL - others[0]
+        || control[1] > MOST_CONTROL - others[1]
+        || control[2] > MOST_CONTROL - others[2]
+}
+
+/// The ISWC of a call, else the one that its work had.
+fn newer(iswc: Option<u64>, kept: Option<u64>) -> Option<u64>
+    ensures { result ≡ newer iswc kept }
+{
+    match iswc {
+        None => kept,
+        Some(iswc) => Some(iswc),
+    }
+}
+
+/// Whether there is a work and it is another.
+fn is_other_work(work: u32, found: Option<u32>) -> bool
+    ensures { result ≡ differs work found }
+{
+    match found {
+        None => false,
+        Some(found) => found != work,
+    }
+}
+
+/// Whether there is an ISWC and it is another.
+fn is_other_iswc(iswc: u64, found: Option<u64>) -> bool
+    ensures { result ≡ differs iswc found }
+{
+    match found {
+        None => false,
+        Some(found) => found != iswc,
+    }
+}

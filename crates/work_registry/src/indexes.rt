@@ -1,0 +1,128 @@
+ghost use Rattle.std.specs.Prelude.{◌≡◌, ◌≤◌, ◌<◌, ◌+◌, ◌-◌, OnOk, vec_len, vec_capacity, nat_eq, Some, MatchOption, IfSome};
+ghost use Rattle.indexmap.specs.IndexMap.{get, IsUnchanged, Updates, spare};
+ghost use Rattle.work_registry.specs.Rows.{same_key};
+ghost use Rattle.work_registry.specs.Indexes.{written};
+
+use crate::claim::Claim;
+use crate::key::Key;
+use crate::reply::Reply;
+use indexmap::IndexMap;
+use std::alloc::{AllocError, Allocator};
+use std::hash::{BuildHasherDefault, FoldHasher};
+
+/// What a book keeps of a work: its ISWC and its control of each right.
+#[derive(Clone, Copy, Debug, PartialEq, Eq)]
+pub(crate) struct KeptWork {
+    pub(crate) iswc: Option<u64>,
+    pub(crate) control: [u64; 3],
+}
+
+/// What an accepted call leaves: the claim of its key, and what is kept of its work.
+#[derive(Clone, Copy)]
+pub(crate) struct Change {
+    pub(crate) claim: Claim,
+    pub(crate) work: KeptWork,
+}
+
+/// What is decided on a call: the reply, and what the call leaves where it is accepted.
+#[derive(Clone, Copy)]
+pub(crate) struct Decision {
+    pub(crate) reply: Reply,
+    pub(crate) change: Option<Change>,
+}
+
+/// What a book keeps beside its history, to answer without going through it. The hasher's seed is fixed.
+#[derive(Drop)]
+pub(crate) struct Indexes<A: Allocator + Copy + Drop> {
+    /// The claim in force under each key.
+    pub(crate) claims: IndexMap<Key, Claim, BuildHasherDefault<FoldHasher>, A>,
+    /// The work that has each ISWC.
+    pub(crate) iswcs: IndexMap<u64, u32, BuildHasherDefault<FoldHasher>, A>,
+    /// The works, work 1 first.
+    pub(crate) works: Vec<KeptWork, A>,
+}
+
+impl<A: Allocator + Copy + Drop> Indexes<A> {
+    /// Makes room for one more of each. What is kept stays as it is, also where memory is refused.
+    pub(crate) fn make_room(&mut self) -> Result<(), AllocError>
+        ensures claims { IsUnchanged self.old.claims self.new.claims }
+        ensures iswcs { IsUnchanged self.old.iswcs self.new.iswcs }
+        ensures works { self.new.works.items ≡ self.old.works.items }
+        ensures claims_room { OnOk result (0 < spare self.new.claims) }
+        ensures iswcs_room { OnOk result (0 < spare self.new.iswcs) }
+        ensures works_room { OnOk result (vec_len self.new.works < vec_capacity self.new.works) }
+    {
+        self.claims.reserve(1)?;
+        self.iswcs.reserve(1)?;
+        self.works.reserve(1)?;
+        Ok(())
+    }
+
+    /// Writes what a call leaves, if it leaves anything. No memory is asked for.
+    pub(crate) fn store(&mut self, key: Key, iswc: Option<u64>, change: Option<Change>)
+        requires claims_room { 0 < spare self.old.claims }
+        requires iswcs_room { 0 < spare self.old.iswcs }
+        requires works_room { vec_len self.old.works < vec_capacity self.old.works }
+        requires place { IfSome change (λ c. 1 ≤ c.claim.work) }
+        ensures claims { MatchOption change (IsUnchanged self.old.claims self.new.claims)
+            (λ c. Updates same_key self.old.claims self.new.claims key (Some c.claim)) }
+        ensures iswcs { MatchOption change (IsUnchanged self.old.iswcs self.new.iswcs)
+            (λ c. MatchOption iswc (IsUnchanged self.old.iswcs self.new.iswcs)
+            (λ i. Updates nat_eq self.old.iswcs self.new.iswcs i (Some c.claim.work))) }
+        ensures works { MatchOption change (self.new.works.items ≡ self.old.works.items)
+            (λ c. self.new.works.items ≡ written c.claim.work c.work self.old.works.items) }
+    {
+        if let Some(change) = change {
+            self.store_change(key, iswc, change);
+        }
+    }
+
+    fn store_change(&mut self, key: Key, iswc: Option<u64>, change: Change)
+        requires claims_room { 0 < spare self.old.claims }
+        requires iswcs_room { 0 < spare self.old.iswcs }
+        requires works_room { vec_len self.old.works < vec_capacity self.old.works }
+        requires place { 1 ≤ change.claim.work }
+        ensures claims { Updates same_key self.old.claims self.new.claims key (Some change.claim) }
+        ensures iswcs { MatchOption iswc (IsUnchanged self.old.iswcs self.new.iswcs)
+            (λ i. Updates nat_eq self.old.iswcs self.new.iswcs i (Some change.claim.work)) }
+        ensures works { self.new.works.items ≡ written change.claim.work change.work self.old.works.items }
+    {
+        let Ok(_) = self.claims.insert(key, change.claim) else {
+            unreachable!()
+        };
+        store_iswc(&mut self.iswcs, iswc, change.claim.work);
+        store_work(&mut self.works, change.claim.work, change.work);
+    }
+}
+
+/// Writes that a work has the ISWC, if there is one.
+fn store_iswc<A: Allocator + Copy + Drop>(
+    iswcs: &mut IndexMap<u64, u32, BuildHasherDefault<FoldHasher>, A>,
+    iswc: Option<u64>,
+    work: u32,
+)
+    requires { 0 < spare iswcs.old }
+    ensures { MatchOption iswc (IsUnchanged iswcs.old iswcs.new) (λ i. Updates nat_eq iswcs.old iswcs.new i (Some work)) }
+{
+    if let Some(iswc) = iswc {
+        let Ok(_) = iswcs.insert(iswc, work) else {
+            unreachable!()
+        };
+    }
+}
+
+/// Writes what is kept of a work, in its place or as one more.
+fn store_work<A: Allocator + Copy + Drop>(works: &mut Vec<KeptWork, A>, work: u32, kept: KeptWork)
+    requires room { vec_len works.old < vec_capacity works.old }
+    requires place { 1 ≤ work }
+    ensures { works.new.items ≡ written work kept works.old.items }
+{
+    let place = work as usize - 1;
+    if place < works.len() {
+        works[place] = kept;
+    } else {
+        let Ok(_) = works.push(kept) else {
+            unreachable!()
+        };
+    }
+}

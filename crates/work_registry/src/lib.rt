@@ -1,0 +1,25 @@
+//! The registry of works: who claims which work, and every decision that led there.
+//!
+//! A [`Book`] answers each [`Call`] by a [`Reply`] and keeps both as an [`Entry`] of its history. What the reply is
+//! follows from the entries before it alone. [`laws`] says what holds in every history.
+#![tactic(auto)]
+
+mod book;
+mod claim;
+mod entry;
+mod indexes;
+mod key;
+pub mod laws;
+mod refused;
+mod register;
+mod reply;
+#[cfg(test)]
+mod tests;
+
+pub use book::Book;
+pub use claim::Claim;
+pub use cwr_rules::{Call, Fault, Faults, Memory, WorkKind};
+pub use entry::Entry;
+pub use refused::{Refused, WhyRefused};
+pub use register::{RegisterRefusal, audit, read_register};
+pub use reply::Reply;

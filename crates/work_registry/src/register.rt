@@ -1,0 +1,81 @@
+//! The register of a book: its history as a text, in lines that LF ends.
+//!
+//! Line 1 is `REG` and the number of entries in eight digits. Each entry has a line: its index, its call, what was
+//! replied, and the call's faults. Sessions are not written. Who reads a register hands each call in anew and compares
+//! the reply, so that an outside auditor can check every decision.
+
+ghost use Rattle.std.specs.Prelude.{◌≡◌, ◌≤◌, List, length, IsTrue, IfOk, IfErr};
+ghost use Rattle.work_registry.specs.EntryValue.{EntryValue};
+ghost use Rattle.work_registry.specs.History.{IsHistory};
+ghost use Rattle.work_registry.specs.Numbers.{most_entries};
+ghost use Rattle.work_registry.specs.Replay.{is_opening};
+ghost use Rattle.work_registry.specs.Register.{register_text, IsAudited};
+ghost use Rattle.work_registry.specs.RegisterFaults.{IsRefusal};
+
+mod entry_line;
+mod faults;
+mod fields;
+mod head;
+mod lines;
+mod pieces;
+mod reading;
+mod refusal;
+#[cfg(test)]
+mod tests;
+mod writing;
+
+use crate::book::Book;
+use cwr_field::Memory;
+use reading::book_from;
+pub use refusal::RegisterRefusal;
+use std::alloc::Allocator;
+use writing::register_of;
+
+/// The most entries that a register can have: as many as eight digits tell.
+const MOST_ENTRIES: u32 = 99999999;
+
+impl<A: Allocator + Copy + Drop> Book<A> {
+    /// The register of this book: the text of its history.
+    ///
+    /// All memory is asked for at once.
+    pub fn write_register(&self, alloc: A) -> Result<Vec<u8, A>, Memory>
+        ensures { IfOk result (λ text. text.items ≡ register_text self.now.history) }
+    {
+        register_of(alloc, self.history())
+    }
+}
+
+/// The book that a register is of, with this limit. All its entries are of the opening, session 0.
+///
+/// A text that is no register of a history of one registry, or of one with more entries than the limit, gives its
+/// first fault: of its faulty lines the first, and of that line's faults the least. The bytes are gone over once.
+pub fn read_register<A: Allocator + Copy + Drop>(
+    alloc: A,
+    bytes: &[u8],
+    limit: u32,
+) -> Result<Book<A>, RegisterRefusal>
+    requires least { 1 ≤ limit }
+    requires most { limit ≤ most_entries }
+    ensures text { IfOk result (λ book. bytes.now ≡ register_text book.history) }
+    ensures lawful { IfOk result (λ book. IsHistory book.history) }
+    ensures opening { IfOk result (λ book. IsTrue (is_opening book.history)) }
+    ensures fits { IfOk result (λ book. length book.history ≤ limit) }
+    ensures limit { IfOk result (λ book. book.limit ≡ limit) }
+    ensures fault { IfErr result (IsRefusal limit bytes.now) }
+{
+    let book = book_from(alloc, bytes, limit)?;
+    // Reading its history tells what holds in every book.
+    let _history = book.history();
+    Ok(book)
+}
+
+/// How many entries a register has, where it is one of a history of one registry.
+///
+/// Any other text gives its first fault: of its faulty lines the first, and of that line's faults the least.
+pub fn audit<A: Allocator + Copy + Drop>(alloc: A, bytes: &[u8]) -> Result<u64, RegisterRefusal>
+    ensures entries { IfOk result (IsAudited bytes.now) }
+    ensures fault { IfErr result (IsRefusal most_entries bytes.now) }
+{
+    let book = read_register(alloc, bytes, MOST_ENTRIES)?;
+    Ok(book.len() as u64)
+}

@@ -1,0 +1,74 @@
+//! Registers, byte for byte, and texts that are none.
+
+ghost use Rattle.std.specs.Prelude.{◌≤◌};
+
+mod damage;
+mod texts;
+
+use crate::{Book, Call, Fault, Faults, RegisterRefusal, WorkKind, audit};
+use std::alloc::{AllocError, Global};
+use std::test::Fail;
+
+/// The register of one entry: a work that the submitter calls W1 is registered.
+pub(crate) fn one_entry(alloc: Global) -> Result<String, AllocError> {
+    format!(in alloc;
+        "REG00000001\nENT00000001PB000000123NWR{:60}{:25}000000010000000000010000000000010000AS0000000100000001000000000\n",
+        "SONG ONE", "W1"
+    )
+}
+
+/// The call of that entry, or one with another number of the work.
+pub(crate) fn whole_call(alloc: Global, number: [u8; 14]) -> Result<Call, Fail> {
+    let title = *b"SONG ONE                                                    ";
+    let faults = Faults::new(Vec::new(alloc));
+    Ok(Call::of(
+        *b"PB000000123",
+        WorkKind::Nwr,
+        title,
+        number,
+        None,
+        [10000; 3],
+        faults,
+    )
+    .ok_or("no call")?)
+}
+
+/// The call of a transaction whose writer has no share of the performing right: 10001 is none.
+pub(crate) fn faulty_call(alloc: Global) -> Result<Call, Fail> {
+    let title = *b"SONG ONE                                                    ";
+    let faults = [Fault {
+        sequence: 1,
+        number: 6,
+        rtype: *b"SWR",
+    }]
+    .to_vec(alloc)?;
+    Ok(Call::of(
+        *b"PB000000123",
+        WorkKind::Nwr,
+        title,
+        *b"W1            ",
+        None,
+        [0, 10000, 10000],
+        Faults::new(faults),
+    )
+    .ok_or("no call")?)
+}
+
+/// Hands a call in for a session, which the book must take.
+pub(crate) fn hand_in(book: &mut Book, session: u32, call: Call) -> Result<crate::Reply, Fail>
+    requires { session ≤ 63 }
+{
+    match book.apply(session, call) {
+        Ok(reply) => Ok(reply),
+        Err(_refused) => Err("the call was refused")?,
+    }
+}
+
+/// The number and the line of the fault of a text, or nothing where it is a register.
+pub(crate) fn fault_of(alloc: Global, text: &[u8]) -> Result<Option<(u8, u64)>, Fail> {
+    match audit(alloc, text) {
+        Ok(_entries) => Ok(None),
+        Err(RegisterRefusal::Fault { number, line }) => Ok(Some((number, line))),
+        Err(RegisterRefusal::Memory) => Err("no memory")?,
+    }
+}

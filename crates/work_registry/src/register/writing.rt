@@ -1,0 +1,186 @@
+//! The text of a history.
+
+ghost use Rattle.std.specs.Prelude.{◌≡◌, ◌++◌, ◌∷◌, [], ◌<◌, ◌≤◌, ◌^◌, ◌*◌, OnOk, IfOk, IsTrue, length, codes};
+ghost use Rattle.std.specs.List.{flat_map, AllByRecursion};
+ghost use Rattle.cwr_record.specs.Kinds.{work_kind_code};
+ghost use Rattle.cwr_file.specs.AckItem.{status_text};
+ghost use Rattle.cwr_rules.specs.Lawful.{is_lawful};
+ghost use Rattle.work_registry.specs.RegisterLine.{line_of, head, fault, head_of};
+ghost use Rattle.work_registry.specs.RegisterPieces.{FitsHead, FitsFault};
+ghost use Rattle.work_registry.specs.Register.{status_of, work_of, version_of, line_for, entry_line, entry_lines, count_line, register_text, FitsEntry};
+
+use super::head::Head;
+use super::pieces::{Piece, put_pieces};
+use crate::entry::Entry;
+use crate::reply::Reply;
+use cwr_field::Memory;
+use cwr_file::{Fault, Status};
+use cwr_record::WorkKind;
+use std::alloc::Allocator;
+
+/// The record type that names a kind.
+fn kind_code(kind: WorkKind) -> &'static [u8]
+    ensures { result.now ≡ work_kind_code kind }
+{
+    match kind {
+        WorkKind::Nwr => b"NWR",
+        WorkKind::Rev => b"REV",
+    }
+}
+
+fn status_code(status: Status) -> &'static [u8]
+    ensures { result.now ≡ status_text status }
+{
+    match status {
+        Status::Accepted => b"AS",
+        Status::Duplicate => b"DU",
+        Status::Conflict => b"CO",
+        Status::Rejected => b"RJ",
+    }
+}
+
+/// What a register tells of a reply: the status, the work and the version, or 0 where there is none.
+pub(crate) fn told(reply: Reply) -> (Status, u32, u32)
+    ensures status { result.0 ≡ status_of reply }
+    ensures work { result.1 ≡ work_of reply }
+    ensures version { result.2 ≡ version_of reply }
+{
+    match reply {
+        Reply::Accepted { work, version } => (Status::Accepted, work, version),
+        Reply::Duplicate { work } => (Status::Duplicate, work, 0),
+        Reply::Conflict { work } => (Status::Conflict, work, 0),
+        Reply::Rejected => (Status::Rejected, 0, 0),
+    }
+}
+
+fn head_for<A: Allocator>(index: u32, entry: &Entry<A>) -> Head
+    ensures value { result ≡ head_of (line_for index entry.now.call entry.now.reply) }
+    ensures lawful { IsTrue (is_lawful entry.now.call) }
+{
+    let (status, work, version) = told(entry.reply());
+    Head {
+        index,
+        submitter: entry.call().submitter(),
+        kind: entry.call().kind(),
+        title: entry.call().title(),
+        number: entry.call().number(),
+        iswc: entry.call().iswc(),
+        control: entry.call().control(),
+        status,
+        work,
+        version,
+        faults: entry.call().faults().len() as u32,
+    }
+}
+
+/// Appends the fields of fixed place.
+fn put_head<A: Allocator>(out: &mut Vec<u8, A>, x: &Head) -> Result<(), Memory>
+    requires { FitsHead x.now }
+    ensures { OnOk result (out.new.items ≡ out.old.items ++ line_of head x.now) }
+{
+    put_pieces(
+        out,
+        &[
+            Piece::Text(b"ENT"),
+            Piece::Digits(x.index as u64, 8),
+            Piece::Text(&x.submitter),
+            Piece::Text(kind_code(x.kind)),
+            Piece::Text(&x.title),
+            Piece::Text(&x.number),
+            Piece::Code(x.iswc),
+            Piece::Digits(x.control[0], 12),
+            Piece::Digits(x.control[1], 12),
+            Piece::Digits(x.control[2], 12),
+            Piece::Text(status_code(x.status)),
+            Piece::Digits(x.work as u64, 8),
+            Piece::Digits(x.version as u64, 8),
+            Piece::Digits(x.faults as u64, 9),
+        ],
+    )
+}
+
+fn put_fault<A: Allocator>(out: &mut Vec<u8, A>, x: &Fault) -> Result<(), Memory>
+    requires { FitsFault x.now }
+    ensures { OnOk result (out.new.items ≡ out.old.items ++ line_of fault x.now) }
+{
+    put_pieces(
+        out,
+        &[
+            Piece::Digits(x.sequence as u64, 8),
+            Piece::Digits(x.number as u64, 2),
+            Piece::Text(&x.rtype),
+        ],
+    )
+}
+
+fn put_faults<A: Allocator>(out: &mut Vec<u8, A>, faults: &[Fault]) -> Result<(), Memory>
+    requires { AllByRecursion FitsFault faults.now }
+    ensures { OnOk result (out.new.items ≡ out.old.items ++ flat_map (line_of fault) faults.now) }
+{
+    for fault in faults {
+        put_fault(out, fault)?;
+    }
+    Ok(())
+}
+
+fn put_entry<A: Allocator>(out: &mut Vec<u8, A>, index: u32, entry: &Entry<A>) -> Result<(), Memory>
+    requires index { index < 10 ^ 8 }
+    requires fits { FitsEntry entry.now }
+    ensures { OnOk result (out.new.items ≡ out.old.items ++ entry_line index entry.now.call entry.now.reply) }
+{
+    put_head(out, &head_for(index, entry))?;
+    put_faults(out, entry.call().faults())?;
+    out.push(b'\n')?;
+    Ok(())
+}
+
+fn put_entries<A: Allocator>(out: &mut Vec<u8, A>, entries: &[Entry<A>]) -> Result<(), Memory>
+    requires few { length entries.now < 10 ^ 8 }
+    requires fit { AllByRecursion FitsEntry entries.now }
+    ensures { OnOk result (out.new.items ≡ out.old.items ++ entry_lines 1 entries.now) }
+{
+    for (before, entry) in entries.iter().enumerate() {
+        put_entry(out, before as u32 + 1, entry)?;
+    }
+    Ok(())
+}
+
+fn put_count<A: Allocator>(out: &mut Vec<u8, A>, count: usize) -> Result<(), Memory>
+    requires { count < 10 ^ 8 }
+    ensures { OnOk result (out.new.items ≡ out.old.items ++ count_line count) }
+{
+    put_pieces(
+        out,
+        &[
+            Piece::Text(b"REG"),
+            Piece::Digits(count as u64, 8),
+            Piece::Text(b"\n"),
+        ],
+    )
+}
+
+/// The length of the text. Its first line has 12 bytes; a line has 174 and 13 for each fault.
+fn text_len<A: Allocator>(entries: &[Entry<A>]) -> usize
+    requires { length entries.now < 10 ^ 8 }
+{
+    let mut faults = 0;
+    for entry in entries {
+        faults += entry.call().faults().len();
+    }
+    12 + 174 * entries.len() + 13 * faults
+}
+
+/// The register of these entries. All memory is asked for at once.
+pub(super) fn register_of<A: Allocator>(
+    alloc: A,
+    entries: &[Entry<A>],
+) -> Result<Vec<u8, A>, Memory>
+    requires few { length entries.now < 10 ^ 8 }
+    requires fit { AllByRecursion FitsEntry entries.now }
+    ensures { IfOk result (λ text. text.items ≡ register_text entries.now) }
+{
+    let mut out = Vec::with_capacity(alloc, text_len(entries))?;
+    put_count(&mut out, entries.len())?;
+    put_entries(&mut out, entries)?;
+    Ok(out)
+}
