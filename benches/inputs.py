@@ -36,7 +36,46 @@ def empty_groups():
     return b"".join(lines)
 
 
+def one_work(details):
+    """A file of one work with these details, each without its prefix and its line end."""
+    lines = [HEADER, b"GRHNWR00001\n", b"NWR0000000000000000SONG ONE" + b" " * 54 + b"W1\n"]
+    lines += [b"%s00000000%08d%s\n" % (kind, place, rest) for place, (kind, rest) in enumerate(details, 1)]
+    lines.append(b"GRT0000100000001%08d\n" % (len(details) + 3))
+    lines.append(b"TRL0000100000001%08d\n" % (len(details) + 5))
+    return b"".join(lines)
+
+
+def scattered(place, size):
+    """The numbers below a size (coprime to the factor), each once, in an order that jumps."""
+    return place * 48_271 % size
+
+
+def crowded():
+    """One work of 300,000 records without a fault: as many publishers as links to them, in another order each, and
+    territories of 10,000 codes."""
+    third = 100_000
+    details = [(b"SPU", b"01%09d" % (scattered(place, third) + 1)) for place in range(third)]
+    details.append((b"SWR", b"999999999"))
+    details += [(b"PWR", b"%09d" % (scattered(third - place, third) + 1)) for place in range(third)]
+    details += [
+        (b"SWT", b"999999999010000100001000I%04d" % scattered(place, 10_000)) for place in range(third - 2)
+    ]
+    return one_work(details)
+
+
+def faulty():
+    """One work of 300,000 records, each with a fault of its own: publishers and writers without a party."""
+    return one_work([(b"SPU" if place < 150_000 else b"SWR", b"") for place in range(299_999)])
+
+
 folder = sys.argv[1]
-for name, text in [("works", works()), ("empty-groups", empty_groups()), ("line-ends", b"\n" * SIZE)]:
+inputs = [
+    ("works", works()),
+    ("empty-groups", empty_groups()),
+    ("line-ends", b"\n" * SIZE),
+    ("crowded", crowded()),
+    ("faulty", faulty()),
+]
+for name, text in inputs:
     with open(os.path.join(folder, name), "wb") as file:
         file.write(text)

@@ -1,2 +1,5 @@
 pub mod Accounts
 pub mod ThinFiles
+pub mod CheckSteps
+pub mod ParsedFiles
+pub mod FileWords

@@ -1,14 +1,18 @@
-//! A runtime of the tests' own: words, standard input, and what was printed.
+//! A runtime of the tests' own: words, standard input, files, and what was printed.
+use crate::fake_files::{FakeFile, unsupported};
 use std::alloc::{Allocator, Global};
 use std::cell::RefCell;
 use std::env::FillError;
 use std::fmt::Display;
-use std::io::{self, BufRead};
-use std::rt::Env;
+use std::fs::{Metadata, OpenOptions};
+use std::io::{self, BufRead, ErrorKind};
+use std::rt::{Env, Files};
 
 pub(crate) struct Fake<'a> {
     pub(crate) words: &'a [&'a str],
     pub(crate) input: &'a [u8],
+    /// The files that are there, by name.
+    pub(crate) files: &'a [(&'a str, FakeFile<'a>)],
     pub(crate) alloc: Global,
     pub(crate) printed: RefCell<Vec<u8>>,
     pub(crate) complained: RefCell<String>,
@@ -19,9 +23,30 @@ impl<'a> Fake<'a> {
         Fake {
             words,
             input,
+            files: &[],
             alloc,
             printed: RefCell::new(Vec::new(alloc)),
             complained: RefCell::new(String::new(alloc)),
+        }
+    }
+
+    /// The same runtime with these files.
+    pub(crate) fn with_files(self, files: &'a [(&'a str, FakeFile<'a>)]) -> Fake<'a> {
+        let Fake {
+            words,
+            input,
+            files: _,
+            alloc,
+            printed,
+            complained,
+        } = self;
+        Fake {
+            words,
+            input,
+            files,
+            alloc,
+            printed,
+            complained,
         }
     }
 
@@ -30,6 +55,7 @@ impl<'a> Fake<'a> {
         let Fake {
             words: _,
             input: _,
+            files: _,
             alloc: _,
             printed,
             complained,
@@ -127,5 +153,56 @@ impl Eprint for Fake<'_> {
 
     fn eprintln<D: Display + Drop>(&self, value: D) -> io::Result<()> {
         self.complain(value, "\n")
+    }
+}
+
+impl<'a> Files for Fake<'a> {
+    type File = FakeFile<'a>;
+
+    type Dir = FakeFile<'a>;
+
+    fn open_file(&self, _how: &OpenOptions, path: &str) -> io::Result<FakeFile<'a>> {
+        for (name, file) in self.files {
+            if *name == path {
+                return Ok(*file);
+            }
+        }
+        Err(io::Error::from(ErrorKind::NotFound))
+    }
+
+    fn open_dir(&self, _path: &str) -> io::Result<FakeFile<'a>> {
+        unsupported()
+    }
+
+    fn metadata(&self, _path: &str) -> io::Result<Metadata> {
+        unsupported()
+    }
+
+    fn symlink_metadata(&self, _path: &str) -> io::Result<Metadata> {
+        unsupported()
+    }
+
+    fn copy(&self, _from: &str, _to: &str) -> io::Result<u64> {
+        unsupported()
+    }
+
+    fn rename(&self, _from: &str, _to: &str) -> io::Result<()> {
+        unsupported()
+    }
+
+    fn remove_file(&self, _path: &str) -> io::Result<()> {
+        unsupported()
+    }
+
+    fn create_dir(&self, _path: &str) -> io::Result<()> {
+        unsupported()
+    }
+
+    fn remove_dir(&self, _path: &str) -> io::Result<()> {
+        unsupported()
+    }
+
+    fn remove_dir_all<B: Allocator>(&self, _alloc: B, _path: &str) -> io::Result<()> {
+        unsupported()
     }
 }

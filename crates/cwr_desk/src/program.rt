@@ -1,12 +1,16 @@
+use crate::checking::{Checked, check_text};
+use crate::command_line::command_line;
 use crate::engine::acknowledge;
+use crate::files::InputFile;
 use crate::lines::outcome_line;
 use crate::outcome::FileOutcome;
-use clap::Command;
+use crate::reading::{MOST_BYTES, read_file};
+use clap::ArgMatches;
 use cwr_field::{Clock, Day, cut, date, time};
 use cwr_file::Through;
 use cwr_record::Stamp;
 use std::process::ExitCode;
-use std::rt::Env;
+use std::rt::{Env, Files};
 use std::{env, io, str};
 
 /// The status of a command line that is not taken.
@@ -14,8 +18,9 @@ const BAD_COMMAND_LINE: u8 = 2;
 
 /// Runs the program on its words, and answers its exit status.
 ///
-/// Without words it acknowledges standard input to standard output.
-pub fn run_program<R: Env + AllocGlobal + Input + Print + Eprint>(rt: &R) -> ExitCode {
+/// Without words it acknowledges standard input to standard output. `check FILE` tells on standard output which rules
+/// a file breaks; the status is 0 where it breaks none.
+pub fn run_program<R: Env + AllocGlobal + Input + Print + Eprint + Files>(rt: &R) -> ExitCode {
     let Ok(words) = env::args(rt) else {
         return not_text(rt);
     };
@@ -23,15 +28,54 @@ pub fn run_program<R: Env + AllocGlobal + Input + Print + Eprint>(rt: &R) -> Exi
         Ok(words) => words,
         Err(_) => return no_memory(rt),
     };
-    let command = Command::new(rt.alloc(), "purvilgo").about(
-        "Acknowledges a CWR 2.2 file from standard input to standard output",
-    );
+    let Ok(command) = command_line(rt.alloc()) else {
+        return no_memory(rt);
+    };
     match command.try_get_matches_from(words.as_slice()) {
-        Ok(_) => acknowledge_input(rt),
+        Ok(matches) => run_command(rt, &matches),
         Err(error) => {
             let _ = eprint!(rt; "{error}");
             ExitCode::from(BAD_COMMAND_LINE)
         }
+    }
+}
+
+/// Runs the command that the words name, or without words the one that has no name.
+fn run_command<R: AllocGlobal + Input + Print + Eprint + Files>(
+    rt: &R,
+    matches: &ArgMatches,
+) -> ExitCode {
+    match matches.subcommand() {
+        Some((_, given)) => match given.get_str("FILE") {
+            Some(path) => check_file(rt, path),
+            None => ExitCode::from(BAD_COMMAND_LINE),
+        },
+        None => acknowledge_input(rt),
+    }
+}
+
+/// Checks a file, and tells on standard output what was found.
+fn check_file<R: AllocGlobal + Print + Eprint + Files>(rt: &R, path: &str) -> ExitCode {
+    let mut reader = InputFile::new(rt, path);
+    let text = match read_file(rt.alloc(), &mut reader, MOST_BYTES) {
+        Ok(text) => text,
+        Err(unread) => {
+            let _ = eprintln!(rt; "stopped: {unread}");
+            return ExitCode::FAILURE;
+        }
+    };
+    match check_text(rt.alloc(), &text) {
+        Ok(checked) => tell_check(rt, &checked),
+        Err(_) => no_memory(rt),
+    }
+}
+
+/// Tells what was found in a file. The status is that of a clean file only where all of it was told.
+fn tell_check<R: Print>(rt: &R, checked: &Checked) -> ExitCode {
+    if rt.write_all(&checked.text).is_ok() && checked.clean {
+        ExitCode::SUCCESS
+    } else {
+        ExitCode::FAILURE
     }
 }
 

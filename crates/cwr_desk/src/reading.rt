@@ -18,6 +18,9 @@ pub enum ReadRefused {
     TooLong,
 }
 
+/// The most bytes that a file may have.
+pub(crate) const MOST_BYTES: usize = 16_777_216;
+
 /// How many bytes are asked for at a time.
 const PIECE: usize = 65536;
 

@@ -1,6 +1,11 @@
 //! Files of the profile, and what becomes of each.
 ghost use Rattle.std.specs.Prelude.{◌≡◌, None, false, IfOk};
 
+mod checks;
+mod commands;
+mod run_words;
+mod words;
+
 use crate::fake::Fake;
 use crate::{FileOutcome, ReadRefused, Why, acknowledge, outcome_line, read_file, run_program};
 use cwr_field::{cut, date, put_text, time};
@@ -315,7 +320,7 @@ fn runs_on_standard_input(rt: HostRuntime) -> Result<(), Fail> {
             &input,
             ExitCode::from(2),
             b"",
-            "error: unexpected argument 'a.v22' found\n\nUsage: purvilgo\n\nFor more information, try '--help'.\n",
+            "error: unrecognized subcommand 'a.v22'\n\nUsage: purvilgo [COMMAND]\n\nFor more information, try '--help'.\n",
         ),
     ];
     for (words, input, status, printed, complained) in cases {

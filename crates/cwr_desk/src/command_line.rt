@@ -1,0 +1,18 @@
+//! The command lines that the program takes.
+
+use clap::{Arg, Command};
+use std::alloc::{AllocError, Global};
+
+/// The program's name, what it does without words, and its commands.
+pub(crate) fn command_line<'a>(alloc: Global) -> Result<Command<'a>, AllocError> {
+    Command::new(alloc, "purvilgo")
+        .about("Acknowledges a CWR 2.2 file from standard input to standard output")
+        .subcommand(check_command(alloc)?)
+}
+
+/// `check FILE`.
+fn check_command<'a>(alloc: Global) -> Result<Command<'a>, AllocError> {
+    Command::new(alloc, "check")
+        .about("Tells which rules a CWR 2.2 file breaks")
+        .arg(Arg::new(alloc, "FILE").required(true))
+}

@@ -1,0 +1,205 @@
+//! What a check tells of files of the profile.
+
+use crate::check_text;
+use std::alloc::Global;
+use std::process::Abort;
+use std::test::Fail;
+
+/// A file of the submitter `PB000000123` with these lines after its HDR, each with CR LF.
+pub(super) fn file(alloc: Global, lines: &[&str]) -> Result<Vec<u8>, Fail> {
+    let mut text = format!(in alloc;
+        "HDRPB000000123PUBLISHER A{:34}01.102024050112000020240501\r\n",
+        ""
+    )?;
+    for line in lines {
+        text.push_str(line)?;
+        text.push_str("\r\n")?;
+    }
+    Ok(text.into_bytes())
+}
+
+/// The header of a transaction: its kind, its sequence and the submitter's work number.
+fn work(alloc: Global, kind: &str, sequence: u32, number: &str) -> Result<String, Fail> {
+    Ok(format!(in alloc; "{kind}{sequence:08}00000000SONG ONE{:54}{number}", "")?)
+}
+
+/// A writer: the record's type, transaction and sequence, and the shares of PR, MR and SR.
+fn writer(alloc: Global, transaction: u32, record: u32, shares: [&str; 3]) -> Result<String, Fail> {
+    let [performing, mechanical, synchronization] = shares;
+    Ok(format!(in alloc;
+        "SWR{transaction:08}{record:08}000000001DOE{:73}CA{:23}{performing}   {mechanical}   {synchronization}",
+        "", ""
+    )?)
+}
+
+const GROUP: &str = "GRHNWR0000102.200000000001";
+
+const WHOLE: [&str; 3] = ["10000", "10000", "10000"];
+
+fn expect(
+    rt: &impl Abort,
+    alloc: Global,
+    bytes: &[u8],
+    wanted: &str,
+    clean: bool,
+) -> Result<(), Fail> {
+    let checked = check_text(alloc, bytes)?;
+    assert_eq!(rt; checked.text.as_slice(), wanted.as_bytes(), "{wanted}");
+    assert_eq!(rt; checked.clean, clean, "{wanted}");
+    Ok(())
+}
+
+/// A file with one work and its writer, who has these shares.
+pub(super) fn one_work(alloc: Global, shares: [&str; 3]) -> Result<Vec<u8>, Fail> {
+    let head = work(alloc, "NWR", 0, "W1")?;
+    let detail = writer(alloc, 0, 1, shares)?;
+    file(
+        alloc,
+        &[
+            GROUP,
+            &head,
+            &detail,
+            "GRT000010000000100000004",
+            "TRL000010000000100000006",
+        ],
+    )
+}
+
+#[test]
+fn tells_a_clean_file(rt: HostRuntime) -> Result<(), Fail> {
+    let alloc = rt.alloc();
+    let wanted = "00001 00000000 NWR ok\n1 transactions, 0 with faults\n";
+    let whole = one_work(alloc, WHOLE)?;
+    expect(&rt, alloc, &whole, wanted, true)?;
+    let none = file(alloc, &["TRL000000000000000000002"])?;
+    expect(&rt, alloc, &none, "0 transactions, 0 with faults\n", true)
+}
+
+#[test]
+fn tells_each_transaction(rt: HostRuntime) -> Result<(), Fail> {
+    let alloc = rt.alloc();
+    let first = work(alloc, "NWR", 0, "W1")?;
+    let first_writer = writer(alloc, 0, 2, WHOLE)?;
+    let second = work(alloc, "NWR", 1, "W2")?;
+    let second_writer = writer(alloc, 1, 1, WHOLE)?;
+    let bytes = file(
+        alloc,
+        &[
+            GROUP,
+            &first,
+            "SWT0000000000000001000000001050000500005000I2136",
+            &first_writer,
+            &second,
+            &second_writer,
+            "GRT000010000000200000007",
+            "TRL000010000000200000009",
+        ],
+    )?;
+    let wanted =
+        "00001 00000000 NWR rejected 1:J1\n00001 00000001 NWR ok\n2 transactions, 1 with faults\n";
+    expect(&rt, alloc, &bytes, wanted, false)
+}
+
+#[test]
+fn tells_groups_and_kinds(rt: HostRuntime) -> Result<(), Fail> {
+    let alloc = rt.alloc();
+    let new = work(alloc, "NWR", 0, "W1")?;
+    let revised = work(alloc, "REV", 0, "W1")?;
+    let detail = writer(alloc, 0, 1, WHOLE)?;
+    let bytes = file(
+        alloc,
+        &[
+            GROUP,
+            &new,
+            &detail,
+            "GRT000010000000100000004",
+            "GRHREV0000202.200000000001",
+            &revised,
+            &detail,
+            "GRT000020000000100000004",
+            "TRL000020000000200000010",
+        ],
+    )?;
+    let wanted = "00001 00000000 NWR ok\n00002 00000000 REV ok\n2 transactions, 0 with faults\n";
+    expect(&rt, alloc, &bytes, wanted, true)
+}
+
+#[test]
+fn tells_every_fault(rt: HostRuntime) -> Result<(), Fail> {
+    let alloc = rt.alloc();
+    let bare = file(
+        alloc,
+        &[
+            GROUP,
+            "NWR0000000000000000",
+            "GRT000010000000100000003",
+            "TRL000010000000100000005",
+        ],
+    )?;
+    let wanted = "00001 00000000 NWR rejected 0:J2 0:J3 0:J10\n1 transactions, 1 with faults\n";
+    expect(&rt, alloc, &bare, wanted, false)?;
+    for (shares, faults) in [
+        (["10001", "10000", "10000"], "1:J6"),
+        (["10000", "09993", "10007"], "0:J12 1:J6"),
+        (["04993", "05000", "05000"], "0:J11 0:J12 0:J13"),
+    ] {
+        let wanted = format!(in alloc;
+            "00001 00000000 NWR rejected {faults}\n1 transactions, 1 with faults\n"
+        )?;
+        let bytes = one_work(alloc, shares)?;
+        expect(&rt, alloc, &bytes, &wanted, false)?;
+    }
+    Ok(())
+}
+
+#[test]
+fn tells_a_sequence_of_two_digits(rt: HostRuntime) -> Result<(), Fail> {
+    let alloc = rt.alloc();
+    let head = work(alloc, "NWR", 0, "W1")?;
+    let first = writer(alloc, 0, 1, WHOLE)?;
+    let late = writer(alloc, 0, 12, ["00000", "00000", "00000"])?;
+    let bytes = file(
+        alloc,
+        &[
+            GROUP,
+            &head,
+            &first,
+            "ALT0000000000000002OTHER NAME",
+            "XRF0000000000000003",
+            "XRF0000000000000004",
+            "XRF0000000000000005",
+            "XRF0000000000000006",
+            "XRF0000000000000007",
+            "XRF0000000000000008",
+            "XRF0000000000000009",
+            "XRF0000000000000010",
+            "XRF0000000000000011",
+            &late,
+            "GRT000010000000100000015",
+            "TRL000010000000100000017",
+        ],
+    )?;
+    let wanted = "00001 00000000 NWR rejected 12:J1\n1 transactions, 1 with faults\n";
+    expect(&rt, alloc, &bytes, wanted, false)
+}
+
+#[test]
+fn tells_the_first_fault_of_a_file(rt: HostRuntime) -> Result<(), Fail> {
+    let alloc = rt.alloc();
+    expect(&rt, alloc, b"", "refused F1 at line 1\n", false)?;
+    let head = work(alloc, "NWR", 0, "W1")?;
+    let detail = writer(alloc, 0, 1, WHOLE)?;
+    let cut_off = file(alloc, &[GROUP, &head, &detail, "GRT000010000000100000004"])?;
+    expect(&rt, alloc, &cut_off, "refused F11 at line 6\n", false)?;
+    let miscounted = file(
+        alloc,
+        &[
+            GROUP,
+            &head,
+            &detail,
+            "GRT000010000000100000002",
+            "TRL000010000000100000006",
+        ],
+    )?;
+    expect(&rt, alloc, &miscounted, "refused F9 at line 5\n", false)
+}

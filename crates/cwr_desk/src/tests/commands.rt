@@ -1,0 +1,85 @@
+//! The program's commands, over a runtime of the tests' own.
+
+use super::checks::{file, one_work};
+use crate::fake::Fake;
+use crate::fake_files::FakeFile;
+use crate::run_program;
+use std::process::ExitCode;
+use std::test::Fail;
+
+#[test]
+fn checks_a_file(rt: HostRuntime) -> Result<(), Fail> {
+    let alloc = rt.alloc();
+    let clean = one_work(alloc, ["10000", "10000", "10000"])?;
+    let faulty = one_work(alloc, ["10001", "10000", "10000"])?;
+    let refused = file(alloc, &["TRL000000000000000000003"])?;
+    let files = [
+        ("clean", FakeFile::Holds(&clean)),
+        ("faulty", FakeFile::Holds(&faulty)),
+        ("refused", FakeFile::Holds(&refused)),
+        ("endless", FakeFile::Endless),
+        ("broken", FakeFile::Broken),
+    ];
+    let cases: [(&str, ExitCode, &str, &str); 6] = [
+        (
+            "clean",
+            ExitCode::SUCCESS,
+            "00001 00000000 NWR ok\n1 transactions, 0 with faults\n",
+            "",
+        ),
+        (
+            "faulty",
+            ExitCode::FAILURE,
+            "00001 00000000 NWR rejected 1:J6\n1 transactions, 1 with faults\n",
+            "",
+        ),
+        ("refused", ExitCode::FAILURE, "refused F10 at line 2\n", ""),
+        ("endless", ExitCode::FAILURE, "", "stopped: too long\n"),
+        ("broken", ExitCode::FAILURE, "", "stopped: read\n"),
+        ("absent", ExitCode::FAILURE, "", "stopped: read\n"),
+    ];
+    for (name, status, printed, complained) in cases {
+        let words = ["purvilgo", "check", name];
+        let fake = Fake::new(alloc, &words, b"").with_files(&files);
+        assert_eq!(rt; run_program(&fake), status, "{name}");
+        let (out, err) = fake.into_texts();
+        assert_eq!(rt; out.as_slice(), printed.as_bytes(), "{name}");
+        assert_eq!(rt; err.as_str(), complained, "{name}");
+    }
+    Ok(())
+}
+
+#[test]
+fn refuses_other_words(rt: HostRuntime) -> Result<(), Fail> {
+    let alloc = rt.alloc();
+    let cases: [(&[&str], &str); 5] = [
+        (
+            &["purvilgo", "check"],
+            "error: the following required arguments were not provided:\n  <FILE>\n\nUsage: purvilgo check <FILE>\n\nFor more information, try '--help'.\n",
+        ),
+        (
+            &["purvilgo", "check", "a", "b"],
+            "error: unexpected argument 'b' found\n\nUsage: purvilgo check <FILE>\n\nFor more information, try '--help'.\n",
+        ),
+        (
+            &["purvilgo", "--verbose"],
+            "error: unexpected argument '--verbose' found\n\nUsage: purvilgo [COMMAND]\n\nFor more information, try '--help'.\n",
+        ),
+        (
+            &["purvilgo", "--help"],
+            "Acknowledges a CWR 2.2 file from standard input to standard output\n\nUsage: purvilgo [COMMAND]\n\nCommands:\n  check  Tells which rules a CWR 2.2 file breaks\n  help   Print this message or the help of the given subcommand(s)\n\nOptions:\n  -h, --help  Print help\n",
+        ),
+        (
+            &["purvilgo", "check", "--help"],
+            "Tells which rules a CWR 2.2 file breaks\n\nUsage: purvilgo check <FILE>\n\nArguments:\n  <FILE>  \n\nOptions:\n  -h, --help  Print help\n",
+        ),
+    ];
+    for (words, complained) in cases {
+        let fake = Fake::new(alloc, words, b"");
+        assert_eq!(rt; run_program(&fake), ExitCode::from(2), "{complained}");
+        let (out, err) = fake.into_texts();
+        assert_eq!(rt; out.len(), 0, "{complained}");
+        assert_eq!(rt; err.as_str(), complained);
+    }
+    Ok(())
+}
