@@ -47,12 +47,12 @@ is_over w k control rows = is_over_in 0 w k control rows || (is_over_in 1 w k co
 abbrev pub reply_for_work : List Row → CallValue → ℕ → Reply
 reply_for_work rows call w = if is_over w (key_of call) call.control rows then Conflict w else Accepted w (versions_of (key_of call) rows + 1)
 
--- case 2, and case 3 before them, where the key has a row
+-- after a row of the key: case 2 of a new registration, of a revision case 3 and then 4 and 5
 abbrev pub reply_after_row : WorkKind → Row → List Row → CallValue → Reply
 reply_after_row Nwr r rows call = Duplicate r.work
 reply_after_row Rev r rows call = if clashes call.iswc r.work rows then Conflict r.work else reply_for_work rows call r.work
 
--- of the last row of the key, if it has one
+-- after the last row of the key, if it has one
 abbrev pub reply_after : Option Row → List Row → CallValue → Reply
 reply_after None rows call = reply_for_work rows call (work_for call.iswc rows)
 reply_after (Some r) rows call = reply_after_row call.kind r rows call

@@ -1,0 +1,12 @@
+pub mod Lists
+pub mod Lock
+pub mod Steps
+pub mod Shutting
+pub mod Giving
+pub mod Meeting
+pub mod Ends
+pub mod Looking
+pub mod Leaving
+pub mod WholeTurn
+pub mod Worlds
+pub mod StepEvents

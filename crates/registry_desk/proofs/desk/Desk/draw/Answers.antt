@@ -1,0 +1,12 @@
+use Rattle.std.proofs.Common.{rules, ◌<◌, subst, sym}
+use Rattle.registry_desk.specs.Views.{most_turns}
+use Rattle.registry_desk.specs.Standing.{Standing}
+use Rattle.registry_desk.proofs.Steps.{draw_allowed}
+use Rattle.registry_desk.proofs.desk.Desk.draw.Goals as goal
+
+pub fetch_add-ticket-requires : goal.fetch_add-ticket-requires
+fetch_add-ticket-requires g c = let n = c.seat.invariant.counted in (
+  search rules,
+  search rules,
+  draw_allowed _ _ c.seat.inside.seat.me n.live c.seat.invariant.away (subst (λ (x : Standing). x.view.turns < most_turns) (sym c.seat.view_is) c.requires.turns),
+)

@@ -1,0 +1,31 @@
+-- The book that a desk is closed with.
+use Rattle.std.specs.Prelude.{◌≡◌, ℕ, ◌<◌, ◌≤◌, true, List, ◌++◌, length, All}
+use mathlib.Core.Option.{some}
+use mathlib.Core.List.{IsPrefix}
+use lib.ListN.{get_elem?}
+use Rattle.work_registry.specs.EntryValue.{EntryValue}
+use Rattle.work_registry.specs.BookValue.{BookValue}
+use Rattle.work_registry.specs.History.{IsHistory}
+use Rattle.work_registry.specs.Replay.{made}
+use Rattle.registry_desk.specs.declared.view.View.{View}
+use Rattle.registry_desk.specs.declared.view.Met.{Met}
+use Rattle.registry_desk.specs.Rule.{MetFits}
+
+-- of the opening seat's view v
+pub record Closes (v : View) (b : BookValue) : Type 0 where
+  pub limit : b.limit ≡ v.limit
+  -- a history of one registry
+  pub registry : IsHistory b.history
+  pub bounded : length b.history ≤ b.limit
+  -- the history that the desk was opened with, and then entries of the sessions given
+  pub added : List EntryValue
+  pub grown : b.history ≡ v.opened ++ added
+  pub sessions : All (λ e. (1 ≤ e.session) × (e.session ≤ v.given)) added
+  -- the entries of each seat that was met are the seat's list, and the history begins with what it saw last
+  pub met : (k : ℕ) (m : Met) → get_elem? v.met k ≡ some m → MetFits b.history b.limit m
+  -- each session given was met
+  pub each_met : (session : ℕ) → 1 ≤ session → session ≤ v.given
+      → (k : ℕ) × (m : Met) × (get_elem? v.met k ≡ some m) × (m.session ≡ session)
+  -- what the opening seat saw last, and what its mark says
+  pub front : IsPrefix v.front b.history
+  pub mark : v.marked ≡ true → length b.history ≡ b.limit

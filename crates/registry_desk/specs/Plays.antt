@@ -1,0 +1,47 @@
+-- What each atomic step tells the seat that makes it: of the step, the seat before, the word found (at a store, the word stored) and the seat after.
+use Rattle.std.specs.Prelude.{◌≡◌, ◌≢◌, ℕ, ◌≤◌, Bool, List, [], ◌∷◌, length, Option, Some}
+use mathlib.Core.List.{IsPrefix}
+use Rattle.atomic_table.specs.Table.{Me, Step}
+use Rattle.ticket_core.specs.declared.array_lock.ArrayPhase.TheVariants.{Waiting, Inside}
+use Rattle.work_registry.specs.EntryValue.{EntryValue}
+use Rattle.work_registry.specs.BookValue.{BookValue}
+use Rattle.work_registry.specs.History.{IsHistory}
+use Rattle.work_registry.specs.Replay.{made}
+use Rattle.registry_desk.specs.declared.view.View.{View}
+use Rattle.registry_desk.specs.Views.{open_flag, drawn, looked, entered, shut, passed}
+
+-- a seat's view, and what it carries: the slot of the book while it is inside
+abbrev pub Seated : Type 0
+Seated = Me (Option BookValue) View
+
+abbrev pub book_with : View → List EntryValue → BookValue
+book_with v history = record { history = history; limit = v.limit }
+
+-- what a seat that is let in finds: a history of one registry, which begins with all that the seat saw last, and holds of its session just the seat's own list
+pub record Finds (v : View) (history : List EntryValue) : Type 0 where
+  pub registry : IsHistory history
+  pub bounded : length history ≤ v.limit
+  pub front : IsPrefix v.front history
+  pub list : made history v.session ≡ v.list
+
+-- the number found is the ticket
+abbrev pub Draws : Step (Option BookValue) → Seated → ℕ → Seated → Type 0
+Draws step me ticket after = after ≡ (drawn me.0 ticket, me.1)
+
+-- where the word found is an open flag's, the seat is inside, with the book; else it waits on
+abbrev pub Looks : Step (Option BookValue) → Seated → ℕ → Seated → Type 0
+Looks step me found after = (ticket : ℕ) → me.0.phase ≡ Waiting ticket
+    → (found ≡ open_flag → (history : List EntryValue) × (after ≡ (entered me.0 ticket history, (0, Some (book_with me.0 history)) ∷ me.1)) × Finds me.0 history)
+    × (found ≢ open_flag → after ≡ (looked me.0 found, me.1))
+
+-- the book is at home again, with the turn's entry
+abbrev pub Shuts : Bool → Step (Option BookValue) → Seated → ℕ → Seated → Type 0
+Shuts full step me stored after = (ticket : ℕ) → me.0.phase ≡ Inside ticket
+    → (b : BookValue) → me.1 ≡ (0, Some b) ∷ [] → after ≡ (shut me.0 ticket full b.history, [])
+
+abbrev pub Passes : Step (Option BookValue) → Seated → ℕ → Seated → Type 0
+Passes step me stored after = after ≡ (passed me.0, me.1)
+
+-- the opening seat learns that it has met no more seats than it gave
+abbrev pub Counts : Step (Option BookValue) → Seated → ℕ → Seated → Type 0
+Counts step me found after = (after ≡ me) × (length me.0.met ≤ me.0.given)

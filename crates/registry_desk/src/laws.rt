@@ -1,0 +1,37 @@
+//! What holds of the desk's definitions.
+//!
+//! A law is a function that does nothing. Its contract is what is proved.
+
+ghost use Rattle.std.specs.Prelude.{◌≡◌, ℕ, List, ◌++◌};
+ghost use Rattle.work_registry.specs.History.{IsHistory};
+ghost use Rattle.work_registry.specs.Replay.{made};
+ghost use Rattle.registry_desk.specs.Events.{DrawIsEvent, EnterIsEvent, PassIsEvent, ShowsLawfulLock, ShutIsEvent, WaitIsEvent};
+ghost use Rattle.registry_desk.specs.World.{World, WorldEvent, added_in, run_world};
+
+/// Over every run of the lock and of calls, of any places in any order, the history stays one of one registry.
+pub fn stays_a_history()
+    ensures { (w : World) (events : List WorldEvent) → IsHistory w.history → IsHistory (run_world w events).history }
+{
+    work_registry::laws::histories_grow();
+}
+
+/// Over every run the entries of a session grow by those that the calls of its own place add, in order, and by no
+/// others.
+pub fn grows_by_its_own_calls()
+    ensures { (w : World) (events : List WorldEvent) (session : ℕ) → made (run_world w events).history session ≡ made w.history session ++ added_in w session events }
+{}
+
+/// Between any two atomic steps the lock that the desk shows is lawful, so at most one seat is inside.
+pub fn shows_a_lawful_lock()
+    ensures { ShowsLawfulLock }
+{}
+
+/// Each atomic step of the running desk that is one of the lock is its event: drawing a ticket is a Draw, looking at a
+/// flag a Look, which enters exactly where the flag is open, shutting a flag a Shut, and opening the next one a Pass.
+pub fn steps_are_events()
+    ensures draw { DrawIsEvent }
+    ensures enter { EnterIsEvent }
+    ensures wait { WaitIsEvent }
+    ensures shut { ShutIsEvent }
+    ensures pass { PassIsEvent }
+{}

@@ -1,0 +1,75 @@
+use super::{call, key, let_in, not_yet, open};
+use crate::{Reply, WhyRefused};
+use std::test::Fail;
+
+/// Two seats in turn: the second waits until the first has left.
+#[test]
+fn second_waits_for_the_first(rt: HostRuntime) -> Result<(), Fail> {
+    let (desk, mut opening) = open(rt.alloc(), 10, 3)?;
+    let one = desk.split(&mut opening);
+    let two = desk.split(&mut opening);
+    assert_eq!(rt; (one.session(), two.session()), (1, 2));
+    let inside = let_in(&rt, &desk, desk.draw(one));
+    let waiting = not_yet(&rt, &desk, desk.draw(two));
+    let waiting = not_yet(&rt, &desk, waiting);
+    let one = inside.leave(&desk);
+    let two = let_in(&rt, &desk, waiting).leave(&desk);
+    desk.meet(&mut opening, one);
+    desk.meet(&mut opening, two);
+    assert_eq!(rt; desk.close(opening).len(), 0);
+    Ok(())
+}
+
+/// A book of one entry: the second call comes back, and the seat still gets in.
+#[test]
+fn full_book(rt: HostRuntime) -> Result<(), Fail> {
+    let (desk, mut opening) = open(rt.alloc(), 1, 2)?;
+    let seat = desk.split(&mut opening);
+    let (seat, first) = desk.hand_in(&rt, seat, call(rt.alloc(), b'A', 1)?);
+    let Ok(reply) = first else {
+        panic!(rt; "there is room for one")
+    };
+    assert_eq!(rt;
+        reply,
+        Reply::Accepted {
+            work: 1,
+            version: 1
+        }
+    );
+    let (seat, second) = desk.hand_in(&rt, seat, call(rt.alloc(), b'A', 2)?);
+    let Err(refused) = second else {
+        panic!(rt; "there is room for one alone")
+    };
+    assert_eq!(rt; refused.why, WhyRefused::Full);
+    assert_eq!(rt; refused.call.number(), key(b'A', 2));
+    let seat = let_in(&rt, &desk, desk.draw(seat)).leave(&desk);
+    assert_eq!(rt; seat.turns_left(), 4294967292);
+    desk.meet(&mut opening, seat);
+    assert_eq!(rt; desk.close(opening).len(), 1);
+    Ok(())
+}
+
+/// A turn with one answer.
+#[test]
+fn one_answer_a_turn(rt: HostRuntime) -> Result<(), Fail> {
+    let (desk, mut opening) = open(rt.alloc(), 10, 2)?;
+    let seat = desk.split(&mut opening);
+    let call = call(rt.alloc(), b'A', 1)?;
+    let mut inside = let_in(&rt, &desk, desk.draw(seat));
+    assert!(rt; inside.unused());
+    let Ok(reply) = inside.apply(call) else {
+        panic!(rt; "there is room")
+    };
+    assert_eq!(rt;
+        reply,
+        Reply::Accepted {
+            work: 1,
+            version: 1
+        }
+    );
+    assert!(rt; !inside.unused());
+    let seat = inside.leave(&desk);
+    desk.meet(&mut opening, seat);
+    assert_eq!(rt; desk.close(opening).len(), 1);
+    Ok(())
+}
