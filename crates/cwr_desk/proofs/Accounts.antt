@@ -1,26 +1,107 @@
 -- the account of a job at each of its ends
-use Rattle.std.proofs.Common.{◌≡◌, ℕ, zero, suc, ◌<◌, ◌≤◌, Bool, true, false, List, [], ◌∷◌, length, take, refl, sym, ap, ◌∙◌, inl, inr, append-nil, arith, IfSome, Option, Some, None}
+use Rattle.std.proofs.Common.{◌≡◌, ◌∙◌, ℕ, zero, suc, ◌+◌, ◌*◌, ◌<◌, ◌≤◌, Bool, true, false, cond, List, [], ◌∷◌, ◌++◌, length, take, map, Option, Some, None, IfSome, IsTrue, refl, sym, ap, subst, arith, append-nil}
+use Rattle.std.proofs.Math.Seq.{take-length}
+use Rattle.std.proofs.lemmas.List.{length-take, length-map}
+use Rattle.std.proofs.lemmas.List.Sums.{sum_by-cons}
 use Rattle.std.specs.Io.KnownBytes.{Appends}
+use Rattle.std.specs.List.{AllByRecursion}
 use Rattle.std.specs.Str.Lines.{lines}
 use Rattle.cwr_record.specs.Stamp.{StampParts}
 use Rattle.cwr_record.specs.declared.control.Header.{Header}
-use Rattle.cwr_file.specs.AckItem.{Item}
-use Rattle.cwr_file.specs.Acknowledgement.{ack_text}
-use Rattle.cwr_file.specs.Faults.{IsLeastFault}
+use Rattle.cwr_file.specs.AckItem.{Item, told_faults, is_rejected}
+use Rattle.cwr_file.specs.Acknowledgement.{ack_text, told_count}
 use Rattle.cwr_file.specs.File.{File, IsFile}
 use Rattle.cwr_file.specs.RawParts.{RawParts}
 use Rattle.cwr_file.specs.Submitted.{IsSubmission}
-use Rattle.cwr_desk.specs.ThinFile.{is_thin, is_thin_file, first_header}
-use Rattle.cwr_desk.specs.Account.{most, Account, IsDecided, IsAcknowledged, Gives, thin_item}
-use Rattle.cwr_desk.specs.Causes.{cause_of}
+use Rattle.cwr_file.specs.declared.transaction_fault.Fault.{Fault}
+use Rattle.cwr_rules.specs.CallValue.{CallValue}
+use Rattle.cwr_rules.specs.Calls.{call_of}
+use Rattle.cwr_rules.specs.Lawful.{is_clean}
+use Rattle.work_registry.specs.EntryValue.{EntryValue}
+use Rattle.work_registry.specs.Replay.{calls_of}
+use Rattle.cwr_desk.specs.Account.{most, Signs, Account, IsAccount, IsRead, Gives}
+use Rattle.cwr_desk.specs.Causes.{cause_of, IsCause}
+use Rattle.cwr_desk.specs.Handing.{Follows, AreAnswered, IsWorked}
+use Rattle.cwr_desk.specs.Items.{IsPlaced, item_of, items_of, calls_in, status_of}
 use Rattle.cwr_desk.specs.declared.reading.ReadRefused.{ReadRefused}
 use Rattle.cwr_desk.specs.declared.reading.ReadRefused.TheVariants as unread
 use Rattle.cwr_desk.specs.declared.outcome.FileOutcome.{FileOutcome}
 use Rattle.cwr_desk.specs.declared.outcome.FileOutcome.TheVariants.{Acked, Refused, Stopped}
-use Rattle.cwr_desk.specs.declared.outcome.Why.TheVariants.{Memory, Write}
+use Rattle.cwr_desk.specs.declared.outcome.Why.{Why}
+use Rattle.cwr_desk.specs.declared.outcome.Why.TheVariants.{Memory, Full, Read, TooLong, Gate, Write}
+use Rattle.cwr_desk.proofs.Answering.{Follows-none}
+use Rattle.cwr_desk.proofs.CallSizes.{few_faults, clean_sender}
+use Rattle.cwr_desk.proofs.FileSizes.{lines_in, few_lines, all_small}
+
+-- ---- what was read
+
+pub read_whole : (input : List ℕ) (file : File) (head : Header) (ts : List RawParts) (groups records : ℕ) → length input ≤ most → IsFile (lines input) file
+    → IsSubmission file head ts groups records → IsRead input head ts
+read_whole input file head ts groups records fits formed submission =
+    record { fits = fits; file = file; formed = formed; header = submission.header; found = submission.transactions }
+
+pub clean : (input : List ℕ) (head : Header) (ts : List RawParts) → IsRead input head ts → IsTrue (is_clean head.sender)
+clean input head ts read = clean_sender input read.file head read.formed read.header
+
+pub placed : (input : List ℕ) (head : Header) (ts : List RawParts) → IsRead input head ts → AllByRecursion IsPlaced ts
+placed input head ts read = subst (AllByRecursion IsPlaced) (sym read.found) (all_small 1 read.file.groups read.formed.groups)
+
+few_in_all : (input : List ℕ) (head : Header) (ts : List RawParts) → IsRead input head ts → lines_in ts ≤ 8388608
+few_in_all input head ts read =
+    let few = few_lines input read.file read.formed in
+    let same = ap lines_in read.found in
+    let fits : length input ≤ 16777216 = read.fits in
+    omega (arith, few, same, fits)
+
+each_has_lines : (ts : List RawParts) → AllByRecursion IsPlaced ts → length ts ≤ lines_in ts
+each_has_lines [] all = omega arith
+each_has_lines (t ∷ ts) all = let h = each_has_lines ts all.1 in let some = all.0.some in omega (arith, h, some)
+
+pub few_transactions : (input : List ℕ) (head : Header) (ts : List RawParts) → IsRead input head ts → length ts ≤ 8388608
+few_transactions input head ts read = let a = few_in_all input head ts read in let b = each_has_lines ts (placed input head ts read) in omega (arith, a, b)
+
+items_few : (ts : List RawParts) (made : List EntryValue) → length (items_of ts made) ≤ length ts
+items_few [] made = omega arith
+items_few (t ∷ ts) [] = omega arith
+items_few (t ∷ ts) (e ∷ made) = let h = items_few ts made in omega (arith, h)
+
+pub few_items : (session : ℕ) (submitter : List ℕ) (ts : List RawParts) (list list' : List EntryValue) (whole whole' : Option (List EntryValue)) (items : List Item)
+    → AreAnswered session submitter ts list list' whole whole' items → length items ≤ length ts
+few_items session submitter ts list list' whole whole' items so_far =
+    let few = items_few ts so_far.made in let same = ap length so_far.told in omega (arith, few, same)
+
+told_few : (rejected : Bool) (faults : List Fault) → length (cond rejected faults []) ≤ length faults
+told_few true faults = omega arith
+told_few false faults = omega arith
+
+told_in : (submitter : List ℕ) (ts : List RawParts) (made : List EntryValue) → AllByRecursion IsPlaced ts → calls_of made ≡ take (length made) (calls_in submitter ts)
+    → length (items_of ts made) + told_count (items_of ts made) ≤ 10 * lines_in ts
+told_in submitter [] made all is = omega arith
+told_in submitter (t ∷ ts) [] all is = omega arith
+told_in submitter (t ∷ ts) (e ∷ made) all is =
+    let own : e.call ≡ call_of submitter t = cc in
+    let others : calls_of made ≡ take (length made) (calls_in submitter ts) = cc in
+    let rest = told_in submitter ts made all.1 others in
+    let sum : told_count (item_of t e ∷ items_of ts made) ≡ length (told_faults (item_of t e)) + told_count (items_of ts made) =
+    sum_by-cons (λ (item : Item). length (told_faults item)) (item_of t e) (items_of ts made) in
+    let here : length (told_faults (item_of t e)) ≤ length e.call.faults = told_few (is_rejected (status_of e.reply)) e.call.faults in
+    let same : length e.call.faults ≡ length (call_of submitter t).faults = ap (λ (c : CallValue). length c.faults) own in
+    let few = few_faults submitter t all.0.some in
+    let some = all.0.some in
+    omega (arith, rest, sum, here, same, few, some)
+
+-- the acknowledgement of what was handed in has eight digits for its records
+pub few_told : (session : ℕ) (input : List ℕ) (head : Header) (ts : List RawParts) (list list' : List EntryValue) (whole whole' : Option (List EntryValue)) (items : List Item)
+    → IsRead input head ts → AreAnswered session head.sender ts list list' whole whole' items → length items + told_count items ≤ 99999995
+few_told session input head ts list list' whole whole' items read so_far =
+    let few = told_in head.sender ts so_far.made (placed input head ts read) so_far.calls in
+    let all = few_in_all input head ts read in
+    subst (λ (l : List Item). length l + told_count l ≤ 99999995) (sym so_far.told) (omega (arith, few, all))
+
+-- ---- what is known of the ends
 
 -- nothing was written
-Appends-nil : (taken : Option (List ℕ)) → Appends taken taken []
+pub Appends-nil : (taken : Option (List ℕ)) → Appends taken taken []
 Appends-nil None = tt
 Appends-nil (Some bytes) = sym (append-nil bytes)
 
@@ -43,108 +124,111 @@ long_input : (left : Option (List ℕ)) (n : ℕ) → IfSome left (λ bytes. n <
 long_input None n h = let r = too_many n in (r.0, tt, r.1)
 long_input (Some bytes) n h = (bytes, refl, h)
 
-module _ (read_failed write_failed : Bool) (stamp : StampParts) (left taken : Option (List ℕ)) where
-  -- a job that decided nothing and wrote nothing
-  pub nothing_decided : (outcome : FileOutcome) (input : List ℕ) → Gives left input
-      → Account (record { read_failed = read_failed; write_failed = write_failed; full = false; may_shut = false }) stamp input outcome [] []
-      → IsAcknowledged read_failed write_failed stamp left taken taken outcome
-  nothing_decided outcome input given account = record {
-    items = [];
+-- ---- a job that handed nothing in
+
+module _ (session : ℕ) (s : Signs) (stamp : StampParts) (left taken : Option (List ℕ)) (list : List EntryValue) (whole : Option (List EntryValue)) where
+  nothing_made : (outcome : FileOutcome) (input : List ℕ) → Gives left input → Account s stamp input outcome [] []
+      → IsWorked session s stamp left taken taken outcome list list whole whole
+  nothing_made outcome input given account = record {
+    made = [];
+    grown = sym (append-nil list);
+    follows = Follows-none session whole;
     account = record { input = input; written = []; given = given; appended = Appends-nil taken; account = account };
   }
 
-  -- a job whose file was not read
-  pub not_read : (why : ReadRefused) → (why ≡ unread.TooLong → IfSome left (λ bytes. most < length bytes)) → (why ≡ unread.Read → read_failed ≡ true)
-      → IsAcknowledged read_failed write_failed stamp left taken taken (Stopped 0 (cause_of why))
+  -- its file was not read
+  pub not_read : (why : ReadRefused) → (why ≡ unread.TooLong → IfSome left (λ bytes. most < length bytes)) → (why ≡ unread.Read → s.read_failed ≡ true)
+      → IsWorked session s stamp left taken taken (Stopped 0 (cause_of why)) list list whole whole
   not_read unread.Memory long failed =
-      let i = some_input left in nothing_decided (Stopped 0 Memory) i.0 i.1 (refl, (refl, λ h. absurd (omega arith)))
-  not_read unread.Read long failed = let i = some_input left in nothing_decided (Stopped 0 (cause_of unread.Read)) i.0 i.1 (refl, (refl, refl, failed refl))
+      let i = some_input left in nothing_made (Stopped 0 Memory) i.0 i.1 (refl, (refl, λ h. absurd (omega arith)))
+  not_read unread.Read long failed = let i = some_input left in nothing_made (Stopped 0 (cause_of unread.Read)) i.0 i.1 (refl, (refl, refl, failed refl))
   not_read unread.TooLong long failed =
-      let i = long_input left most (long refl) in nothing_decided (Stopped 0 (cause_of unread.TooLong)) i.0 i.1 (refl, (refl, refl, i.2))
+      let i = long_input left most (long refl) in nothing_made (Stopped 0 (cause_of unread.TooLong)) i.0 i.1 (refl, (refl, refl, i.2))
 
--- a job whose file has a fault
-pub refused : (read_failed write_failed : Bool) (stamp : StampParts) (left taken : Option (List ℕ)) (input : List ℕ) (number line : ℕ)
-    → IfSome left (λ bytes. input ≡ bytes) → length input ≤ most → IsLeastFault (lines input) line number
-    → IsAcknowledged read_failed write_failed stamp left taken taken (Refused number line)
-refused read_failed write_failed stamp left taken input number line given fits fault =
-    nothing_decided read_failed write_failed stamp left taken (Refused number line) input (given_whole left input given)
-    (record { fits = fits; cause = inl fault }, refl, refl)
+  -- there was no memory before the first transaction
+  pub not_begun : IsWorked session s stamp left taken taken (Stopped 0 Memory) list list whole whole
+  not_begun = let i = some_input left in nothing_made (Stopped 0 Memory) i.0 i.1 (refl, (refl, λ h. absurd (omega arith)))
 
--- a job whose file was read: it is thin
-module _ (read_failed write_failed : Bool) (stamp : StampParts) (left taken : Option (List ℕ)) (input : List ℕ) (file : File) (head : Header)
-    (found : List RawParts) (groups records : ℕ) (given : IfSome left (λ bytes. input ≡ bytes)) (fits : length input ≤ most)
-    (formed : IsFile (lines input) file) (submission : IsSubmission file head found groups records) where
-  same_thin : (b : Bool) → is_thin groups found ≡ b → is_thin_file file ≡ b
-  same_thin b e = rw (← submission.groups, ← submission.transactions) e
+-- ---- a job that handed transactions of a file in
 
-  -- a well-formed file that is not acknowledged so far
-  pub left_out : is_thin groups found ≡ false → IsAcknowledged read_failed write_failed stamp left taken taken (Refused 0 0)
-  left_out e =
-      nothing_decided read_failed write_failed stamp left taken (Refused 0 0) input (given_whole left input given) (
-        record {
-          fits = fits;
-          cause = inr (record { file = file; formed = formed; not_thin = same_thin false e; number = refl; nowhere = refl });
-        },
-        refl,
-        refl,
-      )
+module _ (session : ℕ) (s : Signs) (stamp : StampParts) (left taken after : Option (List ℕ)) (list list' : List EntryValue) (whole whole' : Option (List EntryValue))
+    (input : List ℕ) (head : Header) (ts : List RawParts) (items : List Item) (given : IfSome left (λ bytes. input ≡ bytes)) (read : IsRead input head ts)
+    (so_far : AreAnswered session head.sender ts list list' whole whole' items) (n : ℕ) (count : n ≡ length items) where
+  ended : (outcome : FileOutcome) (written : List ℕ) → Appends taken after written → Account s stamp input outcome written so_far.made
+      → IsWorked session s stamp left taken after outcome list list' whole whole'
+  ended outcome written appended account = record {
+    made = so_far.made;
+    grown = so_far.grown;
+    follows = so_far.follows;
+    account = record { input = input; written = written; given = given_whole left input given; appended = appended; account = account };
+  }
 
-  module _ (work : List ℕ) (thin : is_thin groups found ≡ true) (first : work ≡ first_header found) where
-    whole : (items : List Item) → items ≡ thin_item work ∷ [] → IsDecided input head items
-    whole items e = record {
-      file = file;
-      fits = fits;
-      formed = formed;
-      thin = same_thin true thin;
-      header = submission.header;
-      decisions = e ∙ ap (λ line. thin_item line ∷ []) (first ∙ ap first_header submission.transactions);
-    }
+  handed : n ≡ length so_far.made
+  handed = count ∙ so_far.count
 
-    -- memory was refused for the acknowledgement
-    pub no_text : IsAcknowledged read_failed write_failed stamp left taken taken (Stopped 1 Memory)
-    no_text = record {
-      items = thin_item work ∷ [];
-      account = record {
-        input = input;
-        written = [];
-        given = given_whole left input given;
-        appended = Appends-nil taken;
-        account = (refl, (refl, λ h. record { head = head; all = thin_item work ∷ []; decided = whole _ refl; first = refl }));
-      };
-    }
+  -- a transaction got no reply
+  pub handed_some : (why : Why) → Appends taken after [] → length items < length ts → IsCause s.full s.may_shut why
+      → IsWorked session s stamp left taken after (Stopped n why) list list' whole whole'
+  handed_some Memory none some cause =
+      ended (Stopped n Memory) [] none (handed, (refl, λ _. record { head = head; transactions = ts; read = read; calls = so_far.calls }))
+  handed_some Full none some cause =
+      ended (Stopped n Full) [] none (handed, (refl, record { head = head; transactions = ts; read = read; calls = so_far.calls; further = let c = so_far.count in omega (arith, c, some) }, cause))
+  handed_some Gate none some cause =
+      ended (Stopped n Gate) [] none (handed, (refl, record { head = head; transactions = ts; read = read; calls = so_far.calls; further = let c = so_far.count in omega (arith, c, some) }, cause))
+  handed_some Read none some cause = absurd cause
+  handed_some TooLong none some cause = absurd cause
+  handed_some (Write sent) none some cause = absurd cause
 
-    module _ (taken_after : Option (List ℕ)) (items : List Item) (text : List ℕ) (decided : items ≡ thin_item work ∷ [])
-        (is : text ≡ ack_text stamp head items) where
-      pub acked : Appends taken taken_after text → IsAcknowledged read_failed write_failed stamp left taken taken_after (Acked 1)
-      acked appends = record {
-        items = items;
-        account = record {
-          input = input;
-          written = text;
-          given = given_whole left input given;
-          appended = appends;
-          account = record { head = head; decided = whole items decided; transactions = sym (ap length decided); text = is };
-        };
-      }
+  -- all got replies, and then there was no memory for the acknowledgement
+  pub no_text : Appends taken after [] → IsWorked session s stamp left taken after (Stopped n Memory) list list' whole whole'
+  no_text none =
+      ended (Stopped n Memory) [] none (handed, (refl, λ _. record { head = head; transactions = ts; read = read; calls = so_far.calls }))
 
-      pub cut_off : (sent : ℕ) → Appends taken taken_after (take sent text) → sent < length text → write_failed ≡ true
-          → IsAcknowledged read_failed write_failed stamp left taken taken_after (Stopped 1 (Write sent))
-      cut_off sent appends fewer failed = record {
-        items = items;
-        account = record {
-          input = input;
-          written = take sent text;
-          given = given_whole left input given;
-          appended = appends;
-          account = (
-            sym (ap length decided),
-            record {
-              head = head;
-              decided = whole items decided;
-              stopped = failed;
-              fewer = let e = ap length is in omega arith;
-              front = ap (take sent) is;
-            },
-          );
-        };
-      }
+  module _ (text : List ℕ) (all : length items ≡ length ts) (is : text ≡ ack_text stamp head items) where
+    all_calls : calls_of so_far.made ≡ calls_in head.sender ts
+    all_calls =
+        let c = so_far.count in
+        let m = length-map ts (call_of head.sender) in
+        let long : length so_far.made ≡ length (calls_in head.sender ts) = omega (arith, c, all, m) in
+        so_far.calls ∙ (ap (λ k. take k (calls_in head.sender ts)) long ∙ take-length (calls_in head.sender ts))
+
+    told : text ≡ ack_text stamp head (items_of ts so_far.made)
+    told = is ∙ ap (ack_text stamp head) so_far.told
+
+    pub acked : Appends taken after text → IsWorked session s stamp left taken after (Acked n) list list' whole whole'
+    acked sent =
+        ended (Acked n) text sent (record { head = head; transactions = ts; read = read; calls = all_calls; transaction_count = handed; text = told })
+
+    pub cut_off : (k : ℕ) → Appends taken after (take k text) → k < length text → s.write_failed ≡ true
+        → IsWorked session s stamp left taken after (Stopped n (Write k)) list list' whole whole'
+    cut_off k sent fewer failed =
+        ended (Stopped n (Write k)) (take k text) sent (
+          handed,
+          record {
+            head = head;
+            transactions = ts;
+            read = read;
+            calls = all_calls;
+            stopped = failed;
+            fewer = let e = ap length told in omega (arith, e, fewer);
+            front = ap (take k) told;
+          },
+        )
+
+-- an account of a time at which the history was full is one of any later time
+pub account_full : (read_failed write_failed may_shut a b : Bool) (stamp : StampParts) (left taken after : Option (List ℕ)) (o : FileOutcome) (made : List EntryValue)
+    → (a ≡ true → b ≡ true)
+    → IsAccount (record { read_failed = read_failed; write_failed = write_failed; full = a; may_shut = may_shut }) stamp left taken after o made
+    → IsAccount (record { read_failed = read_failed; write_failed = write_failed; full = b; may_shut = may_shut }) stamp left taken after o made
+account_full read_failed write_failed may_shut a b stamp left taken after o made h r =
+    record { input = r.input; written = r.written; given = r.given; appended = r.appended; account = by o r.account } where
+      by : (o : FileOutcome) → Account (record { read_failed = read_failed; write_failed = write_failed; full = a; may_shut = may_shut }) stamp r.input o r.written made
+          → Account (record { read_failed = read_failed; write_failed = write_failed; full = b; may_shut = may_shut }) stamp r.input o r.written made
+      by (Acked n) x = x
+      by (Refused fault line) x = x
+      by (Stopped n Memory) x = x
+      by (Stopped n Full) x = (x.0, (x.1.0, x.1.1, h x.1.2))
+      by (Stopped n Gate) x = x
+      by (Stopped n Read) x = x
+      by (Stopped n TooLong) x = x
+      by (Stopped n (Write sent)) x = x

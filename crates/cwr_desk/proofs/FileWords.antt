@@ -1,5 +1,5 @@
 -- Words that name files, and words of a fixed width.
-use Rattle.std.proofs.Common.{◌≡◌, ◌∙◌, ℕ, Bool, true, false, List, [], ◌∷◌, ◌++◌, length, replicate, refl, sym, ap, bytes_eq, Option, arith}
+use Rattle.std.proofs.Common.{◌≡◌, ◌∙◌, ℕ, Bool, true, false, List, ◌++◌, length, replicate, refl, sym, ap, bytes_eq, Option, arith}
 use Rattle.std.specs.Prelude.{◌&&◌, ◌==◌, codes, is_some}
 use Rattle.std.proofs.Math.Seq.{take-append_seam}
 use Rattle.std.proofs.lemmas.Bool.Decides.{same_from_decides, nat_tests}

@@ -1,5 +1,10 @@
+pub mod FileSizes
+pub mod CallSizes
+pub mod Answering
 pub mod Accounts
-pub mod ThinFiles
 pub mod CheckSteps
 pub mod ParsedFiles
 pub mod FileWords
+pub mod Turns
+pub mod Runs
+pub mod SeatTurns

@@ -1,7 +1,6 @@
 -- No byte of a well-formed file's submitter is below 32.
 use Rattle.std.proofs.Common.{◌≡◌, ◌∙◌, ℕ, ◌-◌, Bool, true, false, List, [], ◌∷◌, ◌++◌, take, drop, refl, sym, ap, arith, zero, suc}
 use Rattle.std.specs.Prelude.{◌&&◌, ◌||◌, replicate, nat_lt, nat_le}
-use Rattle.std.specs.List.{list_all}
 use Rattle.std.proofs.lemmas.Bool.{false≢true}
 use Rattle.std.proofs.lemmas.Bool.Decides.{nat_tests}
 use Rattle.std.proofs.lemmas.List.{take-append-drop}

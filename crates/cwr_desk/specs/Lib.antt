@@ -1,6 +1,8 @@
 pub mod OutcomeText
-pub mod ThinFile
+pub mod Items
 pub mod Account
 pub mod Causes
 pub mod CheckText
 pub mod RunFault
+pub mod Handing
+pub mod Whole

@@ -1,58 +1,154 @@
-ghost use Rattle.std.specs.Prelude.{◌≡◌, ◌∷◌, [], false, true, IfOk, IfErr};
-ghost use Rattle.cwr_desk.specs.Account.{IsAcknowledged, thin_item};
-ghost use Rattle.cwr_desk.specs.Causes.{cause_of};
+//! One job, at a window.
+ghost use Rattle.std.specs.Prelude.{◌≡◌, ◌<◌, ◌≤◌, ◌^◌, ℕ, Bool, List, [], Option, false, length, vec_capacity, IsTrue, IfSome, OnOk, OnErr, IfErr};
+ghost use Rattle.cwr_desk.specs.Account.{IsRead};
+ghost use Rattle.std.specs.List.{AllByRecursion};
+ghost use Rattle.cwr_file.specs.Acknowledgement.{FitsItem};
+ghost use Rattle.cwr_rules.specs.Lawful.{is_clean};
+ghost use Rattle.cwr_desk.specs.Causes.{cause_of, IsCause};
+ghost use Rattle.cwr_desk.specs.Handing.{AreAnswered, IsWorked};
+ghost use Rattle.cwr_desk.specs.Items.{IsPlaced};
 
+use crate::decision::{Turn, decide};
+use crate::gates::Gate;
 use crate::outcome::{FileOutcome, Why};
-use crate::reading::{ReadRefused, read_file};
-use crate::thin::thin_work;
-use cwr_field::cut;
+use crate::reading::{MOST_BYTES, ReadRefused, read_file};
+use crate::window::Window;
 use cwr_file::{
-    AckItem, Faults, FileRefusal, Sink, Source, Status, ack_file, parse_file, write_out,
+    AckItem, FileRefusal, Sink, Source, Stamp, Submission, ack_file, parse_file, write_out,
 };
-use cwr_record::{Stamp, WorkKind};
-use std::alloc::{AllocError, Allocator};
+use std::alloc::Allocator;
+use work_registry::Call;
 
-/// The most bytes that a file may have.
-const MOST: usize = 16_777_216;
-
-/// Acknowledges one file into an empty registry.
-///
-/// Reads the file to its end, decides its transactions and writes their acknowledgement. A file that is not
-/// well-formed is answered with its first fault. So far a well-formed file is acknowledged only where it holds one
-/// new work of one writer who owns all of it, and any other is answered as fault 0 at line 0.
-pub fn acknowledge<R: Source, W: Sink, A: Allocator + Copy + Drop>(
+/// Hands in the transactions of a file in order, and keeps an item for each reply.
+fn hand_in_all<H: Window<Call<A>>, G: Gate, A: Allocator + Copy + Drop>(
     alloc: A,
+    mut window: H,
+    gate: &G,
+    worker: u32,
+    file: &Submission<A>,
+    items: &mut Vec<AckItem<A>, A>,
+) -> (H, Result<(), Why>)
+    requires none { items.old.items ≡ [] }
+    requires room { length file.now.transactions ≤ vec_capacity items.old }
+    requires few { length file.now.transactions < 2 ^ 32 }
+    requires turns { length file.now.transactions ≤ H.turns_left window }
+    requires clean { IsTrue (is_clean file.now.header.sender) }
+    requires placed { AllByRecursion IsPlaced file.now.transactions }
+    ensures session { H.session result.0 ≡ H.session window }
+    ensures limit { H.limit result.0 ≡ H.limit window }
+    ensures home { H.home result.0 ≡ H.home window }
+    ensures answered { AreAnswered (H.session window) file.now.header.sender file.now.transactions (H.list window) (H.list result.0)
+        (H.whole window) (H.whole result.0) items.new.items }
+    ensures fit { AllByRecursion FitsItem items.new.items }
+    ensures all { OnOk result.1 (length items.new.items ≡ length file.now.transactions) }
+    ensures some { OnErr result.1 (length items.new.items < length file.now.transactions) }
+    ensures why { IfErr result.1 (IsCause (H.marked result.0) (G.may_shut gate.now)) }
+{
+    for (index, transaction) in file.transactions.iter().enumerate() {
+        let index = index as u32;
+        let turn = Turn {
+            worker,
+            index,
+            submitter: file.header.sender,
+        };
+        let (next, item) = decide(alloc, window, gate, turn, &transaction);
+        window = next;
+        match item {
+            Ok(item) => {
+                let Ok(()) = items.push(item) else {
+                    unreachable!()
+                };
+            }
+            Err(why) => return (window, Err(why)),
+        }
+    }
+    (window, Ok(()))
+}
+
+/// Hands the transactions of a well-formed file in at the window, and writes their acknowledgement.
+///
+/// A transaction that gets no reply ends the job. The list of items is reserved before the first one is handed in.
+fn work_submission<H: Window<Call<A>>, G: Gate, W: Sink, A: Allocator + Copy + Drop>(
+    alloc: A,
+    window: H,
+    gate: &G,
+    worker: u32,
+    file: &Submission<A>,
+    writer: &mut W,
+    stamp: &Stamp,
+) -> (H, FileOutcome)
+    requires writes { W.has_failed writer.old ≡ false }
+    requires turns { 99999995 ≤ H.turns_left window }
+    requires read { (input : List ℕ) × IsRead input file.now.header file.now.transactions }
+    ensures session { H.session result.0 ≡ H.session window }
+    ensures limit { H.limit result.0 ≡ H.limit window }
+    ensures home { H.home result.0 ≡ H.home window }
+    ensures worked { (left : Option (List ℕ)) (input : List ℕ) (read_failed : Bool)
+        → IfSome left (λ bytes. input ≡ bytes) → IsRead input file.now.header file.now.transactions
+        → IsWorked (H.session window)
+        (record { read_failed = read_failed; write_failed = W.has_failed writer.new; full = H.marked result.0; may_shut = G.may_shut gate.now })
+        stamp.now left (W.taken writer.old) (W.taken writer.new) result.1 (H.list window) (H.list result.0) (H.whole window) (H.whole result.0) }
+{
+    let Ok(mut items) = Vec::with_capacity(alloc, file.transactions.len()) else {
+        return (window, stopped(0, Why::Memory));
+    };
+    let (window, done) = hand_in_all(alloc, window, gate, worker, file, &mut items);
+    let handed = items.len() as u32;
+    if let Err(why) = done {
+        return (window, stopped(handed, why));
+    }
+    let Ok(answer) = ack_file(alloc, stamp, &file.header, &items) else {
+        return (window, stopped(handed, Why::Memory));
+    };
+    match write_out(writer, &answer) {
+        Ok(()) => (window, acked(handed)),
+        Err(cut) => (window, stopped(handed, Why::Write { sent: cut.sent })),
+    }
+}
+
+/// Reads a file, hands its transactions in at the window, and writes their acknowledgement.
+pub(crate) fn work_file<
+    H: Window<Call<A>>,
+    G: Gate,
+    R: Source,
+    W: Sink,
+    A: Allocator + Copy + Drop,
+>(
+    alloc: A,
+    window: H,
+    gate: &G,
+    worker: u32,
     reader: &mut R,
     writer: &mut W,
     stamp: &Stamp,
-) -> FileOutcome
+) -> (H, FileOutcome)
     requires reads { R.has_failed reader.old ≡ false }
     requires writes { W.has_failed writer.old ≡ false }
-    ensures { IsAcknowledged (R.has_failed reader.new) (W.has_failed writer.new) stamp.now (R.left reader.old)
-        (W.taken writer.old) (W.taken writer.new) result }
+    requires turns { 99999995 ≤ H.turns_left window }
+    ensures session { H.session result.0 ≡ H.session window }
+    ensures limit { H.limit result.0 ≡ H.limit window }
+    ensures home { H.home result.0 ≡ H.home window }
+    ensures worked { IsWorked (H.session window)
+        (record { read_failed = R.has_failed reader.new; write_failed = W.has_failed writer.new; full = H.marked result.0; may_shut = G.may_shut gate.now })
+        stamp.now (R.left reader.old) (W.taken writer.old) (W.taken writer.new) result.1 (H.list window) (H.list result.0) (H.whole window) (H.whole result.0) }
 {
-    let text = match read_file(alloc, reader, MOST) {
+    let text = match read_file(alloc, reader, MOST_BYTES) {
         Ok(text) => text,
-        Err(unread) => return stopped(0, cause(unread)),
+        Err(unread) => return (window, stopped(0, cause(unread))),
     };
-    let file = match parse_file(alloc, &text) {
-        Ok(file) => file,
-        Err(FileRefusal::Fault { number, line }) => return FileOutcome::Refused { number, line },
-        Err(FileRefusal::Memory) => return stopped(0, Why::Memory),
-    };
-    let Some(work) = thin_work(&file) else {
-        return FileOutcome::Refused { number: 0, line: 0 };
-    };
-    let Ok(items) = decide(alloc, work) else {
-        return stopped(0, Why::Memory);
-    };
-    let Ok(answer) = ack_file(alloc, stamp, &file.header, &items) else {
-        return stopped(1, Why::Memory);
-    };
-    match write_out(writer, &answer) {
-        Ok(()) => FileOutcome::Acked { transactions: 1 },
-        Err(cut) => stopped(1, Why::Write { sent: cut.sent }),
+    match parse_file(alloc, &text) {
+        Ok(file) => work_submission(alloc, window, gate, worker, &file, writer, stamp),
+        Err(FileRefusal::Fault { number, line }) => {
+            (window, FileOutcome::Refused { number, line })
+        }
+        Err(FileRefusal::Memory) => (window, stopped(0, Why::Memory)),
     }
+}
+
+fn acked(transactions: u32) -> FileOutcome
+    ensures { result ≡ FileOutcome.Acked transactions }
+{
+    FileOutcome::Acked { transactions }
 }
 
 fn stopped(handed: u32, why: Why) -> FileOutcome
@@ -70,22 +166,4 @@ fn cause(unread: ReadRefused) -> Why
         ReadRefused::Read => Why::Read,
         ReadRefused::TooLong => Why::TooLong,
     }
-}
-
-/// The decision on the one transaction of a thin file, whose header is the line.
-fn decide<A: Allocator + Copy>(alloc: A, work: &[u8]) -> Result<Vec<AckItem<A>, A>, AllocError>
-    ensures { IfOk result (λ items. items.items ≡ thin_item work.now ∷ []) }
-{
-    let mut items = Vec::with_capacity(alloc, 1)?;
-    items.push(AckItem {
-        group: 1,
-        sequence: 0,
-        kind: WorkKind::Nwr,
-        title: cut(work, 20, 60).bytes(),
-        number: cut(work, 82, 14).bytes(),
-        status: Status::Accepted,
-        work: Some(1),
-        faults: Faults::new(Vec::new(alloc)),
-    })?;
-    Ok(items)
 }

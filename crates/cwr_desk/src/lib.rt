@@ -1,31 +1,48 @@
 //! The registry's desk: files are read, decided and acknowledged.
 #![tactic(auto)]
 
+mod at_desk;
 mod check_lines;
 mod checking;
 mod command_line;
+mod decision;
 mod engine;
 #[cfg(test)]
 mod fake;
 #[cfg(test)]
 mod fake_files;
 mod files;
+mod gates;
+mod in_turn;
+mod jobs;
 mod lines;
+mod one_file;
 mod outcome;
 mod program;
 mod reading;
 mod run_words;
+mod serving;
 #[cfg(test)]
 mod tests;
-mod thin;
+mod window;
 mod words;
+mod working;
 
 pub use checking::{Checked, check_text};
 pub use cwr_field::Memory;
 pub use cwr_file::{Failed, Feed, Room, Sink, Source, Stamp, Through};
-pub use engine::acknowledge;
+pub use gates::{Gate, OpenGate, Shut};
+pub use in_turn::serve_in_turn;
+pub use jobs::{Job, Run, ServeRefused};
 pub use lines::outcome_line;
+pub use one_file::acknowledge;
 pub use outcome::{FileOutcome, Why};
 pub use program::run_program;
 pub use reading::{ReadRefused, read_file};
+pub use registry_desk::{Desk, Seat};
+pub use serving::serve;
 pub use words::{RunFault, run_fault};
+pub use work_registry::{
+    Book, Call, Claim, Entry, Fault, Faults, Refused, Reply, WhyRefused, WorkKind,
+};
+pub use working::work;

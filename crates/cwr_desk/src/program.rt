@@ -1,8 +1,8 @@
 use crate::checking::{Checked, check_text};
 use crate::command_line::command_line;
-use crate::engine::acknowledge;
 use crate::files::InputFile;
 use crate::lines::outcome_line;
+use crate::one_file::acknowledge;
 use crate::outcome::FileOutcome;
 use crate::reading::{MOST_BYTES, read_file};
 use clap::ArgMatches;

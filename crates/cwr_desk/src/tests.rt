@@ -1,4 +1,10 @@
 //! Files of the profile, and what becomes of each.
+
+mod decided;
+mod sheets;
+mod threads;
+mod turns;
+
 ghost use Rattle.std.specs.Prelude.{◌≡◌, None, false, IfOk};
 
 mod checks;
@@ -155,27 +161,6 @@ fn refuses_a_file_with_its_first_fault(rt: HostRuntime) -> Result<(), Fail> {
 }
 
 #[test]
-fn leaves_out_other_well_formed_files(rt: HostRuntime) -> Result<(), Fail> {
-    let alloc = rt.alloc();
-    let less: Line = &[
-        (b"SWR0000000000000001000000001DOE", 104),
-        (b"CA", 25),
-        (b"09999", 8),
-        (b"10000", 8),
-        (b"10000", 5),
-    ];
-    let no_group: Line = &[(b"TRL000000000000000000002", 24)];
-    for lines in [
-        [HEADER, GROUP, WORK, less, GROUP_TRAILER, FILE_TRAILER].as_slice(),
-        [HEADER, no_group].as_slice(),
-    ] {
-        let outcome = outcome_of(&rt, alloc, lines)?;
-        assert_eq!(rt; outcome, FileOutcome::Refused { number: 0, line: 0 });
-    }
-    Ok(())
-}
-
-#[test]
 fn stops_where_a_write_fails(rt: HostRuntime) -> Result<(), Fail> {
     let alloc = rt.alloc();
     let wanted = text(&rt, alloc, &ACKNOWLEDGEMENT, b"\r\n")?;
@@ -274,11 +259,6 @@ fn tells_outcomes(rt: HostRuntime) -> Result<(), Fail> {
             "a.v22",
             FileOutcome::Refused { number: 9, line: 5 },
             "a.v22: refused F9 at line 5\n",
-        ),
-        (
-            "-",
-            FileOutcome::Refused { number: 0, line: 0 },
-            "-: refused F0 at line 0\n",
         ),
         ("-", stopped(0, Why::Memory), "-: stopped after 0: memory\n"),
         ("-", stopped(2, Why::Full), "-: stopped after 2: full\n"),

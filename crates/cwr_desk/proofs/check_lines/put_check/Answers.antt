@@ -1,7 +1,7 @@
 use Rattle.std.proofs.Common.{◌∙◌, ◌++◌, sym}
 use Rattle.std.specs.List.{flat_map}
 use Rattle.cwr_desk.specs.CheckText.{transaction_line, faulty_count}
-use Rattle.cwr_desk.proofs.CheckSteps.{transaction_more, counted_faulty, counted_clean}
+use Rattle.cwr_desk.proofs.CheckSteps.{transaction_more, counted_clean}
 use Rattle.cwr_desk.proofs.check_lines.put_check.Goals as goal
 
 pub loop-transaction-preserved : goal.loop-transaction-preserved

@@ -1,0 +1,85 @@
+-- Jobs that were worked at one desk, once all seats were met.
+use Rattle.std.proofs.Common.{◌≡◌, ◌∙◌, ℕ, zero, suc, ◌+◌, ◌<◌, ◌≤◌, Bool, true, false, nat_le, List, [], ◌∷◌, ◌++◌, All, length, reverse, refl, sym, ap, subst, arith, length-append}
+use Rattle.std.proofs.lemmas.Bool.Decides.{nat_tests}
+use Rattle.std.proofs.lemmas.List.{reverse-append, reverse-reverse}
+use mathlib.Core.Option.{some}
+use lib.ListN.{get_elem?}
+use Rattle.work_registry.specs.BookValue.{BookValue}
+use Rattle.work_registry.specs.EntryValue.{EntryValue}
+use Rattle.work_registry.specs.Replay.{made}
+use Rattle.registry_desk.specs.declared.view.Met.{Met}
+use Rattle.registry_desk.specs.declared.view.View.{View}
+use Rattle.registry_desk.specs.Closing.{Closes}
+use Rattle.registry_desk.specs.Rule.{MetFits}
+use Rattle.cwr_desk.specs.declared.outcome.FileOutcome.{FileOutcome}
+use Rattle.cwr_desk.specs.Whole.{Ran, Accounts, is_full, IsRun}
+
+reverse-last : {A : Type 0} (xs : List A) (x : A) → reverse (xs ++ x ∷ []) ≡ x ∷ reverse xs
+reverse-last xs x = reverse-append xs (x ∷ [])
+
+-- as many seats were met as there are jobs
+pub Ran-length : {J : Type 0} (P : J → J → FileOutcome → Bool → List EntryValue → Type 0) (session : ℕ) (js ks : List J) (os : List FileOutcome) (before after : List Met)
+    → Ran P session js ks os before after → length after ≡ length before + length js
+Ran-length P session [] [] [] before after r = let e = ap length r in omega arith
+Ran-length P session [] [] (o ∷ os) before after r = absurd r
+Ran-length P session [] (k ∷ ks) os before after r = absurd r
+Ran-length P session (j ∷ js) [] os before after r = absurd r
+Ran-length P session (j ∷ js) (k ∷ ks) [] before after r = absurd r
+Ran-length P session (j ∷ js) (k ∷ ks) (o ∷ os) before after r =
+    let e = Ran-length P (session + 1) js ks os before r.0 r.2 in let a = ap length r.3 in let b = length-append r.0 (r.1 ∷ []) in omega arith
+
+module _ {J : Type 0} (P : J → J → FileOutcome → Bool → List EntryValue → Type 0) where
+  -- the last job of the list was given its seat first
+  pub Ran-last : (session : ℕ) (js ks js' ks' : List J) (j k : J) (os os' : List FileOutcome) (o : FileOutcome) (before between after : List Met) (m : Met)
+      (session' : ℕ) (before' : List Met) → session' ≡ session → before' ≡ before → js' ≡ js ++ j ∷ [] → ks' ≡ ks ++ k ∷ [] → os' ≡ os ++ o ∷ []
+      → Ran P (session' + 1) (reverse js) (reverse ks) (reverse os) before' between → after ≡ between ++ m ∷ [] → m.session ≡ session
+      → P j k o m.marked m.list → Ran P session (reverse js') (reverse ks') (reverse os') before after
+  Ran-last session js ks js' ks' j k os os' o before between after m session' before' es eb ej ek eo rest is own account =
+      let rest' : Ran P (session + 1) (reverse js) (reverse ks) (reverse os) before between =
+      subst (λ (z : ℕ × List Met). Ran P (z.0 + 1) (reverse js) (reverse ks) (reverse os) z.1 between) (λ i. (es i, eb i)) rest in
+      rw (ej, ek, eo, reverse-last js j, reverse-last ks k, reverse-last os o) (between, m, rest', is, own, account)
+
+  -- the lists as they were before they were turned round
+  pub Ran-whole : (given : ℕ) (js ks js' ks' : List J) (os os' : List FileOutcome) (before after : List Met) → js' ≡ reverse js → ks ≡ reverse ks' → os ≡ reverse os'
+      → given ≡ 0 → before ≡ [] → Ran P (given + 1) (reverse js') (reverse ks') (reverse os') before after → Ran P 1 js ks os [] after
+  Ran-whole given js ks js' ks' os os' before after ej ek eo eg eb r =
+      let j : reverse js' ≡ js = ap reverse ej ∙ reverse-reverse js in
+      subst (λ (z : ℕ × List J × List J × List FileOutcome × List Met). Ran P (z.0 + 1) z.1 z.2 z.3 z.4 after) (λ i. (eg i, j i, sym ek i, sym eo i, eb i)) r
+
+  at_end : (ms : List Met) (m : Met) → get_elem? (ms ++ m ∷ []) (length ms) ≡ some m
+  at_end [] m = refl
+  at_end (x ∷ xs) m = at_end xs m
+
+  at_before : (ms ns : List Met) (i : ℕ) (m : Met) → get_elem? ms i ≡ some m → get_elem? (ms ++ ns) i ≡ some m
+  at_before [] ns i m e = absurd (let f = e in cc)
+  at_before (x ∷ xs) ns zero m e = e
+  at_before (x ∷ xs) ns (suc i) m e = at_before xs ns i m e
+
+  module _ (mono : (j k : J) (o : FileOutcome) (a b : Bool) (l : List EntryValue) → (a ≡ true → b ≡ true) → P j k o a l → P j k o b l) (h : BookValue) where
+    settles : (session : ℕ) (js ks : List J) (os : List FileOutcome) (before after : List Met) → Ran P session js ks os before after
+        → ((i : ℕ) (m : Met) → get_elem? after i ≡ some m → MetFits h.history h.limit m) → Accounts P h.history (is_full h) session js ks os
+    settles session [] [] [] before after r fits = tt
+    settles session [] [] (o ∷ os) before after r fits = absurd r
+    settles session [] (k ∷ ks) os before after r fits = absurd r
+    settles session (j ∷ js) [] os before after r fits = absurd r
+    settles session (j ∷ js) (k ∷ ks) [] before after r fits = absurd r
+    settles session (j ∷ js) (k ∷ ks) (o ∷ os) before after r fits =
+        let between : List Met = r.0 in let m : Met = r.1 in
+        let fits' : (i : ℕ) (n : Met) → get_elem? (between ++ m ∷ []) i ≡ some n → MetFits h.history h.limit n = λ i n e. fits i n (ap (λ l. get_elem? l i) r.3 ∙ e) in
+        let f = fits' (length between) m (at_end between m) in
+        let full : m.marked ≡ true → is_full h ≡ true = λ e. (let w = f.mark e in grind (arith, nat_tests)) in (
+          subst (λ l. P j k o (is_full h) l) (sym (ap (made h.history) (sym r.4) ∙ f.list)) (mono j k o m.marked (is_full h) m.list full r.5),
+          settles (session + 1) js ks os before between r.2 (λ i n e. fits' i n (at_before between (m ∷ []) i n e)),
+        )
+
+    pub whole_run : (b : BookValue) (v : View) (js ks : List J) (os : List FileOutcome) → Closes v h → v.opened ≡ b.history → v.limit ≡ b.limit → v.given ≡ length js
+        → Ran P 1 js ks os [] v.met → IsRun P b h js ks os
+    whole_run b v js ks os closed opened limit given ran = record {
+      registry = closed.registry;
+      bounded = closed.bounded;
+      limit = closed.limit ∙ limit;
+      added = closed.added;
+      grown = closed.grown ∙ ap (λ l. l ++ closed.added) opened;
+      sessions = subst (λ n. All (λ e. (1 ≤ e.session) × (e.session ≤ n)) closed.added) given closed.sessions;
+      accounts = settles 1 js ks os [] v.met ran closed.met;
+    }

@@ -1,0 +1,121 @@
+//! One transaction of a file: judged, handed in, and told.
+ghost use Rattle.std.specs.Prelude.{◌≡◌, ◌<◌, ◌≤◌, ◌+◌, IfOk, IfErr, OnErr, IsTrue};
+ghost use Rattle.cwr_rules.specs.Lawful.{is_clean};
+ghost use Rattle.cwr_desk.specs.Causes.{IsCause, refusal_of};
+ghost use Rattle.cwr_desk.specs.Handing.{IsAnswered};
+ghost use Rattle.cwr_desk.specs.Items.{IsPlaced, status_of, work_in};
+
+use crate::gates::Gate;
+use crate::outcome::Why;
+use crate::window::Window;
+use cwr_file::{AckItem, Fault, Faults, RawTransaction, Status};
+use cwr_rules::judge;
+use std::alloc::{AllocError, Allocator};
+use work_registry::{Call, Reply, WhyRefused};
+
+/// Who works, and the transaction in hand.
+#[derive(Clone, Copy)]
+pub(crate) struct Turn {
+    /// The worker, from 1.
+    pub(crate) worker: u32,
+    /// How many transactions of the file come before this one.
+    pub(crate) index: u32,
+    /// The submitter of the file.
+    pub(crate) submitter: [u8; 11],
+}
+
+/// Judges a transaction, hands its call in, and makes the item that tells its reply.
+pub(crate) fn decide<H: Window<Call<A>>, G: Gate, A: Allocator + Copy + Drop>(
+    alloc: A,
+    window: H,
+    gate: &G,
+    turn: Turn,
+    transaction: &RawTransaction,
+) -> (H, Result<AckItem<A>, Why>)
+    requires turns { 0 < H.turns_left window }
+    requires clean { IsTrue (is_clean turn.submitter) }
+    requires placed { IsPlaced transaction.now }
+    ensures session { H.session result.0 ≡ H.session window }
+    ensures limit { H.limit result.0 ≡ H.limit window }
+    ensures home { H.home result.0 ≡ H.home window }
+    ensures turns { H.turns_left window ≤ H.turns_left result.0 + 1 }
+    ensures answered { IfOk result.1 (IsAnswered (H.session window) turn.submitter transaction.now (H.list window) (H.list result.0)
+        (H.whole window) (H.whole result.0)) }
+    ensures kept { OnErr result.1 ((H.list result.0 ≡ H.list window) × (H.whole result.0 ≡ H.whole window)) }
+    ensures why { IfErr result.1 (IsCause (H.marked result.0) (G.may_shut gate.now)) }
+{
+    let Ok(call) = judge(alloc, transaction, turn.submitter) else {
+        return (window, Err(Why::Memory));
+    };
+    let Ok(faults) = copied(alloc, call.faults()) else {
+        return (window, Err(Why::Memory));
+    };
+    if gate.before(turn.worker, turn.index).is_err() {
+        return (window, Err(Why::Gate));
+    }
+    let kind = call.kind();
+    let title = call.title();
+    let number = call.number();
+    let (window, reply) = window.hand_in(call);
+    match reply {
+        Ok(reply) => {
+            gate.after(turn.worker, turn.index);
+            let item = AckItem {
+                group: transaction.group(),
+                sequence: transaction.sequence(),
+                kind,
+                title,
+                number,
+                status: status(reply),
+                work: work(reply),
+                faults,
+            };
+            (window, Ok(item))
+        }
+        Err(why) => (window, Err(refusal(why))),
+    }
+}
+
+/// A call's faults once more, for its item: the call itself goes into the book.
+fn copied<A: Allocator>(alloc: A, faults: &[Fault]) -> Result<Faults<A>, AllocError>
+    ensures { IfOk result (λ f. f ≡ faults.now) }
+{
+    Ok(Faults::new(Vec::from_slice(alloc, faults)?))
+}
+
+/// The transaction status that tells a reply.
+fn status(reply: Reply) -> Status
+    ensures { result ≡ status_of reply }
+{
+    match reply {
+        Reply::Accepted {
+            work: _,
+            version: _,
+        } => Status::Accepted,
+        Reply::Duplicate { work: _ } => Status::Duplicate,
+        Reply::Conflict { work: _ } => Status::Conflict,
+        Reply::Rejected => Status::Rejected,
+    }
+}
+
+/// The work that a reply names.
+fn work(reply: Reply) -> Option<u32>
+    ensures { result ≡ work_in reply }
+{
+    match reply {
+        Reply::Accepted { work, version: _ }
+        | Reply::Duplicate { work }
+        | Reply::Conflict { work } => Some(work),
+        Reply::Rejected => None,
+    }
+}
+
+/// Why a job stops whose call was refused.
+fn refusal(why: WhyRefused) -> Why
+    ensures { result ≡ refusal_of why }
+{
+    match why {
+        WhyRefused::Full => Why::Full,
+        WhyRefused::Memory => Why::Memory,
+    }
+}

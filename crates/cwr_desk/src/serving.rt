@@ -1,0 +1,139 @@
+//! Jobs at one desk, each on a thread of its own.
+ghost use Rattle.std.specs.Prelude.{All, IfOk, IfErr, reverse, ◌≡◌, ◌≢◌, ◌+◌, ◌<◌, ◌≤◌, [], false, true, vec_len, vec_capacity};
+ghost use Rattle.std.specs.Thread.{IsSync};
+ghost use Rattle.work_registry.specs.Replay.{is_opening};
+ghost use Rattle.cwr_desk.specs.Account.{JobAccount};
+ghost use Rattle.cwr_desk.specs.Whole.{Ran, IsRun};
+
+use crate::gates::Gate;
+use crate::jobs::{Job, Run, ServeRefused};
+use crate::outcome::FileOutcome;
+use crate::working::work_job;
+use cwr_file::{Sink, Source, Stamp};
+use registry_desk::{Desk, Seat};
+use std::alloc::Allocator;
+use std::sync::Wait;
+use std::thread::{Threads, join};
+use work_registry::Book;
+
+/// Works each job on a thread of its own, all at one book: job i, counted from 1, is worker i and session i.
+///
+/// Where the runtime refuses a thread, that job is worked on the thread that would have started it. A job that is
+/// refused or stopped does not stop the others. At most 63 jobs are taken, and a book whose entries are all of the
+/// opening. The run's own memory is asked for first: where it is refused no worker is started, and the book and the
+/// jobs come back as they were.
+pub fn serve<
+    T: Threads + Wait + Sync,
+    R: Source + Send + Drop,
+    W: Sink + Send + Drop,
+    G: Gate + Sync,
+    A: Allocator + Copy + Drop + Send + Sync,
+>(
+    rt: &T,
+    alloc: A,
+    mut jobs: Vec<Job<R, W>, A>,
+    book: Book<A>,
+    stamp: &Stamp,
+    gate: &G,
+) -> Result<Run<R, W, A>, ServeRefused<R, W, A>>
+    requires few { vec_len jobs < 64 }
+    requires opening { is_opening book.history ≡ true }
+    requires works { All (λ j. (R.has_failed j.reader ≡ false) × (W.has_failed j.writer ≡ false)) jobs.items }
+    ensures run { IfOk result (λ run. IsRun (JobAccount R.has_failed W.has_failed R.left W.taken stamp.now (G.may_shut gate.now))
+        book run.book jobs.items run.jobs.items run.outcomes.items) }
+    ensures back { IfErr result (λ back. (back.book ≡ book) × (back.jobs.items ≡ jobs.items)) }
+{
+    let Ok(outcomes) = Vec::with_capacity(alloc, jobs.len()) else {
+        return Err(ServeRefused { book, jobs });
+    };
+    let (desk, opening) = match Desk::open(alloc, book, jobs.len() as u32 + 1) {
+        Ok(opened) => opened,
+        Err(refused) => {
+            let book = refused.book;
+            return Err(ServeRefused { book, jobs });
+        }
+    };
+    jobs.reverse();
+    let (opening, mut jobs, mut outcomes) = serve_from(
+        rt, alloc, &desk, opening, jobs, outcomes, stamp, gate,
+    );
+    jobs.reverse();
+    outcomes.reverse();
+    let book = desk.close(opening);
+    Ok(Run {
+        book,
+        outcomes,
+        jobs,
+    })
+}
+
+/// Works the jobs, the last of the list first, each at a new seat on a thread of its own.
+///
+/// The outcomes and the jobs come back in the order of the list.
+fn serve_from<
+    T: Threads + Wait + Sync,
+    R: Source + Send + Drop,
+    W: Sink + Send + Drop,
+    G: Gate + Sync,
+    A: Allocator + Copy + Drop + Send + Sync,
+>(
+    rt: &T,
+    alloc: A,
+    desk: &Desk<A>,
+    mut opening: Seat<A>,
+    mut jobs: Vec<Job<R, W>, A>,
+    outcomes: Vec<FileOutcome, A>,
+    stamp: &Stamp,
+    gate: &G,
+) -> (Seat<A>, Vec<Job<R, W>, A>, Vec<FileOutcome, A>)
+    requires desk { opening.desk ≡ desk.now }
+    requires opening { opening.view.session ≡ 0 }
+    requires seats { vec_len jobs ≤ opening.view.left }
+    requires works { All (λ j. (R.has_failed j.reader ≡ false) × (W.has_failed j.writer ≡ false)) jobs.items }
+    requires none { outcomes.items ≡ [] }
+    requires room { vec_len jobs ≤ vec_capacity outcomes }
+    ensures desk { result.0.desk ≡ desk.now }
+    ensures session { result.0.view.session ≡ 0 }
+    ensures given { result.0.view.given ≡ opening.view.given + vec_len jobs }
+    ensures kept { (result.0.view.opened ≡ opening.view.opened) × (result.0.view.limit ≡ opening.view.limit) }
+    ensures ran { Ran (JobAccount R.has_failed W.has_failed R.left W.taken stamp.now (G.may_shut gate.now))
+        (opening.view.given + 1) (reverse jobs.items) (reverse result.1.items) (reverse result.2.items) opening.view.met result.0.view.met }
+    ensures jobs { (vec_len result.1 ≡ vec_len jobs) × (vec_capacity jobs ≤ vec_capacity result.1) }
+    ensures outcomes { (vec_len result.2 ≡ vec_len jobs) × (vec_capacity outcomes ≤ vec_capacity result.2) }
+{
+    match jobs.pop() {
+        None => (opening, jobs, outcomes),
+        Some(job) => {
+            let seat = desk.split(&mut opening);
+            let ((seat, job, outcome), (mut opening, mut jobs, mut outcomes)) = join(
+                rt,
+                move || -> (Seat<A>, Job<R, W>, FileOutcome)
+                    requires { (seat.desk ≡ desk.now) × (seat.view.session ≢ 0) × (seat.view.turns ≡ 0) × (seat.view.list ≡ [])
+                        × (R.has_failed job.reader ≡ false) × (W.has_failed job.writer ≡ false) }
+                    ensures { (result.0.desk ≡ desk.entry.now) × (result.0.view.session ≡ seat.view.session)
+                        × JobAccount R.has_failed W.has_failed R.left W.taken stamp.entry.now (G.may_shut gate.entry.now)
+                        job result.1 result.2 result.0.view.marked result.0.view.list }
+                { work_job(rt, alloc, desk, seat, job, stamp, gate) },
+                move || -> (Seat<A>, Vec<Job<R, W>, A>, Vec<FileOutcome, A>)
+                    requires { IsSync T.row × IsSync G.row × (opening.desk ≡ desk.now) × (opening.view.session ≡ 0) × (vec_len jobs ≤ opening.view.left)
+                        × All (λ j. (R.has_failed j.reader ≡ false) × (W.has_failed j.writer ≡ false)) jobs.items
+                        × (outcomes.items ≡ []) × (vec_len jobs ≤ vec_capacity outcomes) }
+                    ensures { (result.0.desk ≡ desk.entry.now) × (result.0.view.session ≡ 0) × (result.0.view.given ≡ opening.view.given + vec_len jobs)
+                        × (result.0.view.opened ≡ opening.view.opened) × (result.0.view.limit ≡ opening.view.limit)
+                        × Ran (JobAccount R.has_failed W.has_failed R.left W.taken stamp.entry.now (G.may_shut gate.entry.now))
+                        (opening.view.given + 1) (reverse jobs.items) (reverse result.1.items) (reverse result.2.items) opening.view.met result.0.view.met
+                        × (vec_len result.1 ≡ vec_len jobs) × (vec_capacity jobs ≤ vec_capacity result.1)
+                        × (vec_len result.2 ≡ vec_len jobs) × (vec_capacity outcomes ≤ vec_capacity result.2) }
+                { serve_from(rt, alloc, desk, opening, jobs, outcomes, stamp, gate) },
+            );
+            desk.meet(&mut opening, seat);
+            let Ok(()) = jobs.push(job) else {
+                unreachable!()
+            };
+            let Ok(()) = outcomes.push(outcome) else {
+                unreachable!()
+            };
+            (opening, jobs, outcomes)
+        }
+    }
+}

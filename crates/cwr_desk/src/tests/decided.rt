@@ -1,0 +1,254 @@
+//! Files and their acknowledgements, byte for byte.
+use super::sheets::{
+    ALL, Answer, SENDER, Told, acknowledgement, decision, file, one_work, plain_file, stamp, work,
+    writer,
+};
+use crate::{FileOutcome, acknowledge};
+use cwr_file::{Feed, Room};
+use std::alloc::Global;
+use std::process::Abort;
+use std::test::Fail;
+
+/// Acknowledges a file into an empty book: these are the decisions that must be told.
+fn expect(rt: &impl Abort, alloc: Global, input: &[u8], answers: &[Answer]) -> Result<(), Fail> {
+    let wanted = acknowledgement(alloc, answers)?;
+    let mut reader = Feed::new(input, 4096, None);
+    let mut sink = Room::new(alloc, wanted.len(), true)?;
+    let outcome = acknowledge(alloc, &mut reader, &mut sink, &stamp()?);
+    let FileOutcome::Acked { transactions } = outcome else {
+        return Err(Fail::from("not acknowledged"));
+    };
+    assert_eq!(rt; transactions as usize, answers.len());
+    assert_eq!(rt; sink.bytes(), wanted.as_slice());
+    Ok(())
+}
+
+/// A file of one new work W1, which must be accepted as work 1, or rejected for these faults.
+fn expect_one(
+    rt: &impl Abort,
+    alloc: Global,
+    lines: &[String],
+    faults: &[Told],
+) -> Result<(), Fail> {
+    let input = file(alloc, SENDER, "NWR", 1, lines)?;
+    let (work, status) = if faults.is_empty() {
+        ("00000001", "AS")
+    } else {
+        ("", "RJ")
+    };
+    expect(
+        rt,
+        alloc,
+        &input,
+        &[decision(0, "NWR", "W1", work, status, faults)],
+    )
+}
+
+#[test]
+fn one_work_of_one_writer(rt: HostRuntime) -> Result<(), Fail> {
+    let alloc = rt.alloc();
+    let accepted = [decision(0, "NWR", "W1", "00000001", "AS", &[])];
+    assert_eq!(rt; acknowledgement(alloc, &accepted)?.len(), 425);
+    expect(&rt, alloc, &plain_file(alloc)?, &accepted)
+}
+
+#[test]
+fn a_file_without_groups(rt: HostRuntime) -> Result<(), Fail> {
+    let alloc = rt.alloc();
+    let input = format!(in alloc;
+        "HDRPB000000123PUBLISHER A{:34}01.102024050112000020240501\r\nTRL000000000000000000002\r\n",
+        ""
+    )?;
+    expect(&rt, alloc, input.as_bytes(), &[])
+}
+
+#[test]
+fn ownership_totals(rt: HostRuntime) -> Result<(), Fail> {
+    let alloc = rt.alloc();
+    let off: &[Told] = &[(0, "NWR", 11, "PR OWNERSHIP TOTAL IS NOT VALID")];
+    for (own, other, faults) in [
+        ("04994", "05000", [].as_slice()),
+        ("05006", "05000", [].as_slice()),
+        ("00000", "00000", [].as_slice()),
+        ("04993", "05000", off),
+        ("05007", "05000", off),
+    ] {
+        let lines = [
+            work(alloc, "NWR", 0, "W1", "")?,
+            writer(alloc, "SWR", 0, 1, [own, "05000", "05000"])?,
+            writer(alloc, "OWR", 0, 2, [other, "05000", "05000"])?,
+        ];
+        expect_one(&rt, alloc, &lines, faults)?;
+    }
+    Ok(())
+}
+
+#[test]
+fn check_digits_and_dates(rt: HostRuntime) -> Result<(), Fail> {
+    let alloc = rt.alloc();
+    let wrong: &[Told] = &[(0, "NWR", 4, "ISWC IS NOT VALID")];
+    let no_day: &[Told] = &[(0, "NWR", 5, "DATE OR DURATION IS NOT VALID")];
+    for (after, faults) in [
+        ("T0345246801", [].as_slice()),
+        ("T0345246802", wrong),
+        ("", [].as_slice()),
+        ("           20230229", no_day),
+        ("           20240229", [].as_slice()),
+        ("           00000000", [].as_slice()),
+    ] {
+        let lines = [
+            work(alloc, "NWR", 0, "W1", after)?,
+            writer(alloc, "SWR", 0, 1, ALL)?,
+        ];
+        expect_one(&rt, alloc, &lines, faults)?;
+    }
+    Ok(())
+}
+
+#[test]
+fn records_that_are_carried(rt: HostRuntime) -> Result<(), Fail> {
+    let alloc = rt.alloc();
+    for blanks in [0, 4076] {
+        let carried = format!(in alloc; "PER0000000000000005X{:blanks$}", "")?;
+        let lines = [
+            work(alloc, "NWR", 0, "W1", "")?,
+            writer(alloc, "SWR", 0, 1, ALL)?,
+            String::from_str(alloc, "NWN0000000000000002")?,
+            String::from_str(alloc, "SWT0000000000000003000000001050000500005000I2136")?,
+            String::from_str(alloc, "ALT0000000000000004OTHER NAME")?,
+            carried,
+            String::from_str(alloc, "REC0000000000000006")?,
+            String::from_str(alloc, "ORN0000000000000007LIB")?,
+            String::from_str(alloc, "XRF0000000000000008")?,
+        ];
+        expect_one(&rt, alloc, &lines, &[])?;
+    }
+    Ok(())
+}
+
+#[test]
+fn a_rejected_work_and_an_accepted_one(rt: HostRuntime) -> Result<(), Fail> {
+    let alloc = rt.alloc();
+    let lines = [
+        work(alloc, "NWR", 0, "W1", "")?,
+        String::from_str(alloc, "SWT0000000000000001000000001050000500005000I2136")?,
+        writer(alloc, "SWR", 0, 2, ALL)?,
+        work(alloc, "NWR", 1, "W2", "")?,
+        writer(alloc, "SWR", 1, 1, ALL)?,
+    ];
+    let input = file(alloc, SENDER, "NWR", 2, &lines)?;
+    let told: &[Told] = &[(1, "SWT", 1, "RECORD OUT OF ORDER")];
+    let answers = [
+        decision(0, "NWR", "W1", "", "RJ", told),
+        decision(1, "NWR", "W2", "00000001", "AS", &[]),
+    ];
+    expect(&rt, alloc, &input, &answers)
+}
+
+#[test]
+fn a_work_twice(rt: HostRuntime) -> Result<(), Fail> {
+    let alloc = rt.alloc();
+    let lines = [
+        work(alloc, "NWR", 0, "W1", "")?,
+        writer(alloc, "SWR", 0, 1, ALL)?,
+        work(alloc, "NWR", 1, "W1", "")?,
+        writer(alloc, "SWR", 1, 1, ALL)?,
+    ];
+    let input = file(alloc, SENDER, "NWR", 2, &lines)?;
+    let answers = [
+        decision(0, "NWR", "W1", "00000001", "AS", &[]),
+        decision(1, "NWR", "W1", "00000001", "DU", &[]),
+    ];
+    expect(&rt, alloc, &input, &answers)
+}
+
+#[test]
+fn a_share_above_the_whole(rt: HostRuntime) -> Result<(), Fail> {
+    let alloc = rt.alloc();
+    let lines = [
+        work(alloc, "NWR", 0, "W1", "")?,
+        writer(alloc, "SWR", 0, 1, ["10001", "10000", "10000"])?,
+    ];
+    expect_one(&rt, alloc, &lines, &[(1, "SWR", 6, "SHARE IS NOT VALID")])
+}
+
+#[test]
+fn a_header_alone(rt: HostRuntime) -> Result<(), Fail> {
+    let alloc = rt.alloc();
+    let lines = [String::from_str(alloc, "NWR0000000000000000")?];
+    let input = file(alloc, SENDER, "NWR", 1, &lines)?;
+    let told: &[Told] = &[
+        (0, "NWR", 2, "TITLE IS BLANK"),
+        (0, "NWR", 3, "SUBMITTER WORK NUMBER IS BLANK"),
+        (0, "NWR", 10, "NO WRITER"),
+    ];
+    let answers = [Answer {
+        sequence: 0,
+        kind: "NWR",
+        title: "",
+        number: "",
+        work: "",
+        status: "RJ",
+        faults: told,
+    }];
+    expect(&rt, alloc, &input, &answers)
+}
+
+#[test]
+fn a_publisher_of_the_writer(rt: HostRuntime) -> Result<(), Fail> {
+    let alloc = rt.alloc();
+    let unknown: &[Told] = &[(3, "PWR", 9, "PUBLISHER OF WRITER IS NOT IN THE TRANSACTION")];
+    for (publisher, faults) in [("000000002", [].as_slice()), ("000000009", unknown)] {
+        let lines = [
+            work(alloc, "NWR", 0, "W1", "")?,
+            format!(in alloc;
+                "SPU000000000000000101000000002PUBLISHER A{:35}E{:38}05000   10000   10000",
+                "", ""
+            )?,
+            writer(alloc, "SWR", 0, 2, ["05000", "00000", "00000"])?,
+            format!(in alloc;
+                "PWR0000000000000003{publisher}PUBLISHER A{:62}000000001",
+                ""
+            )?,
+        ];
+        expect_one(&rt, alloc, &lines, faults)?;
+    }
+    Ok(())
+}
+
+#[test]
+fn other_line_ends(rt: HostRuntime) -> Result<(), Fail> {
+    let alloc = rt.alloc();
+    let accepted = [decision(0, "NWR", "W1", "00000001", "AS", &[])];
+    let whole = plain_file(alloc)?;
+    let mut newlines = Vec::new(alloc);
+    for byte in &whole {
+        if *byte != b'\r' {
+            newlines.push(*byte)?;
+        }
+    }
+    let cut = newlines.len().saturating_sub(1);
+    expect(&rt, alloc, newlines.get(..cut).ok_or("a line")?, &accepted)?;
+    let mut marked = plain_file(alloc)?;
+    marked.extend_from_slice(b"\r\n\x1a\r\n")?;
+    expect(&rt, alloc, &marked, &accepted)
+}
+
+#[test]
+fn a_conflict_is_not_made_alone(rt: HostRuntime) -> Result<(), Fail> {
+    let alloc = rt.alloc();
+    let input = one_work(
+        alloc,
+        SENDER,
+        "REV",
+        "W1",
+        "T0345246801",
+        ["05000", "05000"],
+    )?;
+    expect(
+        &rt,
+        alloc,
+        &input,
+        &[decision(0, "REV", "W1", "00000001", "AS", &[])],
+    )
+}

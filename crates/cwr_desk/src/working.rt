@@ -1,0 +1,93 @@
+//! One job at a seat of the running desk.
+ghost use Rattle.std.specs.Prelude.{◌≡◌, ◌≢◌, ◌≤◌, ◌+◌, [], false, None};
+ghost use Rattle.registry_desk.specs.Views.{most_turns};
+ghost use Rattle.cwr_desk.specs.Account.{JobAccount};
+ghost use Rattle.cwr_desk.specs.Handing.{IsWorked};
+
+use crate::at_desk::AtDesk;
+use crate::engine::work_file;
+use crate::gates::Gate;
+use crate::jobs::Job;
+use crate::outcome::FileOutcome;
+use cwr_file::{Sink, Source, Stamp};
+use registry_desk::{Desk, Seat};
+use std::alloc::Allocator;
+use std::sync::Wait;
+
+/// Works one file at a seat: reads it to its end, hands its transactions in, in file order, and writes their
+/// acknowledgement.
+///
+/// The worker is the seat's session, and the gate is passed before and after each transaction. A transaction that gets
+/// no reply ends the job. It waits whenever another seat is inside.
+pub fn work<T: Wait, R: Source, W: Sink, G: Gate, A: Allocator + Copy + Drop>(
+    rt: &T,
+    alloc: A,
+    desk: &Desk<A>,
+    seat: Seat<A>,
+    reader: &mut R,
+    writer: &mut W,
+    stamp: &Stamp,
+    gate: &G,
+    worker: u32,
+) -> (Seat<A>, FileOutcome)
+    requires desk { seat.desk ≡ desk.now }
+    requires guest { seat.view.session ≢ 0 }
+    requires worker { seat.view.session ≡ worker }
+    requires turns { seat.view.turns + 99999995 ≤ most_turns }
+    requires reads { R.has_failed reader.old ≡ false }
+    requires writes { W.has_failed writer.old ≡ false }
+    ensures desk { result.0.desk ≡ desk.now }
+    ensures session { result.0.view.session ≡ seat.view.session }
+    ensures worked { IsWorked seat.view.session
+        (record { read_failed = R.has_failed reader.new; write_failed = W.has_failed writer.new; full = result.0.view.marked; may_shut = G.may_shut gate.now })
+        stamp.now (R.left reader.old) (W.taken writer.old) (W.taken writer.new) result.1 seat.view.list result.0.view.list None None }
+{
+    let window = AtDesk { rt, desk, seat };
+    let (window, outcome) = work_file(alloc, window, gate, worker, reader, writer, stamp);
+    let AtDesk {
+        rt: _,
+        desk: _,
+        seat,
+    } = window;
+    (seat, outcome)
+}
+
+/// Works a job at a new seat.
+pub(crate) fn work_job<
+    T: Wait,
+    R: Source + Drop,
+    W: Sink + Drop,
+    G: Gate,
+    A: Allocator + Copy + Drop,
+>(
+    rt: &T,
+    alloc: A,
+    desk: &Desk<A>,
+    seat: Seat<A>,
+    mut job: Job<R, W>,
+    stamp: &Stamp,
+    gate: &G,
+) -> (Seat<A>, Job<R, W>, FileOutcome)
+    requires desk { seat.desk ≡ desk.now }
+    requires guest { seat.view.session ≢ 0 }
+    requires fresh { (seat.view.turns ≡ 0) × (seat.view.list ≡ []) }
+    requires works { (R.has_failed job.reader ≡ false) × (W.has_failed job.writer ≡ false) }
+    ensures desk { result.0.desk ≡ desk.now }
+    ensures session { result.0.view.session ≡ seat.view.session }
+    ensures account { JobAccount R.has_failed W.has_failed R.left W.taken stamp.now (G.may_shut gate.now)
+        job result.1 result.2 result.0.view.marked result.0.view.list }
+{
+    let worker = seat.session();
+    let (seat, outcome) = work(
+        rt,
+        alloc,
+        desk,
+        seat,
+        &mut job.reader,
+        &mut job.writer,
+        stamp,
+        gate,
+        worker,
+    );
+    (seat, job, outcome)
+}
