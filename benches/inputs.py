@@ -1,6 +1,7 @@
 #!/usr/bin/env python3
 """Writes the files that the benchmarks read into a folder: inputs.py FOLDER"""
 import os
+import random
 import sys
 
 SIZE = 16_777_216
@@ -38,28 +39,28 @@ def empty_groups():
 
 def one_work(details):
     """A file of one work with these details, each without its prefix and its line end."""
-    lines = [HEADER, b"GRHNWR00001\n", b"NWR0000000000000000SONG ONE" + b" " * 54 + b"W1\n"]
-    lines += [b"%s00000000%08d%s\n" % (kind, place, rest) for place, (kind, rest) in enumerate(details, 1)]
-    lines.append(b"GRT0000100000001%08d\n" % (len(details) + 3))
-    lines.append(b"TRL0000100000001%08d\n" % (len(details) + 5))
+    lines = [HEADER, b"GRHNWR00001\r\n", b"NWR0000000000000000SONG ONE" + b" " * 54 + b"W1\r\n"]
+    lines += [b"%s00000000%08d%s\r\n" % (kind, place, rest) for place, (kind, rest) in enumerate(details, 1)]
+    lines.append(b"GRT0000100000001%08d\r\n" % (len(details) + 3))
+    lines.append(b"TRL0000100000001%08d\r\n" % (len(details) + 5))
     return b"".join(lines)
 
 
-def scattered(place, size):
-    """The numbers below a size (coprime to the factor), each once, in an order that jumps."""
-    return place * 48_271 % size
+def shuffled(size, seed):
+    """The numbers below a size, each once, in an order that a seed gives."""
+    numbers = list(range(size))
+    random.Random(seed).shuffle(numbers)
+    return numbers
 
 
 def crowded():
-    """One work of 300,000 records without a fault: as many publishers as links to them, in another order each, and
-    territories of 10,000 codes."""
+    """One work of 300,000 records without a fault, of 55 bytes or so: as many publishers as links to them, in another
+    order each, and territories of 10,000 codes."""
     third = 100_000
-    details = [(b"SPU", b"01%09d" % (scattered(place, third) + 1)) for place in range(third)]
+    details = [(b"SPU", b"01%09dPUBLISHER NO. %09d " % (number + 1, number + 1)) for number in shuffled(third, 1)]
     details.append((b"SWR", b"999999999"))
-    details += [(b"PWR", b"%09d" % (scattered(third - place, third) + 1)) for place in range(third)]
-    details += [
-        (b"SWT", b"999999999010000100001000I%04d" % scattered(place, 10_000)) for place in range(third - 2)
-    ]
+    details += [(b"PWR", b"%09dPUBLISHER NO. %09d   " % (number + 1, number + 1)) for number in shuffled(third, 2)]
+    details += [(b"SWT", b"999999999010000100001000I%04d 001" % (number % 10_000)) for number in shuffled(third - 2, 3)]
     return one_work(details)
 
 

@@ -1,7 +1,7 @@
 -- the account of a job at each of its ends
-use Rattle.std.proofs.Common.{◌≡◌, ◌∙◌, ℕ, zero, suc, ◌+◌, ◌*◌, ◌<◌, ◌≤◌, Bool, true, false, cond, List, [], ◌∷◌, ◌++◌, length, take, map, Option, Some, None, IfSome, IsTrue, refl, sym, ap, subst, arith, append-nil}
+use Rattle.std.proofs.Common.{◌≡◌, ◌∙◌, ℕ, zero, suc, ◌+◌, ◌*◌, ◌<◌, ◌≤◌, Bool, true, false, cond, List, [], ◌∷◌, length, take, Option, Some, None, IfSome, IsTrue, refl, sym, ap, subst, arith, append-nil}
 use Rattle.std.proofs.Math.Seq.{take-length}
-use Rattle.std.proofs.lemmas.List.{length-take, length-map}
+use Rattle.std.proofs.lemmas.List.{length-map}
 use Rattle.std.proofs.lemmas.List.Sums.{sum_by-cons}
 use Rattle.std.specs.Io.KnownBytes.{Appends}
 use Rattle.std.specs.List.{AllByRecursion}
@@ -21,7 +21,7 @@ use Rattle.work_registry.specs.EntryValue.{EntryValue}
 use Rattle.work_registry.specs.Replay.{calls_of}
 use Rattle.cwr_desk.specs.Account.{most, Signs, Account, IsAccount, IsRead, Gives}
 use Rattle.cwr_desk.specs.Causes.{cause_of, IsCause}
-use Rattle.cwr_desk.specs.Handing.{Follows, AreAnswered, IsWorked}
+use Rattle.cwr_desk.specs.Handing.{AreAnswered, IsWorked}
 use Rattle.cwr_desk.specs.Items.{IsPlaced, item_of, items_of, calls_in, status_of}
 use Rattle.cwr_desk.specs.declared.reading.ReadRefused.{ReadRefused}
 use Rattle.cwr_desk.specs.declared.reading.ReadRefused.TheVariants as unread

@@ -1,12 +1,12 @@
 -- One transaction more was handed in and got a reply.
-use Rattle.std.proofs.Common.{◌≡◌, ◌∙◌, ℕ, zero, suc, ◌+◌, ◌<◌, ◌≤◌, ◌^◌, Bool, true, false, cond, List, [], ◌∷◌, ◌++◌, length, take, drop, map, Option, Some, None, IsTrue, refl, sym, ap, subst, arith, append_assoc, append-nil, length-append}
+use Rattle.std.proofs.Common.{◌≡◌, ◌∙◌, ℕ, zero, suc, ◌+◌, ◌<◌, ◌≤◌, ◌^◌, Bool, true, false, cond, List, [], ◌∷◌, ◌++◌, length, take, drop, Option, Some, None, IsTrue, refl, sym, ap, subst, arith, append_assoc, append-nil, length-append}
 use Rattle.std.specs.Prelude.{◌&&◌, nat_le}
 use Rattle.std.specs.Char.{is_ascii_uppercase}
 use Rattle.std.specs.List.{list_all, AllByRecursion}
 use Rattle.std.specs.Option.{ForSome}
 use Rattle.std.proofs.lemmas.Bool.Decides.{nat_tests}
 use Rattle.cwr_record.specs.declared.works.WorkKind.{WorkKind}
-use Rattle.cwr_file.specs.AckItem.{Item, told_faults, is_rejected}
+use Rattle.cwr_file.specs.AckItem.{Item, is_rejected}
 use Rattle.cwr_file.specs.Acknowledgement.{FitsItem, FitsFault}
 use Rattle.cwr_file.specs.RawParts.{RawParts}
 use Rattle.cwr_file.specs.declared.ack_item.Status.{Status}

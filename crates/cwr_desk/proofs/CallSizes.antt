@@ -1,11 +1,8 @@
 -- How many faults the call of a transaction can have, and that its submitter's name has no control character.
-use Rattle.std.proofs.Common.{◌≡◌, ℕ, zero, suc, ◌+◌, ◌*◌, ◌-◌, ◌<◌, ◌≤◌, Bool, true, false, cond, List, [], ◌∷◌, ◌++◌, length, take, drop, IsTrue, arith, refl, ap, sym, subst, ◌∙◌, length-append}
-use Rattle.std.specs.Prelude.{◌||◌, ◌&&◌, nat_lt, nat_le, replicate}
-use Rattle.std.specs.List.{list_all, list_any}
+use Rattle.std.proofs.Common.{◌≡◌, ℕ, zero, suc, ◌+◌, ◌*◌, ◌<◌, ◌≤◌, Bool, true, false, List, [], ◌∷◌, ◌++◌, length, take, drop, IsTrue, arith, refl, length-append}
+use Rattle.std.specs.Prelude.{nat_le, replicate}
 use Rattle.std.proofs.lemmas.Bool.Decides.{nat_tests}
-use Rattle.std.proofs.lemmas.List.{length-map}
 use Rattle.std.specs.Str.Lines.{lines}
-use Rattle.cwr_field.specs.Layout.{field}
 use Rattle.cwr_record.specs.Control as table
 use Rattle.cwr_record.specs.Layout.{StandsFor}
 use Rattle.cwr_record.specs.declared.control.Header.{Header}
@@ -14,8 +11,8 @@ use Rattle.cwr_record.specs.Kinds.{work_kind_code}
 use Rattle.cwr_file.specs.File.{File, IsFile}
 use Rattle.cwr_file.specs.RawParts.{RawParts}
 use Rattle.cwr_file.specs.Rows.{has_control}
-use Rattle.cwr_rules.specs.Calls.{call_of, call_in, call_from}
-use Rattle.cwr_rules.specs.Faults.{found, all_found, faults_after, faults_of, head_rules, record_rules}
+use Rattle.cwr_rules.specs.Calls.{call_of, call_in}
+use Rattle.cwr_rules.specs.Faults.{found, all_found, faults_after, head_rules, record_rules}
 use Rattle.cwr_rules.specs.Lawful.{is_clean}
 use Rattle.cwr_rules.specs.Records.{record_of, records_of}
 use Rattle.cwr_rules.specs.Rules.{publishers, name_of}

@@ -7,4 +7,3 @@ pub mod ParsedFiles
 pub mod FileWords
 pub mod Turns
 pub mod Runs
-pub mod SeatTurns

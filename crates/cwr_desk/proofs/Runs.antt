@@ -1,7 +1,7 @@
 -- Jobs that were worked at one desk, once all seats were met.
-use Rattle.std.proofs.Common.{◌≡◌, ◌∙◌, ℕ, zero, suc, ◌+◌, ◌<◌, ◌≤◌, Bool, true, false, nat_le, List, [], ◌∷◌, ◌++◌, All, length, reverse, refl, sym, ap, subst, arith, length-append}
+use Rattle.std.proofs.Common.{◌≡◌, ◌∙◌, ℕ, zero, suc, ◌+◌, ◌≤◌, Bool, true, List, [], ◌∷◌, ◌++◌, All, length, reverse, refl, sym, ap, subst, arith, length-append}
 use Rattle.std.proofs.lemmas.Bool.Decides.{nat_tests}
-use Rattle.std.proofs.lemmas.List.{reverse-append, reverse-reverse}
+use Rattle.std.proofs.lemmas.List.{reverse-reverse}
 use mathlib.Core.Option.{some}
 use lib.ListN.{get_elem?}
 use Rattle.work_registry.specs.BookValue.{BookValue}
@@ -13,9 +13,6 @@ use Rattle.registry_desk.specs.Closing.{Closes}
 use Rattle.registry_desk.specs.Rule.{MetFits}
 use Rattle.cwr_desk.specs.declared.outcome.FileOutcome.{FileOutcome}
 use Rattle.cwr_desk.specs.Whole.{Ran, Accounts, is_full, IsRun}
-
-reverse-last : {A : Type 0} (xs : List A) (x : A) → reverse (xs ++ x ∷ []) ≡ x ∷ reverse xs
-reverse-last xs x = reverse-append xs (x ∷ [])
 
 -- as many seats were met as there are jobs
 pub Ran-length : {J : Type 0} (P : J → J → FileOutcome → Bool → List EntryValue → Type 0) (session : ℕ) (js ks : List J) (os : List FileOutcome) (before after : List Met)
@@ -29,16 +26,6 @@ Ran-length P session (j ∷ js) (k ∷ ks) (o ∷ os) before after r =
     let e = Ran-length P (session + 1) js ks os before r.0 r.2 in let a = ap length r.3 in let b = length-append r.0 (r.1 ∷ []) in omega arith
 
 module _ {J : Type 0} (P : J → J → FileOutcome → Bool → List EntryValue → Type 0) where
-  -- the last job of the list was given its seat first
-  pub Ran-last : (session : ℕ) (js ks js' ks' : List J) (j k : J) (os os' : List FileOutcome) (o : FileOutcome) (before between after : List Met) (m : Met)
-      (session' : ℕ) (before' : List Met) → session' ≡ session → before' ≡ before → js' ≡ js ++ j ∷ [] → ks' ≡ ks ++ k ∷ [] → os' ≡ os ++ o ∷ []
-      → Ran P (session' + 1) (reverse js) (reverse ks) (reverse os) before' between → after ≡ between ++ m ∷ [] → m.session ≡ session
-      → P j k o m.marked m.list → Ran P session (reverse js') (reverse ks') (reverse os') before after
-  Ran-last session js ks js' ks' j k os os' o before between after m session' before' es eb ej ek eo rest is own account =
-      let rest' : Ran P (session + 1) (reverse js) (reverse ks) (reverse os) before between =
-      subst (λ (z : ℕ × List Met). Ran P (z.0 + 1) (reverse js) (reverse ks) (reverse os) z.1 between) (λ i. (es i, eb i)) rest in
-      rw (ej, ek, eo, reverse-last js j, reverse-last ks k, reverse-last os o) (between, m, rest', is, own, account)
-
   -- the lists as they were before they were turned round
   pub Ran-whole : (given : ℕ) (js ks js' ks' : List J) (os os' : List FileOutcome) (before after : List Met) → js' ≡ reverse js → ks ≡ reverse ks' → os ≡ reverse os'
       → given ≡ 0 → before ≡ [] → Ran P (given + 1) (reverse js') (reverse ks') (reverse os') before after → Ran P 1 js ks os [] after

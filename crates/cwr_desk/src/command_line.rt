@@ -1,5 +1,6 @@
 //! The command lines that the program takes.
 
+use crate::run_words::run_command;
 use clap::{Arg, Command};
 use std::alloc::{AllocError, Global};
 
@@ -7,12 +8,21 @@ use std::alloc::{AllocError, Global};
 pub(crate) fn command_line<'a>(alloc: Global) -> Result<Command<'a>, AllocError> {
     Command::new(alloc, "purvilgo")
         .about("Acknowledges a CWR 2.2 file from standard input to standard output")
-        .subcommand(check_command(alloc)?)
+        .subcommand(run_command(alloc)?)?
+        .subcommand(check_command(alloc)?)?
+        .subcommand(audit_command(alloc)?)
 }
 
 /// `check FILE`.
 fn check_command<'a>(alloc: Global) -> Result<Command<'a>, AllocError> {
     Command::new(alloc, "check")
         .about("Tells which rules a CWR 2.2 file breaks")
+        .arg(Arg::new(alloc, "FILE").required(true))
+}
+
+/// `audit FILE`.
+fn audit_command<'a>(alloc: Global) -> Result<Command<'a>, AllocError> {
+    Command::new(alloc, "audit")
+        .about("Tells whether a register is one that the registry's rules give")
         .arg(Arg::new(alloc, "FILE").required(true))
 }

@@ -1,38 +1,44 @@
-//! A runtime of the tests' own: words, standard input, files, and what was printed.
+//! A runtime of the tests' own: words, standard input, files, and what was printed. Threads are those of another one.
 use crate::fake_files::{FakeFile, unsupported};
 use std::alloc::{Allocator, Global};
-use std::cell::RefCell;
 use std::env::FillError;
 use std::fmt::Display;
 use std::fs::{Metadata, OpenOptions};
 use std::io::{self, BufRead, ErrorKind};
 use std::rt::{Env, Files};
+use std::sync::{Mutex, Wait};
+use std::thread::Threads;
 
-pub(crate) struct Fake<'a> {
+pub(crate) struct Fake<'a, T> {
+    /// The runtime that starts threads and waits.
+    pub(crate) rt: &'a T,
     pub(crate) words: &'a [&'a str],
     pub(crate) input: &'a [u8],
     /// The files that are there, by name.
     pub(crate) files: &'a [(&'a str, FakeFile<'a>)],
     pub(crate) alloc: Global,
-    pub(crate) printed: RefCell<Vec<u8>>,
-    pub(crate) complained: RefCell<String>,
+    pub(crate) printed: Mutex<Vec<u8>>,
+    pub(crate) complained: Mutex<String>,
 }
 
-impl<'a> Fake<'a> {
-    pub(crate) fn new(alloc: Global, words: &'a [&'a str], input: &'a [u8]) -> Fake<'a> {
+impl<'a, T: AllocGlobal> Fake<'a, T> {
+    pub(crate) fn new(rt: &'a T, words: &'a [&'a str], input: &'a [u8]) -> Fake<'a, T> {
+        let alloc = rt.alloc();
         Fake {
+            rt,
             words,
             input,
             files: &[],
             alloc,
-            printed: RefCell::new(Vec::new(alloc)),
-            complained: RefCell::new(String::new(alloc)),
+            printed: Mutex::new(Vec::new(alloc)),
+            complained: Mutex::new(String::new(alloc)),
         }
     }
 
     /// The same runtime with these files.
-    pub(crate) fn with_files(self, files: &'a [(&'a str, FakeFile<'a>)]) -> Fake<'a> {
+    pub(crate) fn with_files(self, files: &'a [(&'a str, FakeFile<'a>)]) -> Fake<'a, T> {
         let Fake {
+            rt,
             words,
             input,
             files: _,
@@ -41,6 +47,7 @@ impl<'a> Fake<'a> {
             complained,
         } = self;
         Fake {
+            rt,
             words,
             input,
             files,
@@ -53,6 +60,7 @@ impl<'a> Fake<'a> {
     /// What went to standard output and to standard error.
     pub(crate) fn into_texts(self) -> (Vec<u8>, String) {
         let Fake {
+            rt: _,
             words: _,
             input: _,
             files: _,
@@ -62,9 +70,11 @@ impl<'a> Fake<'a> {
         } = self;
         (printed.into_inner(), complained.into_inner())
     }
+}
 
+impl<T> Fake<'_, T> {
     fn put(&self, bytes: &[u8]) -> io::Result<()> {
-        if let Ok(mut printed) = self.printed.try_borrow_mut() {
+        if let Some(mut printed) = self.printed.try_lock() {
             printed.extend_from_slice(bytes)?;
         }
         Ok(())
@@ -72,7 +82,7 @@ impl<'a> Fake<'a> {
 
     fn complain<D: Display + Drop>(&self, value: D, end: &str) -> io::Result<()> {
         let text = value.to_string(self.alloc)?;
-        if let Ok(mut complained) = self.complained.try_borrow_mut() {
+        if let Some(mut complained) = self.complained.try_lock() {
             complained.push_str(text.as_str())?;
             complained.push_str(end)?;
         }
@@ -80,7 +90,11 @@ impl<'a> Fake<'a> {
     }
 }
 
-impl Env for Fake<'_> {
+impl<T: Threads> Threads for Fake<'_, T> {}
+
+impl<T: Wait> Wait for Fake<'_, T> {}
+
+impl<T> Env for Fake<'_, T> {
     fn arg(&self, i: usize, buf: &mut [u8]) -> Result<usize, FillError> {
         match self.words.get(i) {
             Some(word) => {
@@ -105,7 +119,7 @@ impl Env for Fake<'_> {
     }
 }
 
-impl Alloc for Fake<'_> {
+impl<T> Alloc for Fake<'_, T> {
     type A = Global;
 
     fn alloc(&self) -> Global {
@@ -113,7 +127,7 @@ impl Alloc for Fake<'_> {
     }
 }
 
-impl<'a> Input for Fake<'a> {
+impl<'a, T> Input for Fake<'a, T> {
     type Reader = &'a [u8];
 
     fn read_line<A: Allocator + Clone>(&self, buf: &mut String<A>) -> io::Result<usize> {
@@ -129,7 +143,7 @@ impl<'a> Input for Fake<'a> {
     }
 }
 
-impl Print for Fake<'_> {
+impl<T> Print for Fake<'_, T> {
     fn print<D: Display + Drop>(&self, value: D) -> io::Result<()> {
         let text = value.to_string(self.alloc)?;
         self.put(text.as_bytes())
@@ -146,7 +160,7 @@ impl Print for Fake<'_> {
     }
 }
 
-impl Eprint for Fake<'_> {
+impl<T> Eprint for Fake<'_, T> {
     fn eprint<D: Display + Drop>(&self, value: D) -> io::Result<()> {
         self.complain(value, "")
     }
@@ -156,15 +170,15 @@ impl Eprint for Fake<'_> {
     }
 }
 
-impl<'a> Files for Fake<'a> {
+impl<'a, T> Files for Fake<'a, T> {
     type File = FakeFile<'a>;
 
     type Dir = FakeFile<'a>;
 
-    fn open_file(&self, _how: &OpenOptions, path: &str) -> io::Result<FakeFile<'a>> {
+    fn open_file(&self, how: &OpenOptions, path: &str) -> io::Result<FakeFile<'a>> {
         for (name, file) in self.files {
             if *name == path {
-                return Ok(*file);
+                return file.opened(how);
             }
         }
         Err(io::Error::from(ErrorKind::NotFound))

@@ -1,10 +1,11 @@
 //! Files of the tests' own.
 ghost use Rattle.std.specs.Prelude.{◌≡◌, true, is_err};
 
-use std::fs::{Metadata, OpenFile};
+use std::fs::{Metadata, OpenFile, OpenOptions};
 use std::io::{self, ErrorKind, Read, Seek, SeekFrom, Write};
+use std::sync::Mutex;
 
-/// What a read of a file gives.
+/// A file that is there: what its reads give and its writes do.
 #[derive(Clone, Copy, Drop)]
 pub(crate) enum FakeFile<'a> {
     /// The bytes that are left of it.
@@ -13,9 +14,43 @@ pub(crate) enum FakeFile<'a> {
     Endless,
     /// An error.
     Broken,
+    /// What was written to it, of which `read` bytes were read. It takes at most `room` bytes.
+    Kept {
+        bytes: &'a Mutex<Vec<u8>>,
+        room: usize,
+        read: usize,
+    },
 }
 
-/// A file of the tests can do no more than be read.
+impl<'a> FakeFile<'a> {
+    /// A file that can be written, and takes at most so many bytes.
+    pub(crate) fn kept(bytes: &'a Mutex<Vec<u8>>, room: usize) -> FakeFile<'a> {
+        FakeFile::Kept {
+            bytes,
+            room,
+            read: 0,
+        }
+    }
+
+    /// The file where it is opened in this way. Opened for writing, it is emptied.
+    pub(crate) fn opened(&self, how: &OpenOptions) -> io::Result<FakeFile<'a>> {
+        if !how.asks_write() {
+            return Ok(*self);
+        }
+        match self {
+            FakeFile::Kept { bytes, .. } => match bytes.try_lock() {
+                Some(mut bytes) => {
+                    bytes.clear();
+                    Ok(*self)
+                }
+                None => unsupported(),
+            },
+            _ => unsupported(),
+        }
+    }
+}
+
+/// What no file of the tests does.
 pub(crate) fn unsupported<T>() -> io::Result<T>
     ensures { is_err result ≡ true }
 {
@@ -31,17 +66,36 @@ impl Read for FakeFile<'_> {
                 Ok(buf.len())
             }
             FakeFile::Broken => unsupported(),
+            FakeFile::Kept { bytes, read, .. } => match bytes.try_lock() {
+                Some(bytes) => {
+                    let mut left = bytes.get(*read..).unwrap_or(&[]);
+                    let n = left.read(buf)?;
+                    *read = bytes.len().saturating_sub(left.len());
+                    Ok(n)
+                }
+                None => unsupported(),
+            },
         }
     }
 }
 
 impl Write for FakeFile<'_> {
-    fn write(&mut self, _buf: &[u8]) -> io::Result<usize> {
-        unsupported()
+    fn write(&mut self, buf: &[u8]) -> io::Result<usize> {
+        match self {
+            FakeFile::Kept { bytes, room, .. } => match bytes.try_lock() {
+                Some(mut bytes) => {
+                    let n = room.saturating_sub(bytes.len()).min(buf.len());
+                    bytes.extend_from_slice(&buf[..n])?;
+                    Ok(n)
+                }
+                None => unsupported(),
+            },
+            _ => unsupported(),
+        }
     }
 
     fn flush(&mut self) -> io::Result<()> {
-        unsupported()
+        Ok(())
     }
 }
 

@@ -20,7 +20,9 @@ mod one_file;
 mod outcome;
 mod program;
 mod reading;
+mod registers;
 mod run_words;
+mod running;
 mod serving;
 #[cfg(test)]
 mod tests;

@@ -10,7 +10,7 @@ use std::alloc::Allocator;
 use work_registry::Book;
 
 /// The most entries of a book.
-const LIMIT: u32 = 99_999_999;
+pub(crate) const LIMIT: u32 = 99_999_999;
 
 /// Acknowledges one file into an empty registry.
 ///

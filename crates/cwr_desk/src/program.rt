@@ -5,12 +5,16 @@ use crate::lines::outcome_line;
 use crate::one_file::acknowledge;
 use crate::outcome::FileOutcome;
 use crate::reading::{MOST_BYTES, read_file};
+use crate::registers::audit_file;
+use crate::running::run_files;
 use clap::ArgMatches;
 use cwr_field::{Clock, Day, cut, date, time};
 use cwr_file::Through;
 use cwr_record::Stamp;
 use std::process::ExitCode;
 use std::rt::{Env, Files};
+use std::sync::Wait;
+use std::thread::Threads;
 use std::{env, io, str};
 
 /// The status of a command line that is not taken.
@@ -18,9 +22,17 @@ const BAD_COMMAND_LINE: u8 = 2;
 
 /// Runs the program on its words, and answers its exit status.
 ///
-/// Without words it acknowledges standard input to standard output. `check FILE` tells on standard output which rules
-/// a file breaks; the status is 0 where it breaks none.
-pub fn run_program<R: Env + AllocGlobal + Input + Print + Eprint + Files>(rt: &R) -> ExitCode {
+/// Without words it acknowledges standard input to standard output. `run` acknowledges files at one book, which may
+/// come from a register and go to one; the status is 0 where all are acknowledged. `check FILE` tells on standard
+/// output which rules a file breaks; the status is 0 where it breaks none. `audit FILE` tells there how many entries a
+/// register has, or its first fault; the status is 0 where it has none.
+pub fn run_program<R: Env + AllocGlobal + Input + Print + Eprint + Files + Threads + Wait + Sync>(
+    rt: &R,
+) -> ExitCode
+where
+    R::File: Send,
+    R::Dir: Send,
+{
     let Ok(words) = env::args(rt) else {
         return not_text(rt);
     };
@@ -32,7 +44,7 @@ pub fn run_program<R: Env + AllocGlobal + Input + Print + Eprint + Files>(rt: &R
         return no_memory(rt);
     };
     match command.try_get_matches_from(words.as_slice()) {
-        Ok(matches) => run_command(rt, &matches),
+        Ok(matches) => run_given(rt, &matches),
         Err(error) => {
             let _ = eprint!(rt; "{error}");
             ExitCode::from(BAD_COMMAND_LINE)
@@ -41,16 +53,31 @@ pub fn run_program<R: Env + AllocGlobal + Input + Print + Eprint + Files>(rt: &R
 }
 
 /// Runs the command that the words name, or without words the one that has no name.
-fn run_command<R: AllocGlobal + Input + Print + Eprint + Files>(
+fn run_given<R: AllocGlobal + Input + Print + Eprint + Files + Threads + Wait + Sync>(
     rt: &R,
     matches: &ArgMatches,
-) -> ExitCode {
+) -> ExitCode
+where
+    R::File: Send,
+    R::Dir: Send,
+{
     match matches.subcommand() {
-        Some((_, given)) => match given.get_str("FILE") {
-            Some(path) => check_file(rt, path),
-            None => ExitCode::from(BAD_COMMAND_LINE),
-        },
         None => acknowledge_input(rt),
+        Some(("run", given)) => run_files(rt, given),
+        Some((name, given)) => run_on_file(rt, name, given),
+    }
+}
+
+/// Runs a command that takes one file.
+fn run_on_file<R: AllocGlobal + Print + Eprint + Files>(
+    rt: &R,
+    name: &str,
+    given: &ArgMatches,
+) -> ExitCode {
+    match (name, given.get_str("FILE")) {
+        ("check", Some(path)) => check_file(rt, path),
+        ("audit", Some(path)) => audit_file(rt, path),
+        _ => ExitCode::from(BAD_COMMAND_LINE),
     }
 }
 

@@ -1,6 +1,6 @@
 //! The words of a run.
 
-ghost use Rattle.std.specs.Prelude.{◌≡◌, None, map};
+ghost use Rattle.std.specs.Prelude.{◌≡◌, ◌<◌, None, map, length, IfOk};
 ghost use Rattle.cwr_desk.specs.RunFault.{run_fault, run_stamp};
 
 use crate::words::{RunFault, run_fault};
@@ -11,9 +11,9 @@ use std::alloc::{AllocError, Global};
 use std::process::ExitCode;
 
 /// The status of words that are wrong.
-const BAD_WORDS: u8 = 2;
+pub(crate) const BAD_WORDS: u8 = 2;
 
-/// `run --society NNN --name TEXT --date YYYYMMDD --time HHMMSS FILE..`
+/// `run --society NNN --name TEXT --date YYYYMMDD --time HHMMSS [--from REGISTER] [--to REGISTER] FILE..`
 pub(crate) fn run_command<'a>(alloc: Global) -> Result<Command<'a>, AllocError> {
     let files = Arg::new(alloc, "FILE")
         .action(ArgAction::Append)
@@ -21,19 +21,18 @@ pub(crate) fn run_command<'a>(alloc: Global) -> Result<Command<'a>, AllocError> 
         .required(true);
     Command::new(alloc, "run")
         .about("Acknowledges CWR 2.2 files, the acknowledgement of FILE in FILE.ack")
-        .arg(option(alloc, "society", "NNN"))?
-        .arg(option(alloc, "name", "TEXT"))?
-        .arg(option(alloc, "date", "YYYYMMDD"))?
-        .arg(option(alloc, "time", "HHMMSS"))?
+        .arg(option(alloc, "society", "NNN").required(true))?
+        .arg(option(alloc, "name", "TEXT").required(true))?
+        .arg(option(alloc, "date", "YYYYMMDD").required(true))?
+        .arg(option(alloc, "time", "HHMMSS").required(true))?
+        .arg(option(alloc, "from", "REGISTER"))?
+        .arg(option(alloc, "to", "REGISTER"))?
         .arg(files)
 }
 
-/// An option with one value, which may not be left out.
+/// An option with one value, which is given at most once.
 fn option<'a>(alloc: Global, name: &'a str, value: &'a str) -> Arg<'a> {
-    Arg::new(alloc, name)
-        .long(name)
-        .value_name(value)
-        .required(true)
+    Arg::new(alloc, name).long(name).value_name(value)
 }
 
 /// The words of a run, as they were given.
@@ -47,6 +46,10 @@ pub(crate) struct RunWords<'m, 'a> {
     pub(crate) date: &'a str,
     /// The time of the acknowledgements.
     pub(crate) time: &'a str,
+    /// The register of the book that the run begins with, where it is not an empty one.
+    pub(crate) from: Option<&'a str>,
+    /// The file that gets the register of the book after the run, if any does.
+    pub(crate) to: Option<&'a str>,
     /// The files to acknowledge.
     pub(crate) files: &'m [&'a str],
 }
@@ -59,6 +62,8 @@ impl<'m, 'a> RunWords<'m, 'a> {
             name: matches.get_str("name")?,
             date: matches.get_str("date")?,
             time: matches.get_str("time")?,
+            from: matches.get_str("from"),
+            to: matches.get_str("to"),
             files: matches.get_strs("FILE")?,
         })
     }
@@ -86,7 +91,9 @@ impl<'m, 'a> RunWords<'m, 'a> {
 pub(crate) fn right_words<'m, 'a, R: Eprint>(
     rt: &R,
     matches: &'m ArgMatches<'a>,
-) -> Result<RunWords<'m, 'a>, ExitCode> {
+) -> Result<RunWords<'m, 'a>, ExitCode>
+    ensures few { IfOk result (λ words. length words.files.now < 64) }
+{
     let Some(words) = RunWords::given(matches) else {
         return Err(ExitCode::from(BAD_WORDS));
     };

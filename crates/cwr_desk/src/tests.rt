@@ -1,16 +1,17 @@
 //! Files of the profile, and what becomes of each.
 
+mod checks;
+mod commands;
 mod decided;
+mod kept_registers;
+mod run_words;
+mod runs;
 mod sheets;
 mod threads;
 mod turns;
+mod words;
 
 ghost use Rattle.std.specs.Prelude.{◌≡◌, None, false, IfOk};
-
-mod checks;
-mod commands;
-mod run_words;
-mod words;
 
 use crate::fake::Fake;
 use crate::{FileOutcome, ReadRefused, Why, acknowledge, outcome_line, read_file, run_program};
@@ -304,7 +305,7 @@ fn runs_on_standard_input(rt: HostRuntime) -> Result<(), Fail> {
         ),
     ];
     for (words, input, status, printed, complained) in cases {
-        let fake = Fake::new(alloc, words, input);
+        let fake = Fake::new(&rt, words, input);
         assert_eq!(rt; run_program(&fake), status);
         let (out, err) = fake.into_texts();
         assert_eq!(rt; out.as_slice(), printed);

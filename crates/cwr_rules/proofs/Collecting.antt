@@ -1,8 +1,7 @@
 -- One record more whose shares are collected.
-use Rattle.std.proofs.Common.{◌≡◌, ℕ, ◌+◌, Bool, true, false, cond, eqb, List, [], ◌∷◌, Option, Some, None, refl, sym, ap, subst, ◌∙◌, arith, nat_cmp, is_eq}
+use Rattle.std.proofs.Common.{◌≡◌, ℕ, ◌+◌, Bool, true, false, cond, eqb, List, [], ◌∷◌, Option, Some, None, refl, sym, ap, subst, ◌∙◌, arith}
 use Rattle.std.specs.Prelude.{◌||◌, filter, unwrap_or}
 use Rattle.std.specs.List.{list_any, cons_option}
-use Rattle.std.specs.BTreeMap.{BTreeMap, get}
 use Rattle.std.proofs.lemmas.Bool.Decides.{nat_tests}
 use Rattle.cwr_rules.specs.declared.record.Record.{Record}
 use Rattle.cwr_rules.specs.declared.record.Shares.{Shares}
@@ -65,40 +64,36 @@ over_more r rest code e =
       | false ↦ λ h. same_any (λ c. is_over (collection c (r ∷ rest))) (λ c. is_over (collection c rest)) (codes_of rest) (λ c. stays c r rest code e h)
     ]) refl
 
-is_at_code : (a b : ℕ) → is_eq (nat_cmp a b) ≡ eqb a b
-is_at_code a b = grind (arith, nat_tests)
-
 same_totals : (a b : Totals) → a.performing ≡ b.performing → a.mechanical ≡ b.mechanical → a.synchronization ≡ b.synchronization → a ≡ b
 same_totals a b p m s =
     let one : a ≡ record { performing = b.performing; mechanical = a.mechanical; synchronization = a.synchronization } = ap (λ (x : ℕ). made x a.mechanical a.synchronization) p in
     let two : made b.performing a.mechanical a.synchronization ≡ made b.performing b.mechanical a.synchronization = ap (λ (x : ℕ). made b.performing x a.synchronization) m in
     one ∙ two ∙ ap (λ (x : ℕ). made b.performing b.mechanical x) s
 
-value_more : (map : BTreeMap ℕ Totals) (rest : List Record) (r : Record) (code c : ℕ) (t : Totals)
-    → included r ≡ Some code → t ≡ with_shares (collection code rest) (shares_of r) → value_at map c ≡ collection c rest
-    → unwrap_or (cond (is_eq (nat_cmp code c)) (Some t) (get nat_cmp map c)) (made 0 0 0) ≡ collection c (r ∷ rest)
-value_more map rest r code c t e t_is old =
-    let P : Bool → Type 0 = λ b. eqb code c ≡ b → unwrap_or (cond b (Some t) (get nat_cmp map c)) (made 0 0 0) ≡ cond b (with_shares (collection c rest) (shares_of r)) (collection c rest) in
-    ap (λ (b : Bool). unwrap_or (cond b (Some t) (get nat_cmp map c)) (made 0 0 0)) (is_at_code code c)
-    ∙ (elim (eqb code c) as P [
+value_more : (found : ℕ → Option Totals) (rest : List Record) (r : Record) (code c : ℕ) (t : Totals)
+    → included r ≡ Some code → t ≡ with_shares (collection code rest) (shares_of r) → value_at found c ≡ collection c rest
+    → unwrap_or (cond (eqb code c) (Some t) (found c)) (made 0 0 0) ≡ collection c (r ∷ rest)
+value_more found rest r code c t e t_is old =
+    let P : Bool → Type 0 = λ b. eqb code c ≡ b → unwrap_or (cond b (Some t) (found c)) (made 0 0 0) ≡ cond b (with_shares (collection c rest) (shares_of r)) (collection c rest) in
+    (elim (eqb code c) as P [
       | true ↦ λ same. let at : code ≡ c = grind (arith, nat_tests) in t_is ∙ ap (λ (k : ℕ). with_shares (collection k rest) (shares_of r)) at
       | false ↦ λ same. old
     ]) refl
     ∙ sym (collected c r rest code e)
 
-pub collect_more : (map new : BTreeMap ℕ Totals) (over now : Bool) (rest : List Record) (r : Record) (code : ℕ) (t : Totals) (shares : Shares)
+pub collect_more : (found new : ℕ → Option Totals) (over now : Bool) (rest : List Record) (r : Record) (code : ℕ) (t : Totals) (shares : Shares)
     → included r ≡ Some code → shares_of r ≡ shares
-    → t.performing ≡ (value_at map code).performing + valued shares.performing → t.mechanical ≡ (value_at map code).mechanical + valued shares.mechanical → t.synchronization ≡ (value_at map code).synchronization + valued shares.synchronization
-    → ((q : ℕ) → get nat_cmp new q ≡ cond (is_eq (nat_cmp code q)) (Some t) (get nat_cmp map q))
+    → t.performing ≡ (value_at found code).performing + valued shares.performing → t.mechanical ≡ (value_at found code).mechanical + valued shares.mechanical → t.synchronization ≡ (value_at found code).synchronization + valued shares.synchronization
+    → ((q : ℕ) → new q ≡ cond (eqb code q) (Some t) (found q))
     → now ≡ (is_over t || over)
-    → IsCollected map over rest → IsCollected new now (r ∷ rest)
-collect_more map new over now rest r code t shares e s p m q put flag so_far =
-    let by_map : t ≡ with_shares (value_at map code) shares = same_totals t (with_shares (value_at map code) shares) p m q in
+    → IsCollected found over rest → IsCollected new now (r ∷ rest)
+collect_more found new over now rest r code t shares e s p m q put flag so_far =
+    let by_map : t ≡ with_shares (value_at found code) shares = same_totals t (with_shares (value_at found code) shares) p m q in
     let old = so_far.values code in
     let t_is : t ≡ with_shares (collection code rest) (shares_of r) = by_map ∙ ap (λ (x : Totals). with_shares x shares) old ∙ ap (λ (x : Shares). with_shares (collection code rest) x) (sym s) in
     let here : t ≡ collection code (r ∷ rest) = t_is ∙ sym (collected code r rest code e ∙ rw (eqb_same code) refl) in
     let over_is : now ≡ is_over_somewhere (r ∷ rest) = flag ∙ ap (λ (x : Totals). is_over x || over) here ∙ ap (λ (b : Bool). is_over (collection code (r ∷ rest)) || b) so_far.over_is ∙ sym (over_more r rest code e) in
     record {
-      values = λ c. ap (λ (o : Option Totals). unwrap_or o (made 0 0 0)) (put c) ∙ value_more map rest r code c t e t_is (so_far.values c);
+      values = λ c. ap (λ (o : Option Totals). unwrap_or o (made 0 0 0)) (put c) ∙ value_more found rest r code c t e t_is (so_far.values c);
       over_is = over_is;
     }

@@ -8,3 +8,4 @@ pub mod FaultForms
 pub mod LawfulCall
 pub mod TerritoryLaw
 pub mod NameLaw
+pub mod PartyKeys

@@ -1,8 +1,6 @@
 -- What is added up over the records of a transaction.
-use Rattle.std.specs.Prelude.{ℕ, ◌≡◌, ◌<◌, ◌≤◌, ◌^◌, Bool, List, [], ◌∷◌, unwrap_or}
+use Rattle.std.specs.Prelude.{ℕ, ◌≡◌, ◌<◌, ◌≤◌, ◌^◌, Bool, List, [], ◌∷◌, Option, unwrap_or}
 use Rattle.std.specs.List.{list_any}
-use Rattle.std.specs.BTreeMap.{BTreeMap, get}
-use Rattle.std.specs.Ordering.{nat_cmp}
 use Rattle.cwr_rules.specs.declared.record.Record.{Record}
 use Rattle.cwr_rules.specs.declared.totals.Totals.{Totals}
 use Rattle.cwr_rules.specs.declared.sums.Sums.{Sums}
@@ -31,9 +29,10 @@ abbrev pub AreCapped : List Record → Type 0
 AreCapped [] = Unit {0}
 AreCapped (r ∷ records) = IsCapped r × AreCapped records
 
-abbrev pub value_at : BTreeMap ℕ Totals → ℕ → Totals
-value_at map code = unwrap_or (get nat_cmp map code) (record { performing = 0; mechanical = 0; synchronization = 0 })
+-- the totals at a code, where nothing found is nothing collected
+abbrev pub value_at : (ℕ → Option Totals) → ℕ → Totals
+value_at found code = unwrap_or (found code) (record { performing = 0; mechanical = 0; synchronization = 0 })
 
-pub record IsCollected (map : BTreeMap ℕ Totals) (over : Bool) (records : List Record) : Type 0 where
-  pub values : (code : ℕ) → value_at map code ≡ collection code records
+pub record IsCollected (found : ℕ → Option Totals) (over : Bool) (records : List Record) : Type 0 where
+  pub values : (code : ℕ) → value_at found code ≡ collection code records
   pub over_is : over ≡ is_over_somewhere records

@@ -1,6 +1,5 @@
 -- What is kept of the records of a transaction.
-use Rattle.std.specs.Prelude.{ℕ, ◌≡◌, Bool, List}
-use Rattle.std.specs.BTreeMap.{BTreeMap}
+use Rattle.std.specs.Prelude.{ℕ, ◌≡◌, Bool, List, Option}
 use Rattle.std.specs.BTreeSet.{BTreeSet}
 use Rattle.cwr_rules.specs.declared.record.Record.{Record}
 use Rattle.cwr_rules.specs.declared.totals.Totals.{Totals}
@@ -9,7 +8,7 @@ use Rattle.cwr_rules.specs.Rules.{publishers}
 use Rattle.cwr_rules.specs.Collected.{sums_of, IsCollected}
 use Rattle.cwr_rules.specs.Parties.{HoldsParties}
 
-pub record IsSummary (sums : Sums) (parties : BTreeSet (List ℕ)) (by_code : BTreeMap ℕ Totals) (is_over : Bool) (records : List Record) : Type 0 where
+pub record IsSummary (sums : Sums) (parties : BTreeSet (ℕ × ℕ)) (found : ℕ → Option Totals) (is_over : Bool) (records : List Record) : Type 0 where
   pub sums_are : sums ≡ sums_of records
   pub holds : HoldsParties parties (publishers records)
-  pub collected : IsCollected by_code is_over records
+  pub collected : IsCollected found is_over records

@@ -1,4 +1,5 @@
-ghost use Rattle.std.specs.Prelude.{◌≡◌, ◌<◌, IsTrue, IfOk, length};
+ghost use Rattle.std.specs.Prelude.{◌≡◌, ◌<◌, IsTrue, IfOk, length, nat_eq};
+ghost use Rattle.std.specs.HashMap.{get};
 ghost use Rattle.cwr_field.specs.Layout.{field};
 ghost use Rattle.cwr_field.specs.Iswc.{iswc_of};
 ghost use Rattle.cwr_rules.specs.Lawful.{is_clean, is_iswc};
@@ -38,7 +39,7 @@ fn faults_of<A: Allocator + Copy>(
     summary: &Summary<A>,
 ) -> Result<Vec<Fault, A>, Memory>
     requires few { length records.now < 99999999 }
-    requires summary { IsSummary summary.now.sums summary.now.parties.set summary.now.collected.by_code summary.now.collected.is_over records.now }
+    requires summary { IsSummary summary.now.sums summary.now.parties.set (get nat_eq summary.now.collected.by_code) summary.now.collected.is_over records.now }
     ensures { IfOk result (λ faults. faults.items ≡ faults_of kind head.now records.now) }
 {
     let mut faults = Vec::new(alloc);

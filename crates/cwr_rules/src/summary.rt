@@ -1,4 +1,5 @@
-ghost use Rattle.std.specs.Prelude.{◌<◌, IfOk, length};
+ghost use Rattle.std.specs.Prelude.{◌<◌, IfOk, length, nat_eq};
+ghost use Rattle.std.specs.HashMap.{get};
 ghost use Rattle.cwr_rules.specs.Collected.{AreCapped};
 ghost use Rattle.cwr_rules.specs.Summary.{IsSummary};
 
@@ -25,7 +26,7 @@ pub(crate) fn summary_of<A: Allocator + Copy>(
 ) -> Result<Summary<A>, Memory>
     requires few { length records.now < 99999999 }
     requires capped { AreCapped records.now }
-    ensures { IfOk result (λ s. IsSummary s.sums s.parties.set s.collected.by_code s.collected.is_over records.now) }
+    ensures { IfOk result (λ s. IsSummary s.sums s.parties.set (get nat_eq s.collected.by_code) s.collected.is_over records.now) }
 {
     let mut sums = Sums::new();
     let mut parties = Parties::new(alloc);

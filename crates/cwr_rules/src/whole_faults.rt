@@ -1,4 +1,5 @@
-ghost use Rattle.std.specs.Prelude.{◌≡◌, ◌++◌, List, OnOk};
+ghost use Rattle.std.specs.Prelude.{◌≡◌, ◌++◌, List, OnOk, nat_eq};
+ghost use Rattle.std.specs.HashMap.{get};
 ghost use Rattle.cwr_field.specs.Layout.{field};
 ghost use Rattle.cwr_record.specs.Kinds.{work_kind_code};
 ghost use Rattle.cwr_rules.specs.declared.record.Record.{Record};
@@ -70,7 +71,7 @@ pub(crate) fn push_faults_of_whole<A: Allocator + Copy>(
     head: &[u8],
     summary: &Summary<A>,
 ) -> Result<(), Memory>
-    ensures { OnOk result ((records : List Record) → IsSummary summary.now.sums summary.now.parties.set summary.now.collected.by_code summary.now.collected.is_over records
+    ensures { OnOk result ((records : List Record) → IsSummary summary.now.sums summary.now.parties.set (get nat_eq summary.now.collected.by_code) summary.now.collected.is_over records
         → faults.new.items ≡ faults.old.items ++ all_found 0 (work_kind_code kind) (head_rules head.now records)) }
 {
     let rtype = header_name(kind);

@@ -1,5 +1,5 @@
 -- A desk is opened, and closed.
-use Rattle.std.proofs.Common.{◌≡◌, ℕ, zero, suc, ◌+◌, ◌-◌, ◌*◌, ◌<◌, ◌≤◌, ◌≢◌, ◌⊎◌, Bool, true, false, cond, ◌&&◌, Option, Some, List, [], ◌∷◌, ◌++◌, length, set, replicate, sym, refl, ap, ◌∙◌, ⊎_elim, subst, arith, append-nil}
+use Rattle.std.proofs.Common.{◌≡◌, ℕ, ◌+◌, ◌-◌, ◌<◌, ◌≤◌, ◌≢◌, Bool, true, false, cond, ◌&&◌, Option, Some, List, [], ◌∷◌, ◌++◌, length, set, replicate, sym, refl, ap, ◌∙◌, ⊎_elim, subst, arith, append-nil}
 use Rattle.std.specs.Prelude.{◌==◌, nat_lt, slice_index, All}
 use Rattle.std.specs.List.{sum_by}
 use Rattle.std.proofs.lemmas.Bool.Decides.{nat_tests}
@@ -16,11 +16,10 @@ use Rattle.work_registry.specs.BookValue.{BookValue}
 use Rattle.work_registry.specs.History.{IsHistory}
 use Rattle.work_registry.specs.Replay.{made, is_opening}
 use Rattle.registry_desk.specs.declared.view.View.{View}
-use Rattle.registry_desk.specs.declared.view.Met.{Met}
 use Rattle.registry_desk.specs.declared.seat.Counts.{Counts}
 use Rattle.registry_desk.specs.Plays.{Seated}
 use Rattle.registry_desk.specs.Standing.{Rests}
-use Rattle.registry_desk.specs.Views.{phase_of, seats_of, turns_of, spent_view, most_turns, opening_view}
+use Rattle.registry_desk.specs.Views.{phase_of, seats_of, spent_view, most_turns, opening_view}
 use Rattle.registry_desk.specs.Rule.{ViewFits, Kept}
 use Rattle.registry_desk.specs.Closing.{Closes}
 use Rattle.registry_desk.proofs.Lists.{there, no_other, prefix_self}

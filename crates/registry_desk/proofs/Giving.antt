@@ -1,6 +1,5 @@
 -- The opening seat gives a seat.
-use Rattle.std.proofs.Common.{◌≡◌, ℕ, zero, suc, ◌+◌, ◌*◌, ◌<◌, ◌≤◌, ◌≢◌, ◌⊎◌, Bool, true, false, Option, List, [], ◌∷◌, ◌++◌, map, length, get_or, set, sym, refl, ap, ◌∙◌, subst, inl, inr, ⊎_elim, arith, length-append, length-set}
-use Rattle.std.specs.List.{sum_by}
+use Rattle.std.proofs.Common.{◌≡◌, ℕ, zero, suc, ◌+◌, ◌<◌, ◌≢◌, ◌⊎◌, true, false, List, [], ◌∷◌, ◌++◌, map, length, get_or, set, sym, refl, ap, ◌∙◌, subst, inl, inr, ⊎_elim, arith, length-append, length-set}
 use Rattle.std.proofs.lemmas.List.{map-set, length-map}
 use Rattle.std.proofs.lemmas.List.Sums.{sum_by_push}
 use mathlib.Core.Logic.{dite}
@@ -14,7 +13,6 @@ use Rattle.ticket_core.specs.declared.array_lock.ArrayPhase.{ArrayPhase}
 use Rattle.ticket_core.specs.declared.array_lock.ArrayPhase.TheVariants.{Away}
 use Rattle.ticket_core.specs.ArrayLock.{IsLawfulArrayState}
 use Rattle.registry_desk.specs.declared.view.View.{View}
-use Rattle.registry_desk.specs.declared.view.Met.{Met}
 use Rattle.registry_desk.specs.Views.{phase_of, seats_of, turns_of, spent_view, giving, given_view}
 use Rattle.registry_desk.specs.Rule.{flags_of, ViewFits, Kept}
 use Rattle.registry_desk.proofs.Lists.{within, sum_set}

@@ -1,5 +1,5 @@
 -- A seat that is inside hands calls in, and leaves with the book that it then has.
-use Rattle.std.proofs.Common.{◌≡◌, ◌≢◌, ℕ, ◌+◌, ◌%◌, ◌≤◌, Bool, true, false, cond, Option, Some, None, List, [], ◌∷◌, ◌++◌, length, drop, sym, refl, ap, ◌∙◌, subst, arith, append-nil, append_assoc, length-append}
+use Rattle.std.proofs.Common.{◌≡◌, ◌≢◌, ℕ, ◌+◌, ◌%◌, ◌≤◌, Bool, true, false, cond, Option, Some, List, [], ◌∷◌, ◌++◌, length, drop, sym, refl, ap, ◌∙◌, subst, arith, append-nil, length-append}
 use Rattle.std.specs.Prelude.{◌==◌}
 use Rattle.std.proofs.lemmas.Bool.Decides.{nat_tests}
 use Rattle.std.proofs.Math.Seq.{drop-length}
@@ -11,10 +11,10 @@ use Rattle.work_registry.specs.History.{IsHistory}
 use Rattle.work_registry.specs.Replay.{made}
 use Rattle.registry_desk.specs.declared.view.View.{View}
 use Rattle.registry_desk.specs.declared.seat.Counts.{Counts}
-use Rattle.registry_desk.specs.Views.{shut, after_turn, passed}
+use Rattle.registry_desk.specs.Views.{shut, passed}
 use Rattle.registry_desk.specs.Rule.{Kept}
 use Rattle.registry_desk.specs.Plays.{Seated, Shuts}
-use Rattle.registry_desk.specs.Standing.{DeskId, Standing, Stay, Adds, Stays, Leaves, Rests}
+use Rattle.registry_desk.specs.Standing.{DeskId, Standing, Stay, Stays, Leaves, Rests}
 use Rattle.registry_desk.proofs.Shutting.{Turned, marked_now, shut_allowed}
 
 -- an entry of a session is one of its own

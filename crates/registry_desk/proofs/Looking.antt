@@ -1,10 +1,9 @@
 -- What a seat has once it has looked.
-use Rattle.std.proofs.Common.{◌≡◌, ◌≢◌, ℕ, ◌+◌, ◌*◌, ◌<◌, ◌≤◌, true, false, Option, Some, None, List, [], ◌∷◌, length, sym, refl, ap, ◌∙◌, subst, append-nil}
+use Rattle.std.proofs.Common.{◌≡◌, ◌≢◌, ℕ, ◌+◌, ◌<◌, ◌≤◌, true, false, Some, None, List, [], ◌∷◌, length, sym, refl, ap, ◌∙◌, subst, append-nil}
 use mathlib.Core.Option.{none}
 use Rattle.atomic_table.specs.Table.{step, rest}
 use Rattle.work_registry.specs.EntryValue.{EntryValue}
 use Rattle.work_registry.specs.BookValue.{BookValue}
-use Rattle.work_registry.specs.Replay.{made}
 use Rattle.registry_desk.specs.declared.view.View.{View}
 use Rattle.registry_desk.specs.declared.seat.Counts.{Counts}
 use Rattle.registry_desk.specs.Views.{most_turns, open_flag, entered}

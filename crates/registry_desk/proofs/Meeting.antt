@@ -1,6 +1,5 @@
 -- The opening seat meets another one.
-use Rattle.std.proofs.Common.{◌≡◌, ℕ, ◌+◌, ◌*◌, ◌<◌, ◌≤◌, ◌≢◌, ◌⊎◌, Bool, true, false, cond, Option, List, [], ◌∷◌, ◌++◌, map, length, get_or, set, sym, refl, ap, ◌∙◌, subst, ⊎_elim, arith, length-append, length-set}
-use Rattle.std.specs.List.{sum_by}
+use Rattle.std.proofs.Common.{◌≡◌, ℕ, ◌+◌, ◌*◌, ◌≤◌, ◌≢◌, Bool, true, false, cond, List, [], ◌∷◌, map, length, get_or, set, sym, refl, ap, ◌∙◌, subst, ⊎_elim, arith, length-append, length-set}
 use Rattle.std.specs.Prelude.{nat_le}
 use Rattle.std.proofs.lemmas.List.Sums.{get_or-le-sum_by}
 use mathlib.Core.Logic.{dite}
@@ -10,7 +9,6 @@ use native.Mathlib.Decide.{ℕ_discrete}
 use lib.ListN.{get_elem?}
 use Rattle.atomic_table.specs.Table.{step, keeps, Allows, Joins}
 use Rattle.atomic_table.proofs.Lists.{at_set, set_else, set_here, set_again, at_snoc, at_longer, at_last}
-use Rattle.ticket_core.specs.declared.array_lock.ArrayPhase.{ArrayPhase}
 use Rattle.ticket_core.specs.declared.array_lock.ArrayPhase.TheVariants.{Away, Inside}
 use Rattle.work_registry.specs.EntryValue.{EntryValue}
 use Rattle.registry_desk.specs.declared.view.View.{View}

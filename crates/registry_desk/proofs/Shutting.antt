@@ -1,9 +1,9 @@
 -- A seat that is inside puts the book back and shuts its flag.
-use Rattle.std.proofs.Common.{◌≡◌, ℕ, ◌+◌, ◌%◌, ◌<◌, ◌≤◌, ◌≢◌, Bool, true, false, cond, Option, Some, None, List, [], ◌∷◌, ◌++◌, length, drop, get_or, set, sym, refl, ap, ◌∙◌, subst, arith, length-append, length-set, get_or-set_other}
+use Rattle.std.proofs.Common.{◌≡◌, ℕ, ◌+◌, ◌%◌, ◌≤◌, ◌≢◌, Bool, true, false, cond, Option, Some, None, List, [], ◌∷◌, ◌++◌, length, drop, get_or, set, sym, refl, ap, ◌∙◌, subst, arith, length-append, length-set, get_or-set_other}
 use Rattle.std.specs.Prelude.{◌==◌}
 use Rattle.std.proofs.lemmas.List.Elements.{filter-append}
 use Rattle.std.proofs.Math.Seq.{drop-append_seam}
-use mathlib.Core.Option.{Option as Maybe, some, none, some-injective}
+use mathlib.Core.Option.{some, none}
 use mathlib.Core.List.{IsPrefix}
 use lib.ListN.{get_elem?}
 use Rattle.atomic_table.specs.Table.{step, gives, Allows}
@@ -16,9 +16,9 @@ use Rattle.work_registry.specs.History.{IsHistory}
 use Rattle.work_registry.specs.Replay.{made}
 use Rattle.registry_desk.specs.declared.view.View.{View}
 use Rattle.registry_desk.specs.declared.view.Met.{Met}
-use Rattle.registry_desk.specs.Views.{turns_of, spent_view, shut}
+use Rattle.registry_desk.specs.Views.{turns_of, shut}
 use Rattle.registry_desk.specs.Rule.{shown_lock, MetFits, ViewFits, Kept}
-use Rattle.registry_desk.specs.Plays.{Seated, Shuts}
+use Rattle.registry_desk.specs.Plays.{Shuts}
 use Rattle.registry_desk.proofs.Lists.{within, prefix_more, prefix_self, made_more}
 use Rattle.registry_desk.proofs.Lock.{lawful_after, shut_event, alone}
 use Rattle.registry_desk.proofs.Steps.{not_spent, moved}

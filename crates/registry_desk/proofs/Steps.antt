@@ -1,14 +1,13 @@
 -- Each step of a seat keeps the rule.
-use Rattle.std.proofs.Common.{◌≡◌, ℕ, ◌+◌, ◌*◌, ◌%◌, ◌^◌, ◌<◌, ◌≤◌, ◌≢◌, Bool, true, false, cond, Option, Some, None, List, [], ◌∷◌, ◌++◌, length, get_or, set, sym, refl, ap, ◌∙◌, subst, ⊎_elim, arith, length-set, get_or-set_other, get_or-set_same}
+use Rattle.std.proofs.Common.{◌≡◌, ℕ, ◌+◌, ◌*◌, ◌%◌, ◌^◌, ◌<◌, ◌≤◌, ◌≢◌, Bool, true, false, cond, Option, Some, List, [], ◌∷◌, length, get_or, set, sym, refl, ap, ◌∙◌, subst, ⊎_elim, arith, length-set, get_or-set_other, get_or-set_same}
 use Rattle.std.specs.List.{sum_by}
-use Rattle.std.specs.Prelude.{◌==◌}
 use Rattle.std.proofs.lemmas.Bool.Decides.{nat_tests}
 use mathlib.Core.Logic.{dite}
 use mathlib.Core.List.{IsPrefix}
 use mathlib.Core.Option.{Option as Maybe, some, none, some-injective}
 use native.Mathlib.Decide.{ℕ_discrete}
 use lib.ListN.{get_elem?}
-use Rattle.atomic_table.specs.Table.{State, step, keeps, takes, Allows}
+use Rattle.atomic_table.specs.Table.{step, keeps, takes, Allows}
 use Rattle.atomic_table.proofs.Lists.{at_set, set_else, set_here, set_again}
 use Rattle.ticket_core.specs.declared.array_lock.ArrayPhase.TheVariants.{Away, Waiting, Inside, Leaving}
 use Rattle.ticket_core.specs.declared.array_lock.ArrayEvent.TheVariants.{Draw, Look, Pass}
@@ -21,13 +20,10 @@ use Rattle.work_registry.specs.Replay.{made}
 use Rattle.registry_desk.specs.declared.view.View.{View}
 use Rattle.registry_desk.specs.declared.view.Met.{Met}
 use Rattle.registry_desk.specs.Views.{phase_of, seats_of, turns_of, spent_view, most_turns, drawn, looked, entered, passed}
-use Rattle.registry_desk.specs.Rule.{is_open, shown_lock, MetFits, ViewFits, NobodyInside, Kept}
+use Rattle.registry_desk.specs.Rule.{DeskState, is_open, shown_lock, ViewFits, NobodyInside, Kept}
 use Rattle.registry_desk.specs.Plays.{Seated, book_with, Draws, Looks, Passes as PassesOn}
 use Rattle.registry_desk.proofs.Lists.{within, read, there, sum_set, sum_bound}
 use Rattle.registry_desk.proofs.Lock.{lawful_after, draw_event, enter_event, wait_event, pass_event, nobody_in}
-
-abbrev pub Table : Type 0
-Table = State (Option BookValue) View
 
 -- two views at one place are one
 pub one_view : (views : List View) (i j : ℕ) (v x : View) → get_elem? views i ≡ some v → get_elem? views j ≡ some x → j ≡ i → x ≡ v
@@ -49,13 +45,13 @@ bounded_turns n i history limit v f = by v.spent refl where
   by false live = let a = f.turns in let b = f.met_turns in let e = ap (λ (k : ℕ). k * most_turns) (own_seats v live) in omega arith
 
 -- the numbers of tickets stay small
-pub small_tickets : (s : Table) → Kept s → get_or s.words 0 0 < 2 ^ 38
+pub small_tickets : (s : DeskState) → Kept s → get_or s.words 0 0 < 2 ^ 38
 small_tickets s r = let b = sum_bound turns_of seats_of most_turns s.views (λ i v at. bounded_turns (length s.views) i r.history r.limit v (r.each i v at)) in let t = r.total in let n = r.seats in
     let f = there s.views 0 r.some_seat in let o = (r.each 0 f.0 f.1).opens refl in let e = o.1 in let l = o.2 in
     let m : sum_by seats_of s.views * most_turns ≡ length s.views * most_turns = ap (λ (k : ℕ). k * most_turns) n in omega arith
 
 -- One seat's view changes to one of as many seats, and the history may grow by what that seat made
-module _ (s : Table) (r : Kept s) (id : ℕ) (v w : View) (at : get_elem? s.views id ≡ some v) where
+module _ (s : DeskState) (r : Kept s) (id : ℕ) (v w : View) (at : get_elem? s.views id ≡ some v) where
   here : id < length s.views
   here = within s.views id v at
 

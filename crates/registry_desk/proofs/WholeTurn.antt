@@ -1,5 +1,5 @@
 -- What one whole turn with one call does.
-use Rattle.std.proofs.Common.{◌≡◌, ◌≢◌, ℕ, ◌+◌, ◌≤◌, Bool, true, false, cond, Result, Ok, Err, List, [], ◌∷◌, ◌++◌, length, drop, sym, refl, ap, ◌∙◌, subst, append-nil}
+use Rattle.std.proofs.Common.{◌≡◌, ℕ, ◌+◌, ◌≤◌, Bool, true, false, cond, Result, Ok, Err, List, [], ◌∷◌, ◌++◌, length, drop, sym, refl, ap, ◌∙◌, subst, append-nil}
 use Rattle.std.specs.Prelude.{◌==◌, IfOk, IfErr, ◌↔◌}
 use Rattle.std.proofs.Math.Seq.{drop-append_seam, drop-length}
 use Rattle.std.proofs.lemmas.List.Elements.{filter-append}
@@ -7,7 +7,6 @@ use Rattle.ticket_core.specs.declared.array_lock.ArrayPhase.TheVariants.{Inside}
 use Rattle.cwr_rules.specs.CallValue.{CallValue}
 use Rattle.work_registry.specs.declared.reply.Reply.{Reply}
 use Rattle.work_registry.specs.EntryValue.{EntryValue}
-use Rattle.work_registry.specs.BookValue.{BookValue}
 use Rattle.work_registry.specs.Refusals.{RefusedValue, is_full, is_for_limit}
 use Rattle.work_registry.specs.Rows.{rows_of}
 use Rattle.work_registry.specs.Reply.{reply_to}
@@ -15,10 +14,10 @@ use Rattle.work_registry.specs.Numbers.{IsNumbered}
 use Rattle.work_registry.specs.History.{IsHistory}
 use Rattle.work_registry.specs.Replay.{made}
 use Rattle.registry_desk.specs.declared.view.View.{View}
-use Rattle.registry_desk.specs.Views.{drawn, looked, entered, after_turn}
+use Rattle.registry_desk.specs.Views.{drawn, after_turn}
 use Rattle.registry_desk.specs.Plays.{Finds, book_with}
 use Rattle.registry_desk.specs.Standing.{DeskId, Standing, Stay}
-use Rattle.registry_desk.specs.Turns.{Enters, WaitsOn, ComesIn, answered, refused, added_by, handed_in, HandsIn}
+use Rattle.registry_desk.specs.Turns.{Enters, WaitsOn, ComesIn, answered, refused, handed_in, HandsIn}
 use Rattle.registry_desk.proofs.Leaving.{own_entry}
 
 -- the same seat, which may have looked meanwhile

@@ -1,12 +1,11 @@
 -- The book that a desk is closed with.
-use Rattle.std.specs.Prelude.{◌≡◌, ℕ, ◌<◌, ◌≤◌, true, List, ◌++◌, length, All}
+use Rattle.std.specs.Prelude.{◌≡◌, ℕ, ◌≤◌, true, List, ◌++◌, length, All}
 use mathlib.Core.Option.{some}
 use mathlib.Core.List.{IsPrefix}
 use lib.ListN.{get_elem?}
 use Rattle.work_registry.specs.EntryValue.{EntryValue}
 use Rattle.work_registry.specs.BookValue.{BookValue}
 use Rattle.work_registry.specs.History.{IsHistory}
-use Rattle.work_registry.specs.Replay.{made}
 use Rattle.registry_desk.specs.declared.view.View.{View}
 use Rattle.registry_desk.specs.declared.view.Met.{Met}
 use Rattle.registry_desk.specs.Rule.{MetFits}

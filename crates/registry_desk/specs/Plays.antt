@@ -1,4 +1,5 @@
--- What each atomic step tells the seat that makes it: of the step, the seat before, the word found (at a store, the word stored) and the seat after.
+-- What each atomic step tells the seat that makes it: of the step, the seat before, the word found (at a store, the
+-- word stored) and the seat after.
 use Rattle.std.specs.Prelude.{◌≡◌, ◌≢◌, ℕ, ◌≤◌, Bool, List, [], ◌∷◌, length, Option, Some}
 use mathlib.Core.List.{IsPrefix}
 use Rattle.atomic_table.specs.Table.{Me, Step}
@@ -17,7 +18,8 @@ Seated = Me (Option BookValue) View
 abbrev pub book_with : View → List EntryValue → BookValue
 book_with v history = record { history = history; limit = v.limit }
 
--- what a seat that is let in finds: a history of one registry, which begins with all that the seat saw last, and holds of its session just the seat's own list
+-- what a seat that is let in finds: a history of one registry, which begins with what the seat saw last, and holds of
+-- its session just the seat's own list
 pub record Finds (v : View) (history : List EntryValue) : Type 0 where
   pub registry : IsHistory history
   pub bounded : length history ≤ v.limit
@@ -31,7 +33,8 @@ Draws step me ticket after = after ≡ (drawn me.0 ticket, me.1)
 -- where the word found is an open flag's, the seat is inside, with the book; else it waits on
 abbrev pub Looks : Step (Option BookValue) → Seated → ℕ → Seated → Type 0
 Looks step me found after = (ticket : ℕ) → me.0.phase ≡ Waiting ticket
-    → (found ≡ open_flag → (history : List EntryValue) × (after ≡ (entered me.0 ticket history, (0, Some (book_with me.0 history)) ∷ me.1)) × Finds me.0 history)
+    → (found ≡ open_flag → (history : List EntryValue)
+    × (after ≡ (entered me.0 ticket history, (0, Some (book_with me.0 history)) ∷ me.1)) × Finds me.0 history)
     × (found ≢ open_flag → after ≡ (looked me.0 found, me.1))
 
 -- the book is at home again, with the turn's entry

@@ -1,4 +1,5 @@
--- The rule of a desk: what holds between any two steps, whoever makes them. Word 0 is the next ticket, words 1 to 64 are the flags, and the one slot is the book's.
+-- The rule of a desk: what holds between any two steps, whoever makes them. Word 0 is the next ticket, words 1 to 64
+-- are the flags, and the one slot is the book's.
 use Rattle.std.specs.Prelude.{◌≡◌, ℕ, ◌+◌, ◌*◌, ◌<◌, ◌≤◌, Bool, true, false, ◌==◌, List, [], ◌∷◌, map, length, drop, slice_index, Option, Some}
 use Rattle.std.specs.List.{sum_by}
 use mathlib.Core.Option.{some}
@@ -55,9 +56,14 @@ NobodyInside views = (i t : ℕ) (v : View) → get_elem? views i ≡ some v →
 
 -- some seat has met the session
 abbrev pub HasMet : List View → ℕ → Type 0
-HasMet views session = (i : ℕ) × (k : ℕ) × (v : View) × (m : Met) × (get_elem? views i ≡ some v) × (get_elem? v.met k ≡ some m) × (m.session ≡ session)
+HasMet views session = (i : ℕ) × (k : ℕ) × (v : View) × (m : Met)
+    × (get_elem? views i ≡ some v) × (get_elem? v.met k ≡ some m) × (m.session ≡ session)
 
-pub record Kept (s : State (Option BookValue) View) : Type 0 where
+-- the words, the slot and the views of a desk
+abbrev pub DeskState : Type 0
+DeskState = State (Option BookValue) View
+
+pub record Kept (s : DeskState) : Type 0 where
   -- the history between two turns: that of the book at home, or the one that the seat inside found
   pub history : List EntryValue
   pub limit : ℕ
@@ -69,7 +75,8 @@ pub record Kept (s : State (Option BookValue) View) : Type 0 where
   pub some_seat : 0 < length s.views
   pub seats : sum_by seats_of s.views ≡ length s.views
   pub each : (i : ℕ) (v : View) → get_elem? s.views i ≡ some v → ViewFits (length s.views) history limit i v
-  pub apart : (i k : ℕ) (v : View) (m : Met) → get_elem? s.views i ≡ some v → get_elem? v.met k ≡ some m → get_elem? s.views m.session ≡ some spent_view
+  pub apart : (i k : ℕ) (v : View) (m : Met) → get_elem? s.views i ≡ some v → get_elem? v.met k ≡ some m
+      → get_elem? s.views m.session ≡ some spent_view
   pub joined : (j : ℕ) → get_elem? s.views j ≡ some spent_view → HasMet s.views j
   -- the book
   pub registry : IsHistory history

@@ -1,5 +1,5 @@
 -- What callers see of a seat, at rest, waiting and inside, and what is so of each.
-use Rattle.std.specs.Prelude.{◌≡◌, ◌≢◌, ℕ, ◌+◌, ◌*◌, ◌≤◌, ◌<◌, Bool, true, false, List, [], ◌∷◌, ◌++◌, length, Option, None}
+use Rattle.std.specs.Prelude.{◌≡◌, ◌≢◌, ℕ, ◌+◌, ◌≤◌, ◌<◌, Bool, true, false, List, [], ◌∷◌, ◌++◌, length, None}
 use Rattle.atomic_table.specs.Seated.{TableId}
 use Rattle.ticket_core.specs.declared.array_lock.ArrayPhase.TheVariants.{Away, Waiting as IsWaiting, Inside as IsInside, Leaving as IsLeaving}
 use Rattle.work_registry.specs.EntryValue.{EntryValue}
@@ -20,7 +20,8 @@ pub record Standing : Type 0 where
   pub desk : DeskId
   pub view : View
 
--- the same of a seat that is inside, with the book as it is now, whether no call of this turn was answered, and whether one found the book full
+-- the same of a seat that is inside, with the book as it is now, whether no call of this turn was answered, and whether
+-- one found the book full
 pub record Stay : Type 0 where
   pub desk : DeskId
   pub view : View

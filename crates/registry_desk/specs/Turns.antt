@@ -5,7 +5,6 @@ use Rattle.cwr_rules.specs.CallValue.{CallValue}
 use Rattle.work_registry.specs.declared.reply.Reply.{Reply}
 use Rattle.work_registry.specs.declared.refused.WhyRefused.{WhyRefused}
 use Rattle.work_registry.specs.EntryValue.{EntryValue}
-use Rattle.work_registry.specs.BookValue.{BookValue}
 use Rattle.work_registry.specs.Refusals.{RefusedValue, is_full, is_for_limit}
 use Rattle.work_registry.specs.Rows.{rows_of}
 use Rattle.work_registry.specs.Reply.{reply_to}
@@ -41,7 +40,12 @@ pub record ComesIn (r : Standing) (s : Stay) : Type 0 where
   pub ticket : ℕ
   pub looks : List ℕ
   pub desk : s.desk ≡ r.desk
-  pub view : s.view ≡ record r.view { phase = IsInside ticket; turns = r.view.turns + 1; looks = looks; held = s.book.history }
+  pub view : s.view ≡ record r.view {
+    phase = IsInside ticket;
+    turns = r.view.turns + 1;
+    looks = looks;
+    held = s.book.history;
+  }
   pub book : s.book ≡ book_with r.view s.book.history
   pub finds : Finds r.view s.book.history
   pub unused : s.unused ≡ true
@@ -54,7 +58,10 @@ LooksFor w (NotYet v) = WaitsOn w v
 -- a stay after a call that the book answered
 abbrev pub answered : Stay → CallValue → Reply → Stay
 answered s call reply = record s {
-  book = record { history = s.book.history ++ record { session = s.view.session; call = call; reply = reply } ∷ []; limit = s.book.limit };
+  book = record {
+    history = s.book.history ++ record { session = s.view.session; call = call; reply = reply } ∷ [];
+    limit = s.book.limit;
+  };
   unused = false;
 }
 
@@ -84,7 +91,8 @@ pub record HandsIn (v : View) (call : CallValue) (result : Result Reply RefusedV
   -- it found a history that begins with what the seat saw last, and holds of its session just its list
   pub found : List EntryValue
   pub finds : Finds v found
-  -- exactly one turn is taken. A reply adds exactly that entry, to the list and to what was found; a refusal adds none. Full marks the seat
+  -- exactly one turn is taken. A reply adds exactly that entry, to the list and to what was found; a refusal adds none,
+  -- and Full marks the seat
   pub view : w ≡ handed_in v found call result
   -- the reply is the registry's, after all entries found
   pub reply : IfOk result (λ r. r ≡ reply_to (rows_of found) call)

@@ -65,7 +65,8 @@ looked v found = record v { looks = v.looks ++ found ∷ [] }
 abbrev pub entered : View → ℕ → List EntryValue → View
 entered v ticket history = record (looked v open_flag) { phase = Inside ticket; held = history }
 
--- after a turn that left this history: what came after the history found is its own, and the mark says whether a call found the book full
+-- after a turn that left this history: what came after the history found is its own, and the mark says whether a call
+-- found the book full
 abbrev pub after_turn : View → Bool → List EntryValue → View
 after_turn v full history = record v {
   phase = Away;

@@ -1,4 +1,5 @@
--- The pure lock and the history together, over runs of any events of any places in any order. Place s is that of session s.
+-- The pure lock and the history together, over runs of any events of any places in any order. Place s is that of
+-- session s.
 use Rattle.std.specs.Prelude.{ℕ, Bool, true, false, if◌then◌else◌, ◌==◌, List, [], ◌∷◌, ◌++◌}
 use Rattle.ticket_core.specs.declared.array_lock.ArrayPhase.{ArrayPhase}
 use Rattle.ticket_core.specs.declared.array_lock.ArrayPhase.TheVariants.{Inside}
@@ -27,7 +28,8 @@ abbrev pub used_after : Bool → ArrayOutcome → Bool
 used_after used (Enters t) = false
 used_after used _ = used
 
--- what a call of a place in this phase adds: where it is inside, and has added none yet, one entry, with the registry's reply
+-- what a call of a place in this phase adds: where it is inside, and has added none yet, one entry, with the
+-- registry's reply
 abbrev pub added_at : World → ℕ → CallValue → ArrayPhase → List EntryValue
 added_at w place call (Inside t) = if w.used then [] else entry_for place w.history call ∷ []
 added_at w place call _ = []
@@ -42,8 +44,13 @@ added w (locks e) = []
 added w (applies place call) = added_at w place call (array_phase_at w.lock.phases place)
 
 abbrev pub world_after : World → WorldEvent → World
-world_after w (locks e) = record { lock = (array_answer w.lock e).0; history = w.history; used = used_after w.used (array_answer w.lock e).1 }
-world_after w (applies place call) = record { lock = w.lock; history = w.history ++ added w (applies place call); used = used_at w (array_phase_at w.lock.phases place) }
+world_after w (locks e) = let a = array_answer w.lock e in
+    record { lock = a.0; history = w.history; used = used_after w.used a.1 }
+world_after w (applies place call) = record {
+  lock = w.lock;
+  history = w.history ++ added w (applies place call);
+  used = used_at w (array_phase_at w.lock.phases place);
+}
 
 abbrev pub run_world : World → List WorldEvent → World
 run_world w [] = w

@@ -18,6 +18,10 @@ use std::alloc::Allocator;
 use std::sync::Wait;
 use work_registry::{Book, Call, Refused, Reply, WhyRefused};
 
+/// How often a seat looks before it sleeps. Its turn comes by a certain other seat, which often is not running: so it pays
+/// to sleep soon.
+const FEW_LOOKS: u32 = 2;
+
 impl<A: Allocator + Copy + Drop> Inside<A> {
     /// Hands a call in, as [`Book::apply`] does by the seat's session.
     ///
@@ -141,29 +145,31 @@ impl<A: Allocator + Copy + Drop> Desk<A> {
         let mut waiting = self.draw(seat);
         let place = place_of(waiting.ticket);
         let backoff = Backoff::new();
+        let mut looks: u32 = 0;
         for _ in rt.forever() {
-            match self.look_or_sleep(rt, waiting, place, &backoff) {
+            match self.look_or_sleep(rt, waiting, place, looks < FEW_LOOKS) {
                 Looked::Yours(inside) => return inside,
                 Looked::NotYet(still) => waiting = still,
             }
+            looks = looks.saturating_add(1);
+            backoff.spin();
         }
         unreachable!()
     }
 
-    /// Looks once more. After a few looks, where it is not the seat's turn, it first sleeps until the seat may be next.
+    /// Looks once more. Where that is not the seat's turn, it then sleeps until the seat may be next, unless it is `awake`.
     fn look_or_sleep(
         &self,
         rt: &impl Wait,
         waiting: Waiting<A>,
         place: usize,
-        backoff: &Backoff,
+        awake: bool,
     ) -> Looked<A>
         requires desk { waiting.desk ≡ self.now }
         requires place { place < 64 }
         ensures { LooksFor waiting result }
     {
-        if !backoff.is_completed() {
-            backoff.snooze();
+        if awake {
             return self.look(waiting);
         }
         let sleep = self.sleepers[place].prepare_wait();

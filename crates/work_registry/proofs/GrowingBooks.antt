@@ -1,5 +1,7 @@
 -- a new book, and one with an entry more
-use Rattle.std.proofs.Common.{◌≡◌, ◌≤◌, ◌<◌, ℕ, List, [], ◌∷◌, ◌++◌, length, length-append, refl, arith, append_assoc, append-nil, zero, suc, take, nat_eq}
+use Rattle.std.proofs.Common.{◌≡◌, ◌≤◌, ◌<◌, ◌∙◌, ap, Bool, true, false, ℕ, List, [], ◌∷◌, ◌++◌, length, length-append, refl, arith, append_assoc, append-nil, zero, suc, take, nat_eq}
+use Rattle.std.specs.Prelude.{◌==◌, ◌&&◌}
+use Rattle.std.proofs.lemmas.List.Folds.{list_all-append}
 use Rattle.std.specs.HashMap.{HashMap, get}
 use Rattle.cwr_rules.specs.CallValue.{CallValue}
 use Rattle.work_registry.specs.declared.key.Key.{Key}
@@ -10,7 +12,7 @@ use Rattle.work_registry.specs.Rows.{Row, rows_of, rows_of_entry, same_key}
 use Rattle.work_registry.specs.Reply.{reply_to}
 use Rattle.work_registry.specs.Numbers.{most_entries}
 use Rattle.work_registry.specs.History.{IsHistory}
-use Rattle.work_registry.specs.Replay.{entry_for, replay}
+use Rattle.work_registry.specs.Replay.{entry_for, replay, is_opening}
 use Rattle.work_registry.specs.Indexes.{AreIndexes, IsBook}
 use Rattle.work_registry.proofs.SoundHistories.{Follows, follows-rest, history-none, history-push}
 
@@ -19,6 +21,13 @@ book-none limit least most = record { lawful = history-none; fits = omega arith;
 
 pub book-push : (h : List EntryValue) (e : EntryValue) (limit : ℕ) → IsBook h limit → length h < limit → e.reply ≡ reply_to (rows_of h) e.call → IsBook (h ++ e ∷ []) limit
 book-push h e limit b lt is = record { lawful = history-push h e b.lawful is; fits = omega (arith, lt, length-append h (e ∷ [])); least = b.least; most = b.most }
+
+and-true : (b : Bool) → (b && true) ≡ b
+and-true true = refl
+and-true false = refl
+
+pub opening-push : (h : List EntryValue) (e : EntryValue) → is_opening (h ++ e ∷ []) ≡ (is_opening h && (e.session == 0))
+opening-push h e = list_all-append (λ (x : EntryValue). x.session == 0) h (e ∷ []) ∙ ap (λ b. is_opening h && b) (and-true (e.session == 0))
 
 pub indexes-none : {S T : Type 0} (claims : HashMap Key Claim S) (iswcs : HashMap ℕ ℕ T) (works : List KeptWork) → claims.entries ≡ [] → iswcs.entries ≡ [] → works ≡ [] →
     AreIndexes [] (get same_key claims) (get nat_eq iswcs) works

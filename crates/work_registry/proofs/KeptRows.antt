@@ -19,7 +19,7 @@ use Rattle.work_registry.specs.Rows.{Row, key_of, last_of_key, last_such, or_els
 use Rattle.work_registry.specs.Works.{control_in, has_work, is_iswc, iswc_of, others_in, share_in, work_count, work_of_iswc}
 use Rattle.work_registry.proofs.Keys.{same_key-true}
 use Rattle.work_registry.proofs.OneMoreRow.{eq-sym, sum-current-split, sum-current-push, last_such-push, work_count-push, iswc_of-push, work_of_iswc-push}
-use Rattle.work_registry.proofs.SoundRows.{IsSound, Takes, takes-from, work-of-key}
+use Rattle.work_registry.proofs.SoundRows.{IsSound, Takes, takes-from}
 
 -- one more row, at a key
 pub claim_of-push : (k : Key) (rows : List Row) (r : Row) →

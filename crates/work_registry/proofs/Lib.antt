@@ -17,3 +17,5 @@ pub mod RegisterLines
 pub mod RegisterFirstLine
 pub mod RegisterNextLine
 pub mod NumberedReplies
+pub mod RegisterAgain
+pub mod RegisterLaws

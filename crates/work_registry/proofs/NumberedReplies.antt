@@ -1,5 +1,5 @@
 -- The replies of a history have works and versions of eight digits.
-use Rattle.std.proofs.Common.{◌≡◌, ◌<◌, ◌≤◌, ℕ, suc, List, [], ◌∷◌, length, take, drop, slice_index_or, arith, sym, subst}
+use Rattle.std.proofs.Common.{◌<◌, ◌≤◌, ℕ, suc, List, [], ◌∷◌, length, take, drop, slice_index_or, arith, sym, subst}
 use Rattle.std.specs.List.{AllByRecursion}
 use Rattle.std.proofs.lemmas.List.{take-append-drop, length-take}
 use Rattle.work_registry.specs.declared.reply.Reply.{Reply}

@@ -1,19 +1,18 @@
 -- The line of an entry: what it says, and that it says nothing else.
-use Rattle.std.proofs.Common.{◌≡◌, ◌∙◌, ℕ, ◌+◌, ◌*◌, ◌<◌, ◌≤◌, ◌^◌, true, List, [], ◌∷◌, ◌++◌, length, take, drop, Option, Some, None, arith, ap, sym, subst, refl, is_some, IsTrue}
+use Rattle.std.proofs.Common.{◌≡◌, ◌∙◌, ℕ, ◌+◌, ◌*◌, ◌<◌, ◌≤◌, true, List, [], ◌∷◌, ◌++◌, length, take, drop, Option, Some, None, arith, ap, sym, subst, refl, is_some, IsTrue}
 use Rattle.std.specs.Prelude.{slice_index, IfSome}
-use Rattle.std.specs.List.{flat_map, AllByRecursion}
+use Rattle.std.specs.List.{AllByRecursion}
 use Rattle.std.proofs.lemmas.List.{length-append, length-take, take_at, drop_at, take_all, take-append-drop, append_cancel_right}
 use Rattle.cwr_record.specs.declared.works.WorkKind.{WorkKind}
 use Rattle.cwr_file.specs.declared.ack_item.Status.{Status}
 use Rattle.cwr_file.specs.declared.transaction_fault.Fault.{Fault}
-use Rattle.cwr_file.proofs.AckTexts.{same_fronts}
 use Rattle.cwr_file.proofs.AckValues.{same_kind, same_status, length-work_kind_code, length-status_text}
 use Rattle.cwr_rules.specs.Lawful.{is_lawful}
 use Rattle.work_registry.specs.declared.register.head.Head.{Head}
-use Rattle.work_registry.specs.RegisterLine.{line_of, StandsFor, head, fault, head_of, line_from, line_text, code_text, EntryLine, IsEntryLine, IsTyped}
-use Rattle.work_registry.specs.RegisterPieces.{FitsCode, FitsHead, FitsFault, IsWholeFault}
+use Rattle.work_registry.specs.RegisterLine.{line_of, StandsFor, head, head_of, line_from, code_text, EntryLine, IsEntryLine, IsTyped}
+use Rattle.work_registry.specs.RegisterPieces.{FitsCode, FitsHead, IsWholeFault}
 use Rattle.work_registry.proofs.RegisterFields.{same_number, same_code}
-use Rattle.work_registry.proofs.RegisterTables.{Fills, SameTexts, spelled, stands, same_texts, fills, length-line_of}
+use Rattle.work_registry.proofs.RegisterTables.{Fills, spelled, stands, same_texts, fills, length-line_of}
 use Rattle.work_registry.proofs.RegisterFits.{line_fits, lawful_parts, faults_fit, whole_faults}
 use Rattle.work_registry.proofs.RegisterFaultTexts.{faults_text, length-faults}
 

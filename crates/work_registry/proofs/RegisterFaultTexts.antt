@@ -1,5 +1,5 @@
 -- The faults of an entry's line, one after another.
-use Rattle.std.proofs.Common.{◌≡◌, ◌∙◌, ℕ, ◌+◌, ◌*◌, ◌<◌, ◌≤◌, ◌^◌, List, [], ◌∷◌, ◌++◌, length, take, drop, Option, Some, None, arith, ap, sym, subst, refl, append_assoc}
+use Rattle.std.proofs.Common.{◌≡◌, ◌∙◌, ℕ, ◌*◌, ◌<◌, List, [], ◌∷◌, ◌++◌, length, take, drop, arith, ap, sym, subst, refl, append_assoc}
 use Rattle.std.specs.List.{flat_map, AllByRecursion}
 use Rattle.std.proofs.lemmas.List.{append-nil, length-append, take_all, take-append-drop}
 use Rattle.std.proofs.lemmas.Grind.{flat_map-append}
@@ -8,7 +8,7 @@ use Rattle.cwr_file.proofs.AckTexts.{same_fronts}
 use Rattle.work_registry.specs.RegisterLine.{line_of, StandsFor, fault, IsTyped}
 use Rattle.work_registry.specs.RegisterPieces.{FitsFault, IsWholeFault}
 use Rattle.work_registry.proofs.RegisterFields.{same_number}
-use Rattle.work_registry.proofs.RegisterTables.{Fills, SameTexts, spelled, stands, same_texts, fills, length-line_of}
+use Rattle.work_registry.proofs.RegisterTables.{Fills, spelled, stands, same_texts, length-line_of}
 
 abbrev pub faults_text : List Fault → List ℕ
 faults_text fs = flat_map (line_of fault) fs
@@ -16,7 +16,7 @@ faults_text fs = flat_map (line_of fault) fs
 fault_fills : (f : Fault) → IsTyped f → Fills fault f
 fault_fills f typed = (refl, (refl, (typed, tt)))
 
-length-fault : (f : Fault) → IsTyped f → length (line_of fault f) ≡ 13
+pub length-fault : (f : Fault) → IsTyped f → length (line_of fault f) ≡ 13
 length-fault f typed = length-line_of fault f (fault_fills f typed)
 
 pub length-faults : (fs : List Fault) → AllByRecursion IsTyped fs → length (faults_text fs) ≡ 13 * length fs
@@ -40,7 +40,7 @@ fault_is : (s s' n n' : ℕ) (t t' : List ℕ) → s ≡ s' → n ≡ n' → t �
     let b : Fault = record { sequence = s'; number = n'; rtype = t' } in a ≡ b
 fault_is s s' n n' t t' p q r = rw (p, q, r) refl
 
-same_fault : (bytes : List ℕ) (f g : Fault) → FitsFault f → FitsFault g → StandsFor fault bytes f → StandsFor fault bytes g → f ≡ g
+pub same_fault : (bytes : List ℕ) (f g : Fault) → FitsFault f → FitsFault g → StandsFor fault bytes f → StandsFor fault bytes g → f ≡ g
 same_fault bytes f g p q a b =
     let same = same_texts fault bytes f g a b in
     fault_is f.sequence g.sequence f.number g.number f.rtype g.rtype

@@ -1,6 +1,6 @@
 -- What a field of a register's line spells, and that it spells nothing else.
 use Rattle.std.proofs.Common.{◌≡◌, ◌∙◌, ℕ, zero, suc, ◌+◌, ◌-◌, ◌*◌, ◌/◌, ◌%◌, ◌<◌, ◌≤◌, ◌^◌, Bool, true, false, eqb, List, [], ◌∷◌, ◌++◌, length, take, drop, get_or, replicate, Option, Some, None, arith, ap, sym, refl, cond, add-one}
-use Rattle.std.specs.Prelude.{IfSome, IfNone, ◌&&◌, slice_range, slice_index, codes, ◌==◌, if◌then◌else◌}
+use Rattle.std.specs.Prelude.{IfSome, IfNone, ◌&&◌, slice_range, slice_index, ◌==◌, if◌then◌else◌}
 use Rattle.std.specs.List.{list_all}
 use Rattle.std.specs.Char.{is_ascii_digit, digit_value}
 use Rattle.std.specs.Str.Parse.{digits_value}

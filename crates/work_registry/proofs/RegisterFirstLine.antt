@@ -1,12 +1,12 @@
 -- The first line of a register: its faults, and what follows where it has none.
-use Rattle.std.proofs.Common.{◌≡◌, ◌∙◌, ℕ, ◌+◌, ◌<◌, ◌≤◌, ◌^◌, Bool, true, false, List, [], ◌∷◌, ◌++◌, length, Some, arith, ap, sym, subst, refl, append_assoc, inl, inr}
+use Rattle.std.proofs.Common.{◌≡◌, ◌∙◌, ℕ, ◌+◌, ◌<◌, ◌≤◌, ◌^◌, Bool, true, false, List, [], ◌∷◌, ◌++◌, length, arith, ap, sym, subst, refl, append_assoc, inl, inr}
 use Rattle.std.specs.Prelude.{◌⊎◌, ◌||◌, ◌==◌, codes}
 use Rattle.cwr_field.specs.Number.{number_text}
 use Rattle.std.proofs.lemmas.List.{length_push}
 use Rattle.cwr_file.specs.Faults.{IsNoLater}
 use Rattle.work_registry.specs.EntryValue.{EntryValue}
-use Rattle.work_registry.specs.Register.{count_line, entry_lines}
-use Rattle.work_registry.specs.RegisterFaults.{lines, has_end, IsNoCount, HasNumber, HasFaultAfter, HasFault, IsFault, IsLeastFault}
+use Rattle.work_registry.specs.Register.{count_line}
+use Rattle.work_registry.specs.RegisterFaults.{lines, has_end, IsNoCount, HasFaultAfter, HasFault, IsLeastFault}
 use Rattle.work_registry.specs.RegisterReading.{IsReadTo}
 use Rattle.work_registry.proofs.RegisterFields.{same_number}
 use Rattle.work_registry.proofs.RegisterLines.{count_stands}
@@ -73,6 +73,7 @@ first_read limit c text line rest split e small is within =
       small = small;
       bytes = split ∙ sym (append_assoc line (10 ∷ []) rest) ∙ ap (λ (xs : List ℕ). xs ++ rest) is;
       opening = refl;
+      whole = tt;
       after = λ k n h. follows k n (let P : List (List ℕ) → Type 0 = λ ls. HasFault limit ls k n in subst P e h);
       before = λ k n h. let P : List (List ℕ) → Type 0 = λ ls. HasFault limit ls k n in subst P (sym e) (inr (c, small, is, inr h));
     }

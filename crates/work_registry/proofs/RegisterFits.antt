@@ -1,5 +1,5 @@
 -- What a call tells fits the fields of a register.
-use Rattle.std.proofs.Common.{◌≡◌, ℕ, zero, suc, ◌<◌, ◌≤◌, ◌^◌, Bool, true, leb, List, [], ◌∷◌, length, Option, Some, None, IsTrue, arith, refl}
+use Rattle.std.proofs.Common.{◌≡◌, ℕ, zero, suc, ◌<◌, ◌≤◌, ◌^◌, true, leb, List, [], ◌∷◌, length, Option, Some, None, IsTrue, arith, refl}
 use Rattle.std.specs.Prelude.{◌&&◌, slice_index}
 use Rattle.std.specs.List.{list_all, AllByRecursion}
 use Rattle.std.specs.Char.{is_ascii_uppercase}

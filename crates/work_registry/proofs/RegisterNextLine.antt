@@ -1,8 +1,8 @@
 -- The line after those that were read: its faults, and what follows where it has none.
-use Rattle.std.proofs.Common.{◌≡◌, ◌∙◌, ℕ, ◌+◌, ◌<◌, ◌≤◌, ◌^◌, Bool, true, false, List, [], ◌∷◌, ◌++◌, length, Option, Some, None, arith, ap, sym, subst, refl, append_assoc, inl, inr, eq-eqb}
-use Rattle.std.specs.Prelude.{◌⊎◌, ◌==◌, ◌&&◌, codes, if◌then◌else◌}
+use Rattle.std.proofs.Common.{◌≡◌, ◌∙◌, ℕ, ◌+◌, ◌<◌, ◌≤◌, Bool, true, false, List, [], ◌∷◌, ◌++◌, length, Option, Some, None, arith, ap, sym, subst, refl, append_assoc, inl, inr, eq-eqb}
+use Rattle.std.specs.Prelude.{◌⊎◌, ◌==◌, ◌&&◌, if◌then◌else◌}
 use Rattle.cwr_rules.specs.CallValue.{CallValue}
-use Rattle.std.specs.List.{flat_map}
+use Rattle.std.specs.List.{flat_map, AllByRecursion}
 use Rattle.std.proofs.lemmas.List.{length_push, append-nil}
 use Rattle.std.proofs.lemmas.List.Folds.{list_all-append}
 use Rattle.cwr_file.specs.Faults.{IsNoLater}
@@ -15,8 +15,8 @@ use Rattle.work_registry.specs.Rows.{rows_of}
 use Rattle.work_registry.specs.Reply.{reply_to}
 use Rattle.work_registry.specs.Replay.{is_opening}
 use Rattle.work_registry.specs.RegisterLine.{EntryLine, IsEntryLine, line_of, head, head_of, fault}
-use Rattle.work_registry.specs.Register.{status_of, work_of, version_of, line_for, entry_line, entry_lines, count_line, register_text}
-use Rattle.work_registry.specs.RegisterFaults.{in_front, lines, has_end, IsNoEntry, Tells, HasNumber, HasFaultAfter, IsFault, IsLeastFault, IsLineOf}
+use Rattle.work_registry.specs.Register.{status_of, work_of, version_of, line_for, entry_line, entry_lines, count_line, register_text, IsWholeEntry}
+use Rattle.work_registry.specs.RegisterFaults.{in_front, lines, has_end, IsNoEntry, Tells, HasNumber, HasFaultAfter, IsFault, IsLeastFault}
 use Rattle.work_registry.specs.RegisterReading.{IsReadTo}
 use Rattle.cwr_rules.proofs.FaultForms.{both}
 use Rattle.work_registry.proofs.RegisterFirstLine.{later, has_last}
@@ -144,7 +144,7 @@ reply_again (Conflict work) = refl
 reply_again Rejected = refl
 
 -- what a line tells of an entry is the entry, but for its session
-entry_again : (index : ℕ) (a b : EntryValue) → line_for index a.call a.reply ≡ line_for index b.call b.reply → a.session ≡ b.session → a ≡ b
+pub entry_again : (index : ℕ) (a b : EntryValue) → line_for index a.call a.reply ≡ line_for index b.call b.reply → a.session ≡ b.session → a ≡ b
 entry_again index a b e s =
     let call = ap (λ (x : EntryLine). x.call) e in
     let reply : a.reply ≡ b.reply = sym (reply_again a.reply) ∙ ap (λ (x : EntryLine). reply_from x.status x.work x.version) e ∙ reply_again b.reply in
@@ -176,6 +176,22 @@ opening_push es e h s =
     list_all-append (λ (x : EntryValue). x.session == 0) es (e ∷ [])
     ∙ both (is_opening es) ((e.session == 0) && true) h (both (e.session == 0) true (eq-eqb e.session 0 s) refl)
 
+whole_push : (es : List EntryValue) (e : EntryValue) → AllByRecursion IsWholeEntry es → IsWholeEntry e → AllByRecursion IsWholeEntry (es ++ e ∷ [])
+whole_push [] e p q = (q, tt)
+whole_push (d ∷ es) e p q = (p.0, whole_push es e p.1 q)
+
+whole_of : (line : List ℕ) (index : ℕ) (e : EntryValue) → IsEntryLine line (line_for index e.call e.reply) → IsWholeEntry e
+whole_of line index e is =
+    record {
+      fits = record { work = is.work; version = is.version };
+      lawful = is.lawful;
+      submitter = is.submitter;
+      title = is.title;
+      number = is.number;
+      control = is.control;
+      types = is.types;
+    }
+
 -- the text of one entry more
 one_more : (text start rest line more : List ℕ) (h : List EntryValue) (e : EntryValue) → text ≡ start ++ (entry_lines 1 h ++ rest) → rest ≡ line ++ 10 ∷ more
     → line ++ 10 ∷ [] ≡ entry_line (length h + 1) e.call e.reply → text ≡ start ++ (entry_lines 1 (h ++ e ∷ []) ++ more)
@@ -201,6 +217,7 @@ next_read limit count text rest line more h x r split e counted says only place 
       small = r.small;
       bytes = one_more text (count_line count) rest line more h d r.bytes split is.text;
       opening = opening_push h d r.opening refl;
+      whole = whole_push h d r.whole (whole_of (line ++ 10 ∷ []) (length h + 1) d is);
       after = λ k n f. by k n same (after_line limit count text rest (line ++ 10 ∷ []) h (lines more) k n r e f);
       before = λ k n f. before_line limit count text rest (line ++ 10 ∷ []) h (lines more) k n r e (inr (counted, (d, record { says = is; session = refl }, f)));
     }

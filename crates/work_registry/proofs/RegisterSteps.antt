@@ -1,7 +1,7 @@
 -- A register is written line by line.
-use Rattle.std.proofs.Common.{◌≡◌, ◌∙◌, ℕ, ◌+◌, ◌<◌, List, [], ◌∷◌, ◌++◌, length, drop, get_or, ap, sym, append_assoc}
-use Rattle.std.specs.List.{flat_map}
-use Rattle.std.proofs.lemmas.List.{drop_more}
+use Rattle.std.proofs.Common.{◌≡◌, ◌∙◌, ℕ, ◌+◌, ◌<◌, List, [], ◌∷◌, ◌++◌, length, take, drop, get_or, ap, sym, subst, append_assoc}
+use Rattle.std.specs.List.{flat_map, AllByRecursion}
+use Rattle.std.proofs.lemmas.List.{drop_more, take_more}
 use Rattle.cwr_file.specs.declared.transaction_fault.Fault.{Fault}
 use Rattle.work_registry.specs.declared.register.head.Head.{Head}
 use Rattle.work_registry.specs.EntryValue.{EntryValue}
@@ -33,3 +33,13 @@ line_parts x h fs out a b p q r s =
     three_parts out a b front faults p q =
         ap (λ (text : List ℕ). text ++ 10 ∷ []) (q ∙ ap (λ (text : List ℕ). text ++ faults) p ∙ append_assoc out front faults)
         ∙ append_assoc out (front ++ faults) (10 ∷ [])
+
+-- what holds of each so far, and of one more
+all_push : {X : Type 0} (P : X → Type 0) (xs : List X) (x : X) → AllByRecursion P xs → P x → AllByRecursion P (xs ++ x ∷ [])
+all_push P [] x p q = (q, tt)
+all_push P (y ∷ xs) x p q = (p.0, all_push P xs x p.1 q)
+
+pub one_of_all : {X : Type 0} (P : X → Type 0) (xs : List X) (i : ℕ) (x : X) → i < length xs → x ≡ get_or xs i x → AllByRecursion P (take i xs) → P x → AllByRecursion P (take (i + 1) xs)
+one_of_all {X} P xs i x lt is so_far one =
+    let Q : List X → Type 0 = λ ys. AllByRecursion P ys in
+    subst Q (ap (λ (y : X). take i xs ++ y ∷ []) is ∙ sym (take_more xs i x lt)) (all_push P (take i xs) x so_far one)

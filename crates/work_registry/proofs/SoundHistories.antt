@@ -22,7 +22,6 @@ use Rattle.work_registry.specs.Reply.{clashes, is_over, most_control, reply_afte
 use Rattle.work_registry.specs.Rows.{Row, current, key_of, last_of_key, row_of, rows_of, rows_of_entry, same_key}
 use Rattle.work_registry.specs.Works.{control_in, has_work, iswc_of, others_in, share_in, work_count, work_of_iswc}
 use Rattle.work_registry.proofs.OneMoreRow.{work_count-le, sum-current-split, sum-current-push, iswc_of-push}
-use Rattle.work_registry.proofs.KeptRows.{versions_none}
 use Rattle.work_registry.proofs.SoundRows.{IsSound, takes-from, sound-push, keeps-push, or-false, iswc-none, work-of-named, work-of-key}
 
 pub rows_of-append : (g h : List EntryValue) → rows_of (g ++ h) ≡ rows_of g ++ rows_of h

@@ -1,15 +1,17 @@
 -- The text of a register: a line with the number of entries, and a line for each entry. An LF ends each line.
 use Rattle.std.specs.Prelude.{◌≡◌, ℕ, ◌+◌, ◌<◌, ◌^◌, List, [], ◌∷◌, ◌++◌, length, codes, IsTrue}
+use Rattle.std.specs.List.{AllByRecursion}
 use Rattle.cwr_field.specs.Number.{number_text}
 use Rattle.cwr_file.specs.declared.ack_item.Status.{Status}
 use Rattle.cwr_file.specs.declared.ack_item.Status.TheVariants as status
 use Rattle.cwr_rules.specs.CallValue.{CallValue}
+use Rattle.cwr_rules.specs.Lawful.{is_lawful}
 use Rattle.work_registry.specs.declared.reply.Reply.{Reply}
 use Rattle.work_registry.specs.declared.reply.Reply.TheVariants.{Accepted, Duplicate, Conflict, Rejected}
 use Rattle.work_registry.specs.EntryValue.{EntryValue}
 use Rattle.work_registry.specs.History.{IsHistory}
 use Rattle.work_registry.specs.Replay.{is_opening}
-use Rattle.work_registry.specs.RegisterLine.{EntryLine, line_text}
+use Rattle.work_registry.specs.RegisterLine.{EntryLine, line_text, IsTyped}
 
 -- what a register tells of a reply
 
@@ -62,6 +64,21 @@ register_text entries = count_line (length entries) ++ entry_lines 1 entries
 pub record FitsEntry (e : EntryValue) : Type 0 where
   pub work : work_of e.reply < 10 ^ 8
   pub version : version_of e.reply < 10 ^ 8
+
+-- the entry as one of the opening
+abbrev pub opened : EntryValue → EntryValue
+opened e = record { session = 0; call = e.call; reply = e.reply }
+
+-- What two histories with one text need to be one, but for their sessions: each entry can be told, and is of a call.
+-- The widths of texts are those that the entries of a program have by their types.
+pub record IsWholeEntry (e : EntryValue) : Type 0 where
+  pub fits : FitsEntry e
+  pub lawful : IsTrue (is_lawful e.call)
+  pub submitter : length e.call.submitter ≡ 11
+  pub title : length e.call.title ≡ 60
+  pub number : length e.call.number ≡ 14
+  pub control : length e.call.control ≡ 3
+  pub types : AllByRecursion IsTyped e.call.faults
 
 -- the text is the register of a history of one registry with so many entries, all of the opening
 pub record IsAudited (text : List ℕ) (count : ℕ) : Type 0 where

@@ -1,9 +1,10 @@
 -- How far a register was read.
-use Rattle.std.specs.Prelude.{◌≡◌, ℕ, ◌<◌, ◌≤◌, ◌^◌, List, [], ◌∷◌, ◌++◌, length, true}
+use Rattle.std.specs.Prelude.{◌≡◌, ℕ, ◌<◌, ◌^◌, List, ◌++◌, length, true}
+use Rattle.std.specs.List.{AllByRecursion}
 use Rattle.work_registry.specs.declared.register.refusal.RegisterRefusal.{RegisterRefusal}
 use Rattle.work_registry.specs.EntryValue.{EntryValue}
 use Rattle.work_registry.specs.Replay.{is_opening}
-use Rattle.work_registry.specs.Register.{count_line, entry_lines}
+use Rattle.work_registry.specs.Register.{count_line, entry_lines, IsWholeEntry}
 use Rattle.work_registry.specs.RegisterFaults.{lines, HasFaultAfter, IsFault, IsRefusal}
 
 -- A text was read as these entries, of so many, without a fault. What remains decides alone which faults it has.
@@ -11,6 +12,7 @@ pub record IsReadTo (limit : ℕ) (text : List ℕ) (count : ℕ) (entries : Lis
   pub small : count < 10 ^ 8
   pub bytes : text ≡ count_line count ++ (entry_lines 1 entries ++ rest)
   pub opening : is_opening entries ≡ true
+  pub whole : AllByRecursion IsWholeEntry entries
   pub after : (k n : ℕ) → IsFault limit text k n → HasFaultAfter count entries (lines rest) k n
   pub before : (k n : ℕ) → HasFaultAfter count entries (lines rest) k n → IsFault limit text k n
 

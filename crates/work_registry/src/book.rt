@@ -1,4 +1,4 @@
-ghost use Rattle.std.specs.Prelude.{◌≡◌, ◌≤◌, ◌<◌, ◌↔◌, ◌∷◌, [], ◌++◌, true, length, vec_len, vec_capacity, IfOk, IfErr, OnOk, OnErr};
+ghost use Rattle.std.specs.Prelude.{◌≡◌, ◌==◌, ◌&&◌, ◌≤◌, ◌<◌, ◌↔◌, ◌∷◌, [], ◌++◌, true, length, vec_len, vec_capacity, IfOk, IfErr, OnOk, OnErr};
 ghost use Rattle.std.specs.List.{AllByRecursion};
 ghost use Rattle.work_registry.specs.Rows.{rows_of};
 ghost use Rattle.work_registry.specs.Works.{work_of_iswc, control_of};
@@ -33,21 +33,25 @@ pub struct Book<A: Allocator + Copy + Drop = Global> {
     history: Vec<Entry<A>, A>,
     kept: Indexes<A>,
     limit: u32,
+    /// Whether every entry is of the opening.
+    opening: bool,
 }
 
 impl<A: Allocator + Copy + Drop> Model for Book<A> {
-    ghost use Rattle.std.specs.Prelude.{nat_eq};
+    ghost use Rattle.std.specs.Prelude.{◌≡◌, nat_eq};
     ghost use Rattle.indexmap.specs.IndexMap.{get};
     ghost use Rattle.work_registry.specs.BookValue.{BookValue};
     ghost use Rattle.work_registry.specs.Rows.{rows_of, same_key};
     ghost use Rattle.work_registry.specs.Indexes.{AreIndexes, IsBook};
+    ghost use Rattle.work_registry.specs.Replay.{is_opening};
 
     ghost Value = { BookValue };
 
     ghost view = { λ b. record { history = b.history.items; limit = b.limit } };
 
     ghost invariant = { λ b. IsBook b.history.items b.limit
-        × AreIndexes (rows_of b.history.items) (get same_key b.kept.claims) (get nat_eq b.kept.iswcs) b.kept.works.items };
+        × AreIndexes (rows_of b.history.items) (get same_key b.kept.claims) (get nat_eq b.kept.iswcs) b.kept.works.items
+        × (b.opening ≡ is_opening b.history.items) };
 }
 
 impl<A: Allocator + Copy + Drop> Book<A> {
@@ -65,6 +69,7 @@ impl<A: Allocator + Copy + Drop> Book<A> {
                 works: Vec::new(alloc),
             },
             limit,
+            opening: true,
         }
     }
 
@@ -117,6 +122,7 @@ impl<A: Allocator + Copy + Drop> Book<A> {
         }
         self.kept
             .store(deciding::key(&call), call.iswc(), decision.change);
+        self.opening = is_still_opening(self.opening, session);
         store_entry(
             &mut self.history,
             Entry {
@@ -163,7 +169,7 @@ impl<A: Allocator + Copy + Drop> Book<A> {
     pub fn is_opening(&self) -> bool
         ensures { result ≡ is_opening self.now.history }
     {
-        self.history.iter().all(|entry| entry.session == 0)
+        self.opening
     }
 
     /// What is registered under a submitter's number of a work; `None` where no call under it was accepted.
@@ -199,6 +205,13 @@ impl<A: Allocator + Copy + Drop> Book<A> {
     {
         self.work(work).control
     }
+}
+
+/// Whether every entry is of the opening, with an entry more of a session.
+fn is_still_opening(opening: bool, session: u32) -> bool
+    ensures { result ≡ (opening && (session == 0)) }
+{
+    opening && session == 0
 }
 
 /// Writes an entry as the last. No memory is asked for.

@@ -2,7 +2,11 @@
 //!
 //! A law is a function that does nothing. Its contract is what is proved.
 
-ghost use Rattle.std.specs.Prelude.{◌≡◌, ℕ, List, [], ◌∷◌, ◌++◌};
+ghost use Rattle.std.specs.Prelude.{◌≡◌, ◌≤◌, ℕ, List, [], ◌∷◌, ◌++◌, length, map};
+ghost use Rattle.std.specs.List.{AllByRecursion};
+ghost use Rattle.work_registry.specs.Numbers.{most_entries};
+ghost use Rattle.work_registry.specs.Register.{register_text, opened, IsWholeEntry};
+ghost use Rattle.work_registry.specs.RegisterFaults.{IsFault};
 ghost use Rattle.cwr_rules.specs.CallValue.{CallValue};
 ghost use Rattle.work_registry.specs.EntryValue.{EntryValue};
 ghost use Rattle.work_registry.specs.Rows.{rows_of};
@@ -28,4 +32,16 @@ pub fn histories_grow()
     ensures one_more { (history : List EntryValue) (session : ℕ) (call : CallValue) → IsHistory history → IsHistory (history ++ entry_for session history call ∷ []) }
     ensures replayed { (history : List EntryValue) (session : ℕ) (calls : List CallValue) → IsHistory history → IsHistory (history ++ replay session history calls) }
     ensures beginning { (history later : List EntryValue) → IsHistory (history ++ later) → IsHistory history }
+{}
+
+/// The register of a history of one registry has no fault, where the limit holds it.
+pub fn registers_have_no_fault()
+    ensures { (history : List EntryValue) (limit line number : ℕ) → IsHistory history → AllByRecursion IsWholeEntry history → length history ≤ limit → length history ≤ most_entries
+        → IsFault limit (register_text history) line number → ⊥ }
+{}
+
+/// One register, one history, but for its sessions.
+pub fn one_register_one_history()
+    ensures { (one other : List EntryValue) → length one ≤ most_entries → length other ≤ most_entries → AllByRecursion IsWholeEntry one → AllByRecursion IsWholeEntry other
+        → register_text one ≡ register_text other → map opened one ≡ map opened other }
 {}

@@ -4,12 +4,14 @@
 //! replied, and the call's faults. Sessions are not written. Who reads a register hands each call in anew and compares
 //! the reply, so that an outside auditor can check every decision.
 
-ghost use Rattle.std.specs.Prelude.{◌≡◌, ◌≤◌, List, length, IsTrue, IfOk, IfErr};
+ghost use Rattle.std.specs.Prelude.{◌≡◌, ◌≤◌, List, length, map, IsTrue, OnOk, IfOk, IfErr, MatchResult};
 ghost use Rattle.work_registry.specs.EntryValue.{EntryValue};
 ghost use Rattle.work_registry.specs.History.{IsHistory};
 ghost use Rattle.work_registry.specs.Numbers.{most_entries};
 ghost use Rattle.work_registry.specs.Replay.{is_opening};
-ghost use Rattle.work_registry.specs.Register.{register_text, IsAudited};
+ghost use Rattle.work_registry.specs.Register.{register_text, opened, IsAudited, IsWholeEntry};
+ghost use Rattle.work_registry.specs.declared.register.refusal.RegisterRefusal.TheVariants.{Memory as refused};
+ghost use Rattle.std.specs.List.{AllByRecursion};
 ghost use Rattle.work_registry.specs.RegisterFaults.{IsRefusal};
 
 mod entry_line;
@@ -39,7 +41,9 @@ impl<A: Allocator + Copy + Drop> Book<A> {
     ///
     /// All memory is asked for at once.
     pub fn write_register(&self, alloc: A) -> Result<Vec<u8, A>, Memory>
-        ensures { IfOk result (λ text. text.items ≡ register_text self.now.history) }
+        ensures text { IfOk result (λ text. text.items ≡ register_text self.now.history) }
+        // This is what [`read_register`] asks of a history that it reads again.
+        ensures whole { OnOk result (AllByRecursion IsWholeEntry self.now.history) }
     {
         register_of(alloc, self.history())
     }
@@ -60,6 +64,9 @@ pub fn read_register<A: Allocator + Copy + Drop>(
     ensures lawful { IfOk result (λ book. IsHistory book.history) }
     ensures opening { IfOk result (λ book. IsTrue (is_opening book.history)) }
     ensures fits { IfOk result (λ book. length book.history ≤ limit) }
+    // What was written of a history that the limit holds is read again, and then nothing but memory is refused.
+    ensures again { (history : List EntryValue) → IsHistory history → AllByRecursion IsWholeEntry history → length history ≤ limit → bytes.now ≡ register_text history
+        → MatchResult result (λ book. book.history ≡ map opened history) (λ refusal. refusal ≡ refused) }
     ensures limit { IfOk result (λ book. book.limit ≡ limit) }
     ensures fault { IfErr result (IsRefusal limit bytes.now) }
 {

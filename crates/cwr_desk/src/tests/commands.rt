@@ -40,7 +40,7 @@ fn checks_a_file(rt: HostRuntime) -> Result<(), Fail> {
     ];
     for (name, status, printed, complained) in cases {
         let words = ["purvilgo", "check", name];
-        let fake = Fake::new(alloc, &words, b"").with_files(&files);
+        let fake = Fake::new(&rt, &words, b"").with_files(&files);
         assert_eq!(rt; run_program(&fake), status, "{name}");
         let (out, err) = fake.into_texts();
         assert_eq!(rt; out.as_slice(), printed.as_bytes(), "{name}");
@@ -67,7 +67,7 @@ fn refuses_other_words(rt: HostRuntime) -> Result<(), Fail> {
         ),
         (
             &["purvilgo", "--help"],
-            "Acknowledges a CWR 2.2 file from standard input to standard output\n\nUsage: purvilgo [COMMAND]\n\nCommands:\n  check  Tells which rules a CWR 2.2 file breaks\n  help   Print this message or the help of the given subcommand(s)\n\nOptions:\n  -h, --help  Print help\n",
+            "Acknowledges a CWR 2.2 file from standard input to standard output\n\nUsage: purvilgo [COMMAND]\n\nCommands:\n  run    Acknowledges CWR 2.2 files, the acknowledgement of FILE in FILE.ack\n  check  Tells which rules a CWR 2.2 file breaks\n  audit  Tells whether a register is one that the registry's rules give\n  help   Print this message or the help of the given subcommand(s)\n\nOptions:\n  -h, --help  Print help\n",
         ),
         (
             &["purvilgo", "check", "--help"],
@@ -75,7 +75,7 @@ fn refuses_other_words(rt: HostRuntime) -> Result<(), Fail> {
         ),
     ];
     for (words, complained) in cases {
-        let fake = Fake::new(alloc, words, b"");
+        let fake = Fake::new(&rt, words, b"");
         assert_eq!(rt; run_program(&fake), ExitCode::from(2), "{complained}");
         let (out, err) = fake.into_texts();
         assert_eq!(rt; out.len(), 0, "{complained}");

@@ -22,7 +22,7 @@ fn reads_the_words_of_a_run(rt: HostRuntime) -> Result<(), Fail> {
         "b.v22",
     ];
     let matches = run_command(alloc)?.try_get_matches_from(words.as_slice())?;
-    let fake = Fake::new(alloc, &[], b"");
+    let fake = Fake::new(&rt, &[], b"");
     let taken = right_words(&fake, &matches);
     let (_, err) = fake.into_texts();
     assert_eq!(rt; err.as_str(), "");
@@ -63,7 +63,7 @@ fn tells_what_is_wrong_with_a_run(rt: HostRuntime) -> Result<(), Fail> {
             file,
         ];
         let matches = run_command(alloc)?.try_get_matches_from(words.as_slice())?;
-        let fake = Fake::new(alloc, &[], b"");
+        let fake = Fake::new(&rt, &[], b"");
         let status = right_words(&fake, &matches).err();
         assert_eq!(rt; status, Some(ExitCode::from(2)));
         let (out, err) = fake.into_texts();

@@ -107,29 +107,36 @@ fn a_refused_file_and_another_one(rt: HostRuntime) -> Result<(), Fail> {
     Ok(())
 }
 
+/// Works one file three times in turn: with a read that fails, with room for 100 bytes, and with room for all.
+fn run_three<'a>(alloc: Global, input: &'a [u8]) -> Result<Run<Feed<'a>, Room>, Fail> {
+    let mut jobs = Vec::new(alloc);
+    jobs.push(job(alloc, input, Some(1), 1000)?)?;
+    jobs.push(job(alloc, input, None, 100)?)?;
+    jobs.push(job(alloc, input, None, 425)?)?;
+    Ok(
+        serve_in_turn(alloc, jobs, Book::new(alloc, 100), &stamp()?)
+            .ok()
+            .ok_or("memory")?,
+    )
+}
+
 #[test]
 fn a_failed_read_and_a_failed_write(rt: HostRuntime) -> Result<(), Fail> {
     let alloc = rt.alloc();
     let input = plain_file(alloc)?;
-    let mut jobs = Vec::new(alloc);
-    jobs.push(job(alloc, &input, Some(1), 1000)?)?;
-    jobs.push(job(alloc, &input, None, 100)?)?;
-    jobs.push(job(alloc, &input, None, 425)?)?;
-    let run = serve_in_turn(alloc, jobs, Book::new(alloc, 100), &stamp()?)
-        .ok()
-        .ok_or("memory")?;
-    let unread = FileOutcome::Stopped {
-        handed: 0,
-        why: Why::Read,
-    };
-    let cut_off = FileOutcome::Stopped {
-        handed: 1,
-        why: Why::Write { sent: 100 },
-    };
-    assert_eq!(rt;
-        run.outcomes.as_slice(),
-        [unread, cut_off, ACKED].as_slice()
-    );
+    let run = run_three(alloc, &input)?;
+    let ends = [
+        FileOutcome::Stopped {
+            handed: 0,
+            why: Why::Read,
+        },
+        FileOutcome::Stopped {
+            handed: 1,
+            why: Why::Write { sent: 100 },
+        },
+        ACKED,
+    ];
+    assert_eq!(rt; run.outcomes.as_slice(), ends.as_slice());
     expect_history(
         &rt,
         &run.book,
@@ -146,6 +153,17 @@ fn a_failed_read_and_a_failed_write(rt: HostRuntime) -> Result<(), Fail> {
     Ok(())
 }
 
+/// Works one file at a book of two entries.
+fn run_into_two<'a>(alloc: Global, input: &'a [u8]) -> Result<Run<Feed<'a>, Room>, Fail> {
+    let mut jobs = Vec::new(alloc);
+    jobs.push(job(alloc, input, None, 1000)?)?;
+    Ok(
+        serve_in_turn(alloc, jobs, Book::new(alloc, 2), &stamp()?)
+            .ok()
+            .ok_or("memory")?,
+    )
+}
+
 #[test]
 fn a_full_book(rt: HostRuntime) -> Result<(), Fail> {
     let alloc = rt.alloc();
@@ -158,11 +176,7 @@ fn a_full_book(rt: HostRuntime) -> Result<(), Fail> {
         writer(alloc, "SWR", 2, 1, ALL)?,
     ];
     let input = file(alloc, SENDER, "NWR", 3, &lines)?;
-    let mut jobs = Vec::new(alloc);
-    jobs.push(job(alloc, &input, None, 1000)?)?;
-    let run = serve_in_turn(alloc, jobs, Book::new(alloc, 2), &stamp()?)
-        .ok()
-        .ok_or("memory")?;
+    let run = run_into_two(alloc, &input)?;
     let ends = [FileOutcome::Stopped {
         handed: 2,
         why: Why::Full,

@@ -7,7 +7,8 @@ ghost use Rattle.work_registry.specs.Reply.{reply_to};
 ghost use Rattle.work_registry.specs.RegisterLine.{EntryLine};
 ghost use Rattle.work_registry.specs.Numbers.{most_entries};
 ghost use Rattle.work_registry.specs.Replay.{is_opening};
-ghost use Rattle.work_registry.specs.Register.{count_line, register_text};
+ghost use Rattle.work_registry.specs.Register.{count_line, register_text, IsWholeEntry};
+ghost use Rattle.std.specs.List.{AllByRecursion};
 ghost use Rattle.work_registry.specs.RegisterFaults.{lines, Tells, IsRefusal};
 ghost use Rattle.work_registry.specs.RegisterReading.{IsReadTo, IsStep, IsStop};
 ghost use Rattle.work_registry.specs.declared.register.refusal.RegisterRefusal.TheVariants as refusal;
@@ -17,6 +18,7 @@ use super::lines::{count_in, cut_line};
 use super::refusal::RegisterRefusal;
 use super::writing::told;
 use crate::book::Book;
+use crate::refused::WhyRefused;
 use crate::reply::Reply;
 use cwr_field::Memory;
 use cwr_file::Status;
@@ -75,21 +77,25 @@ fn is_answered<A: Allocator + Copy + Drop>(
     book: &mut Book<A>,
     entry: ReadEntry<A>,
 ) -> Result<bool, Memory>
+    requires { length book.old.history < book.old.limit }
     ensures told { IfOk result (λ b. IsTrue b ↔ Tells entry (reply_to (rows_of book.old.history) entry.call)) }
     ensures entry { OnOk result (book.new.history ≡ book.old.history ++ record { session = 0; call = entry.call; reply = reply_to (rows_of book.old.history) entry.call } ∷ []) }
     ensures limit { book.new.limit ≡ book.old.limit }
 {
     let ReadEntry {
-        index,
+        index: _,
         call,
         status,
         work,
         version,
     } = entry;
-    let Ok(reply) = book.apply(0, call) else {
-        return Err(Memory);
-    };
-    Ok(is_told(status, work, version, reply))
+    match book.apply(0, call) {
+        Ok(reply) => Ok(is_told(status, work, version, reply)),
+        Err(refused) => match refused.why {
+            WhyRefused::Full => unreachable!(),
+            WhyRefused::Memory => Err(Memory),
+        },
+    }
 }
 
 /// Reads the next line, of this number, as an entry, on which the book decides anew. Gives the text after it.
@@ -101,7 +107,8 @@ fn read_next<'a, A: Allocator + Copy + Drop>(
     number: u64,
     rest: &'a [u8],
 ) -> Result<&'a [u8], RegisterRefusal>
-    requires { number ≡ length book.old.history + 2 }
+    requires number { number ≡ length book.old.history + 2 }
+    requires room { length book.old.history < book.old.limit }
     ensures read { IfOk result (λ more. IsStep book.old.history rest.now book.new.history more.now) }
     ensures one_more { OnOk result (length book.new.history ≡ length book.old.history + 1) }
     ensures limit { book.new.limit ≡ book.old.limit }
@@ -135,6 +142,7 @@ pub(super) fn book_from<A: Allocator + Copy + Drop>(
     requires most { limit ≤ most_entries }
     ensures text { IfOk result (λ book. text.now ≡ register_text book.history) }
     ensures opening { IfOk result (λ book. is_opening book.history ≡ true) }
+    ensures whole { IfOk result (λ book. AllByRecursion IsWholeEntry book.history) }
     ensures limit { IfOk result (λ book. book.limit ≡ limit) }
     ensures fault { IfErr result (IsRefusal limit text.now) }
 {

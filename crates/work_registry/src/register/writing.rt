@@ -5,9 +5,9 @@ ghost use Rattle.std.specs.List.{flat_map, AllByRecursion};
 ghost use Rattle.cwr_record.specs.Kinds.{work_kind_code};
 ghost use Rattle.cwr_file.specs.AckItem.{status_text};
 ghost use Rattle.cwr_rules.specs.Lawful.{is_lawful};
-ghost use Rattle.work_registry.specs.RegisterLine.{line_of, head, fault, head_of};
+ghost use Rattle.work_registry.specs.RegisterLine.{line_of, head, fault, head_of, IsTyped};
 ghost use Rattle.work_registry.specs.RegisterPieces.{FitsHead, FitsFault};
-ghost use Rattle.work_registry.specs.Register.{status_of, work_of, version_of, line_for, entry_line, entry_lines, count_line, register_text, FitsEntry};
+ghost use Rattle.work_registry.specs.Register.{status_of, work_of, version_of, line_for, entry_line, entry_lines, count_line, register_text, FitsEntry, IsWholeEntry};
 
 use super::head::Head;
 use super::pieces::{Piece, put_pieces};
@@ -56,6 +56,10 @@ pub(crate) fn told(reply: Reply) -> (Status, u32, u32)
 fn head_for<A: Allocator>(index: u32, entry: &Entry<A>) -> Head
     ensures value { result ≡ head_of (line_for index entry.now.call entry.now.reply) }
     ensures lawful { IsTrue (is_lawful entry.now.call) }
+    ensures submitter { length entry.now.call.submitter ≡ 11 }
+    ensures title { length entry.now.call.title ≡ 60 }
+    ensures number { length entry.now.call.number ≡ 14 }
+    ensures control { length entry.now.call.control ≡ 3 }
 {
     let (status, work, version) = told(entry.reply());
     Head {
@@ -101,7 +105,8 @@ fn put_head<A: Allocator>(out: &mut Vec<u8, A>, x: &Head) -> Result<(), Memory>
 
 fn put_fault<A: Allocator>(out: &mut Vec<u8, A>, x: &Fault) -> Result<(), Memory>
     requires { FitsFault x.now }
-    ensures { OnOk result (out.new.items ≡ out.old.items ++ line_of fault x.now) }
+    ensures text { OnOk result (out.new.items ≡ out.old.items ++ line_of fault x.now) }
+    ensures typed { IsTyped x.now }
 {
     put_pieces(
         out,
@@ -115,7 +120,8 @@ fn put_fault<A: Allocator>(out: &mut Vec<u8, A>, x: &Fault) -> Result<(), Memory
 
 fn put_faults<A: Allocator>(out: &mut Vec<u8, A>, faults: &[Fault]) -> Result<(), Memory>
     requires { AllByRecursion FitsFault faults.now }
-    ensures { OnOk result (out.new.items ≡ out.old.items ++ flat_map (line_of fault) faults.now) }
+    ensures text { OnOk result (out.new.items ≡ out.old.items ++ flat_map (line_of fault) faults.now) }
+    ensures typed { OnOk result (AllByRecursion IsTyped faults.now) }
 {
     for fault in faults {
         put_fault(out, fault)?;
@@ -126,7 +132,8 @@ fn put_faults<A: Allocator>(out: &mut Vec<u8, A>, faults: &[Fault]) -> Result<()
 fn put_entry<A: Allocator>(out: &mut Vec<u8, A>, index: u32, entry: &Entry<A>) -> Result<(), Memory>
     requires index { index < 10 ^ 8 }
     requires fits { FitsEntry entry.now }
-    ensures { OnOk result (out.new.items ≡ out.old.items ++ entry_line index entry.now.call entry.now.reply) }
+    ensures text { OnOk result (out.new.items ≡ out.old.items ++ entry_line index entry.now.call entry.now.reply) }
+    ensures whole { OnOk result (IsWholeEntry entry.now) }
 {
     put_head(out, &head_for(index, entry))?;
     put_faults(out, entry.call().faults())?;
@@ -137,7 +144,8 @@ fn put_entry<A: Allocator>(out: &mut Vec<u8, A>, index: u32, entry: &Entry<A>) -
 fn put_entries<A: Allocator>(out: &mut Vec<u8, A>, entries: &[Entry<A>]) -> Result<(), Memory>
     requires few { length entries.now < 10 ^ 8 }
     requires fit { AllByRecursion FitsEntry entries.now }
-    ensures { OnOk result (out.new.items ≡ out.old.items ++ entry_lines 1 entries.now) }
+    ensures text { OnOk result (out.new.items ≡ out.old.items ++ entry_lines 1 entries.now) }
+    ensures whole { OnOk result (AllByRecursion IsWholeEntry entries.now) }
 {
     for (before, entry) in entries.iter().enumerate() {
         put_entry(out, before as u32 + 1, entry)?;
@@ -177,7 +185,8 @@ pub(super) fn register_of<A: Allocator>(
 ) -> Result<Vec<u8, A>, Memory>
     requires few { length entries.now < 10 ^ 8 }
     requires fit { AllByRecursion FitsEntry entries.now }
-    ensures { IfOk result (λ text. text.items ≡ register_text entries.now) }
+    ensures text { IfOk result (λ text. text.items ≡ register_text entries.now) }
+    ensures whole { OnOk result (AllByRecursion IsWholeEntry entries.now) }
 {
     let mut out = Vec::with_capacity(alloc, text_len(entries))?;
     put_count(&mut out, entries.len())?;

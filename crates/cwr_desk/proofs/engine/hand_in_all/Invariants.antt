@@ -1,7 +1,6 @@
-use Rattle.std.proofs.Common.{◌≡◌, ◌+◌, ◌≤◌, ◌<◌, ◌^◌, length, drop, vec_capacity, List}
+use Rattle.std.proofs.Common.{◌≡◌, ◌+◌, ◌≤◌, length, drop, vec_capacity}
 use Rattle.std.specs.List.{AllByRecursion}
 use Rattle.cwr_file.specs.Acknowledgement.{FitsItem}
-use Rattle.cwr_file.specs.RawParts.{RawParts}
 use Rattle.cwr_desk.specs.Handing.{AreAnswered}
 use Rattle.cwr_desk.specs.Items.{IsPlaced}
 use Rattle.cwr_desk.proofs.engine.hand_in_all.Given as goal

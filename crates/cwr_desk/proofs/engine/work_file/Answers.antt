@@ -1,5 +1,5 @@
 use Rattle.std.proofs.Common.{◌≤◌, ap, Err, arith, length}
-use Rattle.cwr_desk.specs.Account.{most, IsRead}
+use Rattle.cwr_desk.specs.Account.{most}
 use Rattle.cwr_desk.proofs.Accounts.{not_read, not_begun, read_whole}
 use Rattle.cwr_desk.proofs.engine.work_file.Goals as goal
 

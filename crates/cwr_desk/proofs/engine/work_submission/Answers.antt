@@ -1,4 +1,4 @@
-use Rattle.std.proofs.Common.{◌≡◌, ◌≤◌, arith, length, refl}
+use Rattle.std.proofs.Common.{◌≡◌, arith, length}
 use Rattle.cwr_desk.proofs.Accounts.{clean, placed, few_transactions, few_items, few_told, not_begun, handed_some, no_text, acked, cut_off, Appends-nil}
 use Rattle.cwr_desk.proofs.engine.work_submission.Goals as goal
 

@@ -1,4 +1,4 @@
-use Rattle.std.proofs.Common.{◌≡◌, ℕ, false, length, vec_len, subst, arith}
+use Rattle.std.proofs.Common.{◌≡◌, false, length, vec_len, subst, arith}
 use Rattle.cwr_desk.specs.Account.{JobAccount}
 use Rattle.cwr_desk.specs.Whole.{InTurn}
 use Rattle.cwr_desk.proofs.Accounts.{account_full}

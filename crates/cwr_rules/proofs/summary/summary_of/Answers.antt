@@ -1,5 +1,7 @@
 use Rattle.std.proofs.Common.{◌≡◌, ◌<◌, length, drop, arith, ap, subst, List, ℕ}
 use Rattle.std.proofs.lemmas.List.{length-drop, drop_all}
+use Rattle.std.specs.Prelude.{nat_eq}
+use Rattle.std.specs.HashMap.{get}
 use Rattle.cwr_rules.specs.declared.record.Record.{Record}
 use Rattle.cwr_rules.specs.Totals.{owns, controls, collects_at}
 use Rattle.cwr_rules.specs.Summary.{IsSummary}
@@ -30,7 +32,7 @@ pub loop-index-preserved : goal.loop-index-preserved
 loop-index-preserved g c =
     let rest = drop c.loop-index.index c.args.records.now in
     let next = one_before c.args.records.now c.loop-index.index _ c.loop-index-test.true c.loop-index.auto.index in
-    let P : List Record → Type 0 = λ records. IsSummary c.add.new.self c.add_publisher.new.self.set c.add-in-loop-index.new.self.by_code c.add-in-loop-index.new.self.is_over records in
+    let P : List Record → Type 0 = λ records. IsSummary c.add.new.self c.add_publisher.new.self.set (get nat_eq c.add-in-loop-index.new.self.by_code) c.add-in-loop-index.new.self.is_over records in
     subst P next (record {
       sums_are = c.add.ensures rest c.loop-index.invariant.sums_are;
       holds = c.in_ok-add_publisher.ensures rest c.loop-index.invariant.holds;
@@ -39,6 +41,6 @@ loop-index-preserved g c =
 
 pub returns : goal.returns
 returns g c =
-    let P : ℕ → Type 0 = λ i. IsSummary c.loop-index.sums c.loop-index.parties.set c.loop-index.collected.by_code c.loop-index.collected.is_over (drop i c.args.records.now) in
+    let P : ℕ → Type 0 = λ i. IsSummary c.loop-index.sums c.loop-index.parties.set (get nat_eq c.loop-index.collected.by_code) c.loop-index.collected.is_over (drop i c.args.records.now) in
     let end : c.loop-index.index ≡ 0 = omega (arith, c.loop-index-test.false) in
     subst P end c.loop-index.invariant

@@ -1,5 +1,6 @@
 use super::{fault_of, faulty_call, hand_in, one_entry, whole_call};
 use crate::{Book, RegisterRefusal, Reply, audit, read_register};
+use std::alloc::{AllocError, Global};
 use std::test::Fail;
 
 /// Twelve bytes without an entry, and no line at all.
@@ -28,65 +29,92 @@ fn with_one_entry(rt: HostRuntime) -> Result<(), Fail> {
     Ok(())
 }
 
+/// The register of a book with one rejected call.
+fn with_a_fault(alloc: Global) -> Result<Vec<u8>, Fail> {
+    let mut book = Book::new(alloc, 10);
+    hand_in(&mut book, 1, faulty_call(alloc)?)?;
+    Ok(book.write_register(alloc)?)
+}
+
+/// What stands before the controls, and from there on, with this fault number.
+fn faulty_line(alloc: Global, number: &str) -> Result<String, AllocError> {
+    format!(in alloc;
+        "REG00000001\nENT00000001PB000000123NWR{:60}{:25}000000000000000000010000000000010000RJ000000000000000000000000100000001{number}SWR\n",
+        "SONG ONE", "W1"
+    )
+}
+
 /// A rejected call has its faults in the line.
 #[test]
-fn with_a_fault(rt: HostRuntime) -> Result<(), Fail> {
-    let alloc = rt.alloc();
-    let mut book = Book::new(alloc, 10);
-    assert_eq!(rt;
-        hand_in(&mut book, 1, faulty_call(alloc)?)?,
-        Reply::Rejected
-    );
-    let text = book.write_register(alloc)?;
+fn text_with_a_fault(rt: HostRuntime) -> Result<(), Fail> {
+    let text = with_a_fault(rt.alloc())?;
     assert_eq!(rt; text.len(), 12 + 186 + 1);
-    let (before, rest) = text.split_at(12 + 110);
-    assert_eq!(rt;
-        rest,
-        b"000000000000000000010000000000010000RJ00000000000000000000000010000000106SWR\n".as_slice()
-    );
-    assert_eq!(rt; audit(alloc, &text), Ok(1));
-
-    let mut changed = before.to_vec(alloc)?;
-    changed.extend_from_slice(
-        b"000000000000000000010000000000010000RJ00000000000000000000000010000000116SWR\n",
-    )?;
-    assert_eq!(rt; fault_of(alloc, &changed)?, Some((1, 2)));
+    assert_eq!(rt; text.as_slice(), faulty_line(rt.alloc(), "06")?.as_bytes());
+    assert_eq!(rt; audit(rt.alloc(), &text), Ok(1));
     Ok(())
 }
 
-/// What was written is read again, with every entry of the opening, and the book goes on from there.
+/// There are rules from 1 to 15.
+#[test]
+fn text_with_another_fault(rt: HostRuntime) -> Result<(), Fail> {
+    for (number, wanted) in [("15", None), ("16", Some((1, 2))), ("00", Some((1, 2)))] {
+        let text = faulty_line(rt.alloc(), number)?;
+        assert_eq!(rt; fault_of(rt.alloc(), text.as_bytes())?, wanted, "{number}");
+    }
+    Ok(())
+}
+
+/// The register of a book that is full with two works.
+fn of_two_works(alloc: Global) -> Result<Vec<u8>, Fail> {
+    let mut book = Book::new(alloc, 2);
+    hand_in(&mut book, 1, whole_call(alloc, *b"W1            ")?)?;
+    hand_in(&mut book, 1, whole_call(alloc, *b"W2            ")?)?;
+    Ok(book.write_register(alloc)?)
+}
+
+/// What was written is read again, with every entry of the opening.
 #[test]
 fn read_again(rt: HostRuntime) -> Result<(), Fail> {
-    let alloc = rt.alloc();
-    let mut first = Book::new(alloc, 2);
-    hand_in(&mut first, 1, whole_call(alloc, *b"W1            ")?)?;
-    hand_in(&mut first, 1, whole_call(alloc, *b"W2            ")?)?;
-    let text = first.write_register(alloc)?;
-    let over_limit = read_register(alloc, &text, 1).err();
-    assert_eq!(rt;
-        over_limit,
-        Some(RegisterRefusal::Fault { number: 4, line: 1 })
-    );
-
-    let mut book = read_register(alloc, &text, 10)?;
+    let text = of_two_works(rt.alloc())?;
+    let book = read_register(rt.alloc(), &text, 10)?;
     assert_eq!(rt; book.len(), 2);
     assert_eq!(rt; book.limit(), 10);
     assert!(rt; book.is_opening());
-    let replies = [
-        hand_in(&mut book, 1, whole_call(alloc, *b"W1            ")?)?,
-        hand_in(&mut book, 1, whole_call(alloc, *b"W2            ")?)?,
-        hand_in(&mut book, 1, whole_call(alloc, *b"W3            ")?)?,
-    ];
-    let wanted = [
-        Reply::Duplicate { work: 1 },
-        Reply::Duplicate { work: 2 },
-        Reply::Accepted {
-            work: 3,
-            version: 1,
-        },
-    ];
-    assert!(rt; replies == wanted);
-    assert_eq!(rt; audit(alloc, &book.write_register(alloc)?), Ok(5));
+    Ok(())
+}
+
+#[test]
+fn read_above_the_limit(rt: HostRuntime) -> Result<(), Fail> {
+    let text = of_two_works(rt.alloc())?;
+    let refusal = read_register(rt.alloc(), &text, 1).err();
+    assert_eq!(rt;
+        refusal,
+        Some(RegisterRefusal::Fault { number: 4, line: 1 })
+    );
+    Ok(())
+}
+
+/// A book that was read goes on where it ended.
+#[test]
+fn calls_after_reading(rt: HostRuntime) -> Result<(), Fail> {
+    let text = of_two_works(rt.alloc())?;
+    let mut book = read_register(rt.alloc(), &text, 10)?;
+    for (number, wanted) in [
+        (*b"W1            ", Reply::Duplicate { work: 1 }),
+        (*b"W2            ", Reply::Duplicate { work: 2 }),
+        (
+            *b"W3            ",
+            Reply::Accepted {
+                work: 3,
+                version: 1,
+            },
+        ),
+    ] {
+        let call = whole_call(rt.alloc(), number)?;
+        assert_eq!(rt; hand_in(&mut book, 1, call)?, wanted);
+    }
+    let longer = book.write_register(rt.alloc())?;
+    assert_eq!(rt; audit(rt.alloc(), &longer), Ok(5));
     Ok(())
 }
 

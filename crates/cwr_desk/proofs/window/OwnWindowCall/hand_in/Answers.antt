@@ -1,5 +1,3 @@
-use Rattle.std.proofs.Common.{◌≡◌, ◌∙◌, ap, rules}
-use Rattle.std.specs.Prelude.{◌==◌}
 use Rattle.cwr_desk.proofs.Turns.{made_more}
 use Rattle.cwr_desk.proofs.window.OwnWindowCall.hand_in.Goals as goal
 

@@ -1,4 +1,4 @@
-use Rattle.std.proofs.Common.{◌≡◌, ◌≢◌, rules, subst, sym, ap, ◌∙◌, arith}
+use Rattle.std.proofs.Common.{◌≡◌, rules, subst, sym, ap, ◌∙◌, arith}
 use Rattle.registry_desk.specs.Standing.{Standing}
 use Rattle.registry_desk.specs.Views.{meeting}
 use Rattle.registry_desk.proofs.Meeting.{meets_seat, count_allowed, rests_meeting}

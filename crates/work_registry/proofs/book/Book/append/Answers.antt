@@ -1,4 +1,5 @@
-use Rattle.std.proofs.Common.{◌≡◌, ◌<◌, ◌∙◌, ◌++◌, ◌∷◌, [], ap, length, nat_eq}
+use Rattle.std.proofs.Common.{◌≡◌, ◌<◌, ◌∙◌, ◌++◌, ◌∷◌, [], ap, sym, length, nat_eq}
+use Rattle.std.specs.Prelude.{◌==◌, ◌&&◌}
 use Rattle.indexmap.specs.IndexMap.{get}
 use Rattle.work_registry.specs.EntryValue.{EntryValue}
 use Rattle.work_registry.specs.Rows.{rows_of, rows_of_entry, same_key}
@@ -8,7 +9,7 @@ use Rattle.work_registry.proofs.SoundRows.{IsSound}
 use Rattle.work_registry.proofs.SoundHistories.{sound, rows_of-push}
 use Rattle.work_registry.proofs.KeptRows.{indexes-step, indexes-room, step-place}
 use Rattle.work_registry.proofs.Decided.{decided-change}
-use Rattle.work_registry.proofs.GrowingBooks.{book-push}
+use Rattle.work_registry.proofs.GrowingBooks.{book-push, opening-push}
 use Rattle.work_registry.proofs.book.Book.append.Goals as goal
 
 pub invariant_of-self-then-is_err-2 : goal.invariant_of-self-then-is_err-2
@@ -17,6 +18,7 @@ invariant_of-self-then-is_err-2 g c =
       c.self.invariant.0,
       indexes-room (rows_of c.self.inside.history.items) c.self.inside.kept.claims c.make_room.new.self.claims c.self.inside.kept.iswcs c.make_room.new.self.iswcs c.self.inside.kept.works.items c.make_room.new.self.works.items
           c.self.invariant.1 c.make_room.ensures.claims c.make_room.ensures.iswcs c.make_room.ensures.works,
+      c.self.invariant.2,
     )
 
 pub store-requires-clause-place : goal.store-requires-clause-place
@@ -41,4 +43,5 @@ invariant_of-self-2 g c =
     indexes-step (rows_of h) c.args.call reply c.args.decision.change c.make_room.new.self.claims c.store.new.self.claims c.make_room.new.self.iswcs c.store.new.self.iswcs c.make_room.new.self.works.items c.store.new.self.works.items
     (sound h c.self.invariant.0.lawful) is (decided-change (rows_of h) c.args.call c.args.decision decided) room claims iswcs c.store.ensures.works in
     let kept' : AreIndexes (rows_of (h ++ e ∷ [])) (get same_key c.store.new.self.claims) (get nat_eq c.store.new.self.iswcs) c.store.new.self.works.items = rw (rows_of-push h e) kept in
-    rw grown (book-push h e c.self.inside.limit c.self.invariant.0 room_left is, kept')
+    let opening = c.is_still_opening-self-inside.ensures ∙ ap (λ b. b && (c.args.session == 0)) c.self.invariant.2 ∙ sym (opening-push h e) in
+    rw grown (book-push h e c.self.inside.limit c.self.invariant.0 room_left is, kept', opening)

@@ -1,4 +1,3 @@
-use Rattle.std.proofs.Common.{◌≤◌, length, arith, ap, sym, ◌∙◌}
 use Rattle.work_registry.proofs.RegisterEntries.{headless, miscounted, faultless, says_some, only_read}
 use Rattle.work_registry.proofs.register.entry_line.read_entry.Goals as goal
 

@@ -1,4 +1,4 @@
-use Rattle.std.proofs.Common.{◌+◌, length, take, drop, refl, sym, ◌∙◌}
+use Rattle.std.proofs.Common.{◌+◌, refl}
 use Rattle.std.proofs.lemmas.List.{take_rest}
 use Rattle.work_registry.proofs.RegisterLines.{cut_lines, unended, unended_lines}
 use Rattle.work_registry.proofs.RegisterTables.{if_none}

@@ -6,8 +6,8 @@ use Rattle.work_registry.specs.RegisterLine.{EntryLine}
 use Rattle.work_registry.specs.RegisterFaults.{Tells}
 use Rattle.work_registry.proofs.register.reading.is_answered.Goals as goal
 
-pub returns-clause-told : goal.returns-clause-told
-returns-clause-told g c =
+pub returns-in-Ok-clause-told : goal.returns-in-Ok-clause-told
+returns-in-Ok-clause-told g c =
     let is = c.entry.view_is in
     let status = sym (ap (λ (x : EntryLine). x.status) is) in
     let work = sym (ap (λ (x : EntryLine). x.work) is) in

@@ -1,0 +1,228 @@
+//! The program's runs, over a runtime of the tests' own.
+
+use super::checks;
+use super::sheets::{
+    ALL, OTHER_SENDER, SENDER, acknowledgement, decision, one_work, plain_file, work, writer,
+};
+use crate::fake::Fake;
+use crate::fake_files::FakeFile;
+use crate::run_program;
+use std::alloc::Global;
+use std::process::{Abort, ExitCode};
+use std::sync::{Mutex, Wait};
+use std::test::Fail;
+use std::thread::Threads;
+
+/// The words of a run, with the stamp of all acknowledgements.
+const RUN: [&str; 10] = [
+    "purvilgo",
+    "run",
+    "--society",
+    "000",
+    "--name",
+    "CWR REGISTRY",
+    "--date",
+    "20240601",
+    "--time",
+    "090000",
+];
+
+/// A run with these words behind the stamp's.
+pub(super) fn run_with<'a>(alloc: Global, more: &[&'a str]) -> Result<Vec<&'a str>, Fail> {
+    let mut words = Vec::new(alloc);
+    for word in RUN {
+        words.push(word)?;
+    }
+    words.extend_from_slice(more)?;
+    Ok(words)
+}
+
+/// Runs the program over these files: its status, standard output and standard error must be these.
+pub(super) fn expect<T: AllocGlobal + Abort + Threads + Wait + Sync>(
+    rt: &T,
+    words: &[&str],
+    files: &[(&str, FakeFile)],
+    status: ExitCode,
+    printed: &str,
+    complained: &str,
+) -> Result<(), Fail> {
+    let fake = Fake::new(rt, words, b"").with_files(files);
+    assert_eq!(rt; run_program(&fake), status, "{printed}{complained}");
+    let (out, err) = fake.into_texts();
+    assert_eq!(rt; out.as_slice(), printed.as_bytes());
+    assert_eq!(rt; err.as_str(), complained);
+    Ok(())
+}
+
+/// A file that holds this text so far.
+pub(super) fn holding(alloc: Global, text: &[u8]) -> Result<Mutex<Vec<u8>>, Fail> {
+    Ok(Mutex::new(Vec::from_slice(alloc, text)?))
+}
+
+/// The acknowledgement of one work that gets this status.
+pub(super) fn answer(alloc: Global, status: &str) -> Result<Vec<u8>, Fail> {
+    acknowledgement(alloc, &[decision(0, "NWR", "W1", "00000001", status, &[])])
+}
+
+#[test]
+fn acknowledges_a_file_beside_it(rt: HostRuntime) -> Result<(), Fail> {
+    let alloc = rt.alloc();
+    let input = plain_file(alloc)?;
+    let wanted = answer(alloc, "AS")?;
+    assert_eq!(rt; wanted.len(), 425);
+    let written = holding(alloc, b"an older acknowledgement")?;
+    let files = [
+        ("a.v22", FakeFile::Holds(&input)),
+        ("a.v22.ack", FakeFile::kept(&written, 425)),
+    ];
+    let words = run_with(alloc, &["a.v22"])?;
+    let told = "a.v22: acknowledged 1\n";
+    expect(&rt, &words, &files, ExitCode::SUCCESS, told, "")?;
+    assert_eq!(rt; written.into_inner().as_slice(), wanted.as_slice());
+    Ok(())
+}
+
+#[test]
+fn one_of_two_claims_conflicts(rt: HostRuntime) -> Result<(), Fail> {
+    let alloc = rt.alloc();
+    let iswc = "T0345246801";
+    let shares = ["06000", "04000"];
+    let first = one_work(alloc, SENDER, "NWR", "W1", iswc, shares)?;
+    let second = one_work(alloc, OTHER_SENDER, "NWR", "W1", iswc, shares)?;
+    let first_answer = holding(alloc, b"")?;
+    let second_answer = holding(alloc, b"")?;
+    let files = [
+        ("a", FakeFile::Holds(&first)),
+        ("b", FakeFile::Holds(&second)),
+        ("a.ack", FakeFile::kept(&first_answer, 1000)),
+        ("b.ack", FakeFile::kept(&second_answer, 1000)),
+    ];
+    let words = run_with(alloc, &["b", "a"])?;
+    let told = "b: acknowledged 1\na: acknowledged 1\n";
+    expect(&rt, &words, &files, ExitCode::SUCCESS, told, "")?;
+    let accepted = answer(alloc, "AS")?;
+    let conflict = answer(alloc, "CO")?;
+    let one = first_answer.into_inner();
+    let other = second_answer.into_inner();
+    let first_came = one.as_slice() == accepted.as_slice();
+    let (wanted_one, wanted_other) = if first_came {
+        (accepted, conflict)
+    } else {
+        (conflict, accepted)
+    };
+    assert_eq!(rt; one.as_slice(), wanted_one.as_slice());
+    assert_eq!(rt; other.as_slice(), wanted_other.as_slice());
+    Ok(())
+}
+
+/// The plain file, with a group trailer that counts two records.
+fn miscounted(alloc: Global) -> Result<Vec<u8>, Fail> {
+    let head = work(alloc, "NWR", 0, "W1", "")?;
+    let detail = writer(alloc, "SWR", 0, 1, ALL)?;
+    checks::file(
+        alloc,
+        &[
+            "GRHNWR0000102.200000000001",
+            &head,
+            &detail,
+            "GRT000010000000100000002",
+            "TRL000010000000100000006",
+        ],
+    )
+}
+
+#[test]
+fn goes_on_after_files_that_fail(rt: HostRuntime) -> Result<(), Fail> {
+    let alloc = rt.alloc();
+    let input = plain_file(alloc)?;
+    let wrong = miscounted(alloc)?;
+    let older = holding(alloc, b"older")?;
+    let cut = holding(alloc, b"")?;
+    let whole = holding(alloc, b"")?;
+    let files = [
+        ("refused", FakeFile::Holds(&wrong)),
+        ("refused.ack", FakeFile::kept(&older, 1000)),
+        ("closed", FakeFile::Holds(&input)),
+        ("cut", FakeFile::Holds(&input)),
+        ("cut.ack", FakeFile::kept(&cut, 100)),
+        ("endless", FakeFile::Endless),
+        ("whole", FakeFile::Holds(&input)),
+        ("whole.ack", FakeFile::kept(&whole, 1000)),
+    ];
+    let words = run_with(
+        alloc,
+        &["absent", "refused", "closed", "cut", "endless", "whole"],
+    )?;
+    let told =
+        "absent: stopped after 0: read\nrefused: refused F9 at line 5\nclosed: stopped after 1: write after 0 bytes\ncut: stopped after 1: write after 100 bytes\nendless: stopped after 0: too long\nwhole: acknowledged 1\n";
+    expect(&rt, &words, &files, ExitCode::FAILURE, told, "")?;
+    let wanted = answer(alloc, "AS")?;
+    assert_eq!(rt; older.into_inner().as_slice(), b"older".as_slice());
+    assert_eq!(rt;
+        cut.into_inner().as_slice(),
+        wanted.get(..100).ok_or("100 bytes")?
+    );
+    assert_eq!(rt; whole.into_inner().len(), 425);
+    Ok(())
+}
+
+#[test]
+fn takes_63_files_and_no_more(rt: HostRuntime) -> Result<(), Fail> {
+    let alloc = rt.alloc();
+    let mut names = Vec::new(alloc);
+    for number in 1..64 {
+        names.push(format!(in alloc; "{number}.v22")?)?;
+    }
+    let mut words = run_with(alloc, &[])?;
+    let mut told = String::new(alloc);
+    for name in &names {
+        words.push(name.as_str())?;
+        told.push_str(name.as_str())?;
+        told.push_str(": stopped after 0: read\n")?;
+    }
+    expect(&rt, &words, &[], ExitCode::FAILURE, &told, "")?;
+    words.push("64.v22")?;
+    let status = ExitCode::from(2);
+    expect(&rt, &words, &[], status, "", "too many files\n")
+}
+
+#[test]
+fn refuses_wrong_words(rt: HostRuntime) -> Result<(), Fail> {
+    let alloc = rt.alloc();
+    for (place, word, complained) in [
+        (3, "7", "bad --society\n"),
+        (5, "", "bad --name\n"),
+        (7, "20240230", "bad --date\n"),
+        (9, "240000", "bad --time\n"),
+        (11, "a", "file named twice\n"),
+        (11, "a.ack", "file named twice\n"),
+    ] {
+        let mut words = run_with(alloc, &["a", "b"])?;
+        let Some(wrong) = words.get_mut(place) else {
+            return Err("twelve words".into());
+        };
+        *wrong = word;
+        expect(&rt, &words, &[], ExitCode::from(2), "", complained)?;
+    }
+    Ok(())
+}
+
+#[test]
+fn tells_how_a_run_is_called(rt: HostRuntime) -> Result<(), Fail> {
+    let alloc = rt.alloc();
+    let status = ExitCode::from(2);
+    let none =
+        "error: the following required arguments were not provided:\n  --society <NNN>\n  --name <TEXT>\n  --date <YYYYMMDD>\n  --time <HHMMSS>\n  <FILE>...\n\nUsage: purvilgo run --society <NNN> --name <TEXT> --date <YYYYMMDD> --time <HHMMSS> <FILE>...\n\nFor more information, try '--help'.\n";
+    expect(&rt, &["purvilgo", "run"], &[], status, "", none)?;
+    let no_file =
+        "error: the following required arguments were not provided:\n  <FILE>...\n\nUsage: purvilgo run --society <NNN> --name <TEXT> --date <YYYYMMDD> --time <HHMMSS> <FILE>...\n\nFor more information, try '--help'.\n";
+    expect(&rt, &run_with(alloc, &[])?, &[], status, "", no_file)?;
+    for option in ["--from", "--to"] {
+        let words = run_with(alloc, &[option, "x", option, "y", "a"])?;
+        let twice = format!(in alloc;
+            "error: the argument '{option} <REGISTER>' cannot be used multiple times\n\nUsage: purvilgo run [OPTIONS] --society <NNN> --name <TEXT> --date <YYYYMMDD> --time <HHMMSS> <FILE>...\n\nFor more information, try '--help'.\n"
+        )?;
+        expect(&rt, &words, &[], status, "", &twice)?;
+    }
+    Ok(())
+}

@@ -1,0 +1,144 @@
+-- A register that was written is read again: it has no fault, and it is that of no other history.
+use Rattle.std.proofs.Common.{◌≡◌, ◌∙◌, ℕ, ◌+◌, leb, Bool, true, false, List, [], ◌∷◌, ◌++◌, length, take, Option, Some, None, IsTrue, arith, ap, sym, refl}
+use Rattle.std.specs.Prelude.{slice_index, ◌==◌, codes}
+use Rattle.std.specs.List.{list_all, AllByRecursion}
+use Rattle.std.specs.Char.{is_ascii_digit, is_ascii_uppercase}
+use Rattle.std.proofs.lemmas.Bool.Decides.{nat_tests}
+use Rattle.std.proofs.lemmas.List.{length-append}
+use Rattle.std.proofs.lemmas.List.Folds.{list_all-append}
+use Rattle.cwr_field.specs.Number.{number_text}
+use Rattle.cwr_field.specs.Iswc.{check_digit}
+use Rattle.cwr_field.proofs.DigitText.{all_digits}
+use Rattle.cwr_record.specs.declared.works.WorkKind.{WorkKind}
+use Rattle.cwr_record.specs.declared.works.WorkKind.TheVariants.{Nwr, Rev}
+use Rattle.cwr_record.specs.Kinds.{work_kind_code}
+use Rattle.cwr_file.specs.AckItem.{status_text}
+use Rattle.cwr_file.specs.declared.ack_item.Status.{Status}
+use Rattle.cwr_file.specs.declared.ack_item.Status.TheVariants as status
+use Rattle.cwr_file.specs.declared.transaction_fault.Fault.{Fault}
+use Rattle.cwr_file.proofs.AckTexts.{same_fronts}
+use Rattle.cwr_rules.proofs.FaultForms.{both, parts}
+use Rattle.cwr_rules.specs.Lawful.{is_clean, is_fault, is_lawful, rises}
+use Rattle.work_registry.specs.declared.register.head.Head.{Head}
+use Rattle.work_registry.specs.RegisterLine.{Column, line_of, head, fault, head_of, code_text, line_from, EntryLine, IsEntryLine}
+use Rattle.work_registry.specs.RegisterPieces.{IsWholeFault}
+use Rattle.work_registry.specs.RegisterFaults.{has_end}
+use Rattle.work_registry.proofs.RegisterFits.{lawful_parts}
+use Rattle.work_registry.proofs.RegisterFaultTexts.{faults_text, length-fault, same_fault, fault_stands}
+use Rattle.work_registry.proofs.RegisterEntries.{said, same_head}
+
+-- ---- no LF stands in a line before its end
+
+digit_clean : (b : ℕ) → is_ascii_digit b ≡ true → leb 32 b ≡ true
+digit_clean b h = grind (arith, nat_tests)
+
+capital_clean : (b : ℕ) → is_ascii_uppercase b ≡ true → leb 32 b ≡ true
+capital_clean b h = grind (arith, nat_tests)
+
+each_clean : (p : ℕ → Bool) → ((b : ℕ) → p b ≡ true → leb 32 b ≡ true) → (xs : List ℕ) → list_all p xs ≡ true → is_clean xs ≡ true
+each_clean p f [] h = refl
+each_clean p f (x ∷ xs) h = let q = parts (p x) (list_all p xs) h in both (leb 32 x) (is_clean xs) (f x q.0) (each_clean p f xs q.1)
+
+number_clean : (width n : ℕ) → is_clean (number_text width n) ≡ true
+number_clean width n = each_clean is_ascii_digit digit_clean (number_text width n) (all_digits width n)
+
+joined_clean : (xs ys : List ℕ) → is_clean xs ≡ true → is_clean ys ≡ true → is_clean (xs ++ ys) ≡ true
+joined_clean xs ys p q = list_all-append (λ b. leb 32 b) xs ys ∙ both (is_clean xs) (is_clean ys) p q
+
+abbrev AreClean : {X : Type 0} → List (Column X) → X → Type 0
+AreClean columns x = AllByRecursion (λ c. is_clean (c.text x) ≡ true) columns
+
+line_clean : {X : Type 0} (columns : List (Column X)) (x : X) → AreClean columns x → is_clean (line_of columns x) ≡ true
+line_clean [] x h = refl
+line_clean (c ∷ columns) x h = joined_clean (c.text x) (line_of columns x) h.0 (line_clean columns x h.1)
+
+kind_clean : (k : WorkKind) → is_clean (work_kind_code k) ≡ true
+kind_clean Nwr = refl
+kind_clean Rev = refl
+
+status_clean : (s : Status) → is_clean (status_text s) ≡ true
+status_clean status.Accepted = refl
+status_clean status.Duplicate = refl
+status_clean status.Conflict = refl
+status_clean status.Rejected = refl
+
+check_clean : (n : ℕ) → leb 32 (48 + n) ≡ true
+check_clean n = grind (arith, nat_tests)
+
+code_clean : (o : Option ℕ) → is_clean (code_text o) ≡ true
+code_clean None = refl
+code_clean (Some n) = joined_clean (84 ∷ number_text 9 n) ((48 + check_digit n) ∷ []) (number_clean 9 n) (both (leb 32 (48 + check_digit n)) true (check_clean (check_digit n)) refl)
+
+fault_clean : (f : Fault) → is_fault f ≡ true → is_clean (line_of fault f) ≡ true
+fault_clean f h =
+    let type = each_clean is_ascii_uppercase capital_clean f.rtype (parts _ (list_all is_ascii_uppercase f.rtype) h).1 in
+    line_clean fault f (number_clean 8 f.sequence, (number_clean 2 f.number, (type, tt)))
+
+faults_clean : (fs : List Fault) → list_all is_fault fs ≡ true → is_clean (faults_text fs) ≡ true
+faults_clean [] h = refl
+faults_clean (f ∷ fs) h =
+    let p = parts (is_fault f) (list_all is_fault fs) h in
+    joined_clean (line_of fault f) (faults_text fs) (fault_clean f p.0) (faults_clean fs p.1)
+
+clean_has_none : (xs : List ℕ) → is_clean xs ≡ true → has_end xs ≡ false
+clean_has_none [] h = refl
+clean_has_none (x ∷ xs) h =
+    let p = parts (leb 32 x) (is_clean xs) h in
+    let first : (x == 10) ≡ false = (let q = p.0 in grind (arith, nat_tests)) in
+    rw first (clean_has_none xs p.1)
+
+pub number_has_none : (n : ℕ) → has_end (codes "REG" ++ number_text 8 n) ≡ false
+number_has_none n = clean_has_none (codes "REG" ++ number_text 8 n) (joined_clean (codes "REG") (number_text 8 n) refl (number_clean 8 n))
+
+-- the line of an entry, less its LF
+abbrev pub front_of : EntryLine → List ℕ
+front_of x = line_of head (head_of x) ++ faults_text x.call.faults
+
+pub front_has_none : (x : EntryLine) → IsTrue (is_lawful x.call) → has_end (front_of x) ≡ false
+front_has_none x lawful =
+    let p = lawful_parts x.call lawful in
+    let faults = (parts _ (list_all is_fault x.call.faults) (parts _ (rises x.call.faults) p.faults).0).1 in
+    clean_has_none (front_of x) (joined_clean (line_of head (head_of x)) (faults_text x.call.faults)
+    (line_clean head (head_of x) (
+      refl,
+      (
+        number_clean 8 x.index,
+        (
+          p.submitter,
+          (
+            kind_clean x.call.kind,
+            (
+              p.title,
+              (
+                p.number,
+                (
+                  code_clean x.call.iswc,
+                  (number_clean 12 (slice_index x.call.control 0), (number_clean 12 (slice_index x.call.control 1), (number_clean 12 (slice_index x.call.control 2), (status_clean x.status, (number_clean 8 x.work, (number_clean 8 x.version, (number_clean 9 (length x.call.faults), tt))))))),
+                ),
+              ),
+            ),
+          ),
+        ),
+      ),
+    ))
+    (faults_clean x.call.faults faults))
+
+-- ---- one line, one reading
+
+same_faults : (fs gs : List Fault) → AllByRecursion IsWholeFault fs → AllByRecursion IsWholeFault gs → faults_text fs ≡ faults_text gs → fs ≡ gs
+same_faults [] [] p q e = refl
+same_faults [] (g ∷ gs) p q e = absurd (let l = ap length e in omega (arith, l, length-fault g q.0.typed, length-append (line_of fault g) (faults_text gs)))
+same_faults (f ∷ fs) [] p q e = absurd (let l = ap length e in omega (arith, l, length-fault f p.0.typed, length-append (line_of fault f) (faults_text fs)))
+same_faults (f ∷ fs) (g ∷ gs) p q e =
+    let split = same_fronts (line_of fault f) (line_of fault g) (faults_text fs) (faults_text gs) (length-fault f p.0.typed ∙ sym (length-fault g q.0.typed)) e in
+    let one = same_fault (line_of fault g) f g p.0.fits q.0.fits (fault_stands (line_of fault g) f p.0.typed split.0) (fault_stands (line_of fault g) g q.0.typed refl) in
+    let more = same_faults fs gs p.1 q.1 split.1 in
+    rw (one, more) refl
+
+pub one_reading : (front : List ℕ) (x y : EntryLine) → IsEntryLine (front ++ 10 ∷ []) x → IsEntryLine (front ++ 10 ∷ []) y → x ≡ y
+one_reading front x y h i =
+    let s = said front x h in
+    let t = said front y i in
+    let heads = same_head (take 173 front) (head_of x) (head_of y) s.head_fits t.head_fits h.control i.control s.head_stands t.head_stands in
+    let faults = same_faults x.call.faults y.call.faults s.whole t.whole (s.faults ∙ sym t.faults) in
+    ap (λ (z : Head). line_from z x.call.faults) heads ∙ ap (λ (zs : List Fault). line_from (head_of y) zs) faults
