@@ -1,5 +1,5 @@
 //! A runtime of the tests' own: words, standard input, files, and what was printed. Threads are those of another one.
-use crate::fake_files::{FakeFile, unsupported};
+use crate::fake_files::{FakeFile, KeptFile, unsupported};
 use std::alloc::{Allocator, Global};
 use std::env::FillError;
 use std::fmt::Display;
@@ -14,8 +14,10 @@ pub(crate) struct Fake<'a, T> {
     pub(crate) rt: &'a T,
     pub(crate) words: &'a [&'a str],
     pub(crate) input: &'a [u8],
-    /// The files that are there, by name.
+    /// The files that can only be read, by name.
     pub(crate) files: &'a [(&'a str, FakeFile<'a>)],
+    /// The files that can be written.
+    pub(crate) kept: &'a [KeptFile<'a>],
     pub(crate) alloc: Global,
     pub(crate) printed: Mutex<Vec<u8>>,
     pub(crate) complained: Mutex<String>,
@@ -29,6 +31,7 @@ impl<'a, T: AllocGlobal> Fake<'a, T> {
             words,
             input,
             files: &[],
+            kept: &[],
             alloc,
             printed: Mutex::new(Vec::new(alloc)),
             complained: Mutex::new(String::new(alloc)),
@@ -36,12 +39,17 @@ impl<'a, T: AllocGlobal> Fake<'a, T> {
     }
 
     /// The same runtime with these files.
-    pub(crate) fn with_files(self, files: &'a [(&'a str, FakeFile<'a>)]) -> Fake<'a, T> {
+    pub(crate) fn with_files(
+        self,
+        files: &'a [(&'a str, FakeFile<'a>)],
+        kept: &'a [KeptFile<'a>],
+    ) -> Fake<'a, T> {
         let Fake {
             rt,
             words,
             input,
             files: _,
+            kept: _,
             alloc,
             printed,
             complained,
@@ -51,6 +59,7 @@ impl<'a, T: AllocGlobal> Fake<'a, T> {
             words,
             input,
             files,
+            kept,
             alloc,
             printed,
             complained,
@@ -64,6 +73,7 @@ impl<'a, T: AllocGlobal> Fake<'a, T> {
             words: _,
             input: _,
             files: _,
+            kept: _,
             alloc: _,
             printed,
             complained,
@@ -177,7 +187,12 @@ impl<'a, T> Files for Fake<'a, T> {
 
     fn open_file(&self, how: &OpenOptions, path: &str) -> io::Result<FakeFile<'a>> {
         for (name, file) in self.files {
-            if *name == path {
+            if *name == path && !how.asks_write() {
+                return Ok(*file);
+            }
+        }
+        for file in self.kept {
+            if file.name == path {
                 return file.opened(how);
             }
         }

@@ -22,31 +22,30 @@ pub(crate) enum FakeFile<'a> {
     },
 }
 
-impl<'a> FakeFile<'a> {
-    /// A file that can be written, and takes at most so many bytes.
-    pub(crate) fn kept(bytes: &'a Mutex<Vec<u8>>, room: usize) -> FakeFile<'a> {
-        FakeFile::Kept {
-            bytes,
-            room,
-            read: 0,
-        }
-    }
+/// A file that can be written.
+#[derive(Drop)]
+pub(crate) struct KeptFile<'a> {
+    pub(crate) name: &'a str,
+    /// What it holds.
+    pub(crate) bytes: Mutex<Vec<u8>>,
+    /// How many bytes it takes at most.
+    pub(crate) room: usize,
+}
 
+impl KeptFile<'_> {
     /// The file where it is opened in this way. Opened for writing, it is emptied.
-    pub(crate) fn opened(&self, how: &OpenOptions) -> io::Result<FakeFile<'a>> {
-        if !how.asks_write() {
-            return Ok(*self);
+    pub(crate) fn opened(&self, how: &OpenOptions) -> io::Result<FakeFile<'_>> {
+        if how.asks_write() {
+            match self.bytes.try_lock() {
+                Some(mut bytes) => bytes.clear(),
+                None => return unsupported(),
+            }
         }
-        match self {
-            FakeFile::Kept { bytes, .. } => match bytes.try_lock() {
-                Some(mut bytes) => {
-                    bytes.clear();
-                    Ok(*self)
-                }
-                None => unsupported(),
-            },
-            _ => unsupported(),
-        }
+        Ok(FakeFile::Kept {
+            bytes: &self.bytes,
+            room: self.room,
+            read: 0,
+        })
     }
 }
 

@@ -40,7 +40,7 @@ fn checks_a_file(rt: HostRuntime) -> Result<(), Fail> {
     ];
     for (name, status, printed, complained) in cases {
         let words = ["purvilgo", "check", name];
-        let fake = Fake::new(&rt, &words, b"").with_files(&files);
+        let fake = Fake::new(&rt, &words, b"").with_files(&files, &[]);
         assert_eq!(rt; run_program(&fake), status, "{name}");
         let (out, err) = fake.into_texts();
         assert_eq!(rt; out.as_slice(), printed.as_bytes(), "{name}");

@@ -1,11 +1,13 @@
 //! Registers that runs begin with and leave, and their audits.
 
-use super::runs::{answer, expect, holding, run_with};
+use super::runs::{answer, expect, expect_held, keeping, run_with};
 use super::sheets::plain_file;
 use crate::fake_files::FakeFile;
 use std::alloc::Global;
-use std::process::ExitCode;
+use std::process::{Abort, ExitCode};
+use std::sync::Wait;
 use std::test::Fail;
+use std::thread::Threads;
 
 /// The register of so many runs on the plain file: its first entry is accepted, and the others are duplicates.
 fn register(alloc: Global, entries: u32) -> Result<String, Fail> {
@@ -37,37 +39,52 @@ fn damaged(alloc: Global) -> Result<String, Fail> {
 fn runs_follow_one_another(rt: HostRuntime) -> Result<(), Fail> {
     let alloc = rt.alloc();
     let input = plain_file(alloc)?;
-    let written = holding(alloc, b"")?;
-    let kept = holding(alloc, b"what lay there before")?;
-    let files = [
-        ("a", FakeFile::Holds(&input)),
-        ("a.ack", FakeFile::kept(&written, 1000)),
-        ("book", FakeFile::kept(&kept, 1000)),
+    let kept = [
+        keeping(alloc, "a.ack", b"", 1000)?,
+        keeping(alloc, "book", b"what lay there before", 1000)?,
     ];
+    let files = [("a", FakeFile::Holds(&input))];
     let done = ExitCode::SUCCESS;
     let told = "a: acknowledged 1\n";
     let audit = ["purvilgo", "audit", "book"];
 
     let words = run_with(alloc, &["--to", "book", "a"])?;
-    expect(&rt, &words, &files, done, told, "")?;
-    expect(&rt, &audit, &files, done, "1 entries\n", "")?;
-    let now = kept.try_lock().ok_or("nobody holds it")?;
-    assert_eq!(rt; now.len(), 186);
-    assert_eq!(rt; now.as_slice(), register(alloc, 1)?.as_bytes());
-    drop(now);
+    expect(&rt, &words, &files, &kept, done, told, "")?;
+    expect(&rt, &audit, &files, &kept, done, "1 entries\n", "")?;
+    let first = register(alloc, 1)?;
+    assert_eq!(rt; first.len(), 186);
+    expect_held(&rt, &kept[1], first.as_bytes())?;
 
     let words = run_with(alloc, &["--from", "book", "--to", "book", "a"])?;
-    expect(&rt, &words, &files, done, told, "")?;
-    expect(&rt, &audit, &files, done, "2 entries\n", "")?;
-    assert_eq!(rt;
-        kept.into_inner().as_slice(),
-        register(alloc, 2)?.as_bytes()
-    );
-    assert_eq!(rt;
-        written.into_inner().as_slice(),
-        answer(alloc, "DU")?.as_slice()
-    );
-    Ok(())
+    expect(&rt, &words, &files, &kept, done, told, "")?;
+    expect(&rt, &audit, &files, &kept, done, "2 entries\n", "")?;
+    expect_held(&rt, &kept[1], register(alloc, 2)?.as_bytes())?;
+    expect_held(&rt, &kept[0], &answer(alloc, "DU")?)
+}
+
+/// Runs the file `a` from a register of this name, where `wrong` is this text: it must be refused, and nothing written.
+fn refuses_register<'a, T: AllocGlobal + Abort + Threads + Wait + Sync>(
+    rt: &T,
+    input: &'a [u8],
+    name: &str,
+    text: &'a [u8],
+    complained: &str,
+) -> Result<(), Fail> {
+    let alloc = rt.alloc();
+    let kept = [
+        keeping(alloc, "a.ack", b"older", 1000)?,
+        keeping(alloc, "book", b"older", 1000)?,
+    ];
+    let files = [
+        ("a", FakeFile::Holds(input)),
+        ("wrong", FakeFile::Holds(text)),
+        ("broken", FakeFile::Broken),
+    ];
+    let words = run_with(alloc, &["--from", name, "--to", "book", "a"])?;
+    let status = ExitCode::FAILURE;
+    expect(rt, &words, &files, &kept, status, "", complained)?;
+    expect_held(rt, &kept[0], b"older")?;
+    expect_held(rt, &kept[1], b"older")
 }
 
 #[test]
@@ -76,29 +93,22 @@ fn begins_with_no_damaged_register(rt: HostRuntime) -> Result<(), Fail> {
     let input = plain_file(alloc)?;
     let wrong = damaged(alloc)?;
     assert_eq!(rt; wrong.len(), 186);
-    let cut_off = register(alloc, 1)?;
-    let cut_off = cut_off.as_bytes().get(..12).ok_or("12 bytes")?;
-    let written = holding(alloc, b"older")?;
-    let kept = holding(alloc, b"older")?;
-    let files = [
-        ("a", FakeFile::Holds(&input)),
-        ("a.ack", FakeFile::kept(&written, 1000)),
-        ("wrong", FakeFile::Holds(wrong.as_bytes())),
-        ("cut off", FakeFile::Holds(cut_off)),
-        ("broken", FakeFile::Broken),
-        ("book", FakeFile::kept(&kept, 1000)),
-    ];
-    for (name, complained) in [
-        ("wrong", "register: refused G3 at line 2\n"),
-        ("cut off", "register: refused G2 at line 2\n"),
-        ("broken", "register: stopped: read\n"),
-        ("absent", "register: stopped: read\n"),
+    for (name, text, complained) in [
+        (
+            "wrong",
+            wrong.as_bytes(),
+            "register: refused G3 at line 2\n",
+        ),
+        (
+            "wrong",
+            b"REG00000001\n".as_slice(),
+            "register: refused G2 at line 2\n",
+        ),
+        ("broken", b"".as_slice(), "register: stopped: read\n"),
+        ("absent", b"".as_slice(), "register: stopped: read\n"),
     ] {
-        let words = run_with(alloc, &["--from", name, "--to", "book", "a"])?;
-        expect(&rt, &words, &files, ExitCode::FAILURE, "", complained)?;
+        refuses_register(&rt, &input, name, text, complained)?;
     }
-    assert_eq!(rt; written.into_inner().as_slice(), b"older".as_slice());
-    assert_eq!(rt; kept.into_inner().as_slice(), b"older".as_slice());
     Ok(())
 }
 
@@ -106,27 +116,33 @@ fn begins_with_no_damaged_register(rt: HostRuntime) -> Result<(), Fail> {
 fn tells_a_register_that_is_not_kept(rt: HostRuntime) -> Result<(), Fail> {
     let alloc = rt.alloc();
     let input = plain_file(alloc)?;
-    let written = holding(alloc, b"")?;
-    let kept = holding(alloc, b"")?;
-    let files = [
-        ("a", FakeFile::Holds(&input)),
-        ("a.ack", FakeFile::kept(&written, 1000)),
-        ("short", FakeFile::kept(&kept, 100)),
+    let kept = [
+        keeping(alloc, "a.ack", b"", 1000)?,
+        keeping(alloc, "short", b"", 100)?,
     ];
+    let files = [("a", FakeFile::Holds(&input))];
     for (name, complained) in [
         ("short", "register: stopped: write after 100 bytes\n"),
         ("absent", "register: stopped: write after 0 bytes\n"),
     ] {
         let words = run_with(alloc, &["--to", name, "a"])?;
         let told = "a: acknowledged 1\n";
-        expect(&rt, &words, &files, ExitCode::FAILURE, told, complained)?;
+        expect(
+            &rt,
+            &words,
+            &files,
+            &kept,
+            ExitCode::FAILURE,
+            told,
+            complained,
+        )?;
     }
     let wanted = register(alloc, 1)?;
-    assert_eq!(rt;
-        kept.into_inner().as_slice(),
-        wanted.as_bytes().get(..100).ok_or("100 bytes")?
-    );
-    Ok(())
+    expect_held(
+        &rt,
+        &kept[1],
+        wanted.as_bytes().get(..100).ok_or("100 bytes")?,
+    )
 }
 
 #[test]
@@ -151,7 +167,7 @@ fn audits_a_register(rt: HostRuntime) -> Result<(), Fail> {
     ];
     for (name, status, printed, complained) in cases {
         let words = ["purvilgo", "audit", name];
-        expect(&rt, &words, &files, status, printed, complained)?;
+        expect(&rt, &words, &files, &[], status, printed, complained)?;
     }
     Ok(())
 }

@@ -5,7 +5,7 @@ use super::sheets::{
     ALL, OTHER_SENDER, SENDER, acknowledgement, decision, one_work, plain_file, work, writer,
 };
 use crate::fake::Fake;
-use crate::fake_files::FakeFile;
+use crate::fake_files::{FakeFile, KeptFile};
 use crate::run_program;
 use std::alloc::Global;
 use std::process::{Abort, ExitCode};
@@ -42,11 +42,12 @@ pub(super) fn expect<T: AllocGlobal + Abort + Threads + Wait + Sync>(
     rt: &T,
     words: &[&str],
     files: &[(&str, FakeFile)],
+    kept: &[KeptFile],
     status: ExitCode,
     printed: &str,
     complained: &str,
 ) -> Result<(), Fail> {
-    let fake = Fake::new(rt, words, b"").with_files(files);
+    let fake = Fake::new(rt, words, b"").with_files(files, kept);
     assert_eq!(rt; run_program(&fake), status, "{printed}{complained}");
     let (out, err) = fake.into_texts();
     assert_eq!(rt; out.as_slice(), printed.as_bytes());
@@ -54,9 +55,31 @@ pub(super) fn expect<T: AllocGlobal + Abort + Threads + Wait + Sync>(
     Ok(())
 }
 
-/// A file that holds this text so far.
-pub(super) fn holding(alloc: Global, text: &[u8]) -> Result<Mutex<Vec<u8>>, Fail> {
-    Ok(Mutex::new(Vec::from_slice(alloc, text)?))
+/// A file of this name that holds this text so far, and takes at most so many bytes.
+pub(super) fn keeping<'a>(
+    alloc: Global,
+    name: &'a str,
+    text: &[u8],
+    room: usize,
+) -> Result<KeptFile<'a>, Fail> {
+    Ok(KeptFile {
+        name,
+        bytes: Mutex::new(Vec::from_slice(alloc, text)?),
+        room,
+    })
+}
+
+/// A file must hold this text.
+pub(super) fn expect_held(rt: &impl Abort, file: &KeptFile, wanted: &[u8]) -> Result<(), Fail> {
+    let held = file.bytes.try_lock().ok_or("a file that nobody holds")?;
+    assert_eq!(rt; held.as_slice(), wanted);
+    Ok(())
+}
+
+/// What a file holds.
+fn text_in(alloc: Global, file: &KeptFile) -> Result<Vec<u8>, Fail> {
+    let held = file.bytes.try_lock().ok_or("a file that nobody holds")?;
+    Ok(Vec::from_slice(alloc, held.as_slice())?)
 }
 
 /// The acknowledgement of one work that gets this status.
@@ -70,16 +93,25 @@ fn acknowledges_a_file_beside_it(rt: HostRuntime) -> Result<(), Fail> {
     let input = plain_file(alloc)?;
     let wanted = answer(alloc, "AS")?;
     assert_eq!(rt; wanted.len(), 425);
-    let written = holding(alloc, b"an older acknowledgement")?;
-    let files = [
-        ("a.v22", FakeFile::Holds(&input)),
-        ("a.v22.ack", FakeFile::kept(&written, 425)),
-    ];
+    let kept = [keeping(alloc, "a.v22.ack", b"an older acknowledgement", 425)?];
+    let files = [("a.v22", FakeFile::Holds(&input))];
     let words = run_with(alloc, &["a.v22"])?;
     let told = "a.v22: acknowledged 1\n";
-    expect(&rt, &words, &files, ExitCode::SUCCESS, told, "")?;
-    assert_eq!(rt; written.into_inner().as_slice(), wanted.as_slice());
-    Ok(())
+    expect(&rt, &words, &files, &kept, ExitCode::SUCCESS, told, "")?;
+    expect_held(&rt, &kept[0], &wanted)
+}
+
+/// Runs the files `b` and `a` at once: both must be acknowledged.
+fn run_two<'a, T: AllocGlobal + Abort + Threads + Wait + Sync>(
+    rt: &T,
+    a: &'a [u8],
+    b: &'a [u8],
+    kept: &[KeptFile],
+) -> Result<(), Fail> {
+    let files = [("a", FakeFile::Holds(a)), ("b", FakeFile::Holds(b))];
+    let words = run_with(rt.alloc(), &["b", "a"])?;
+    let told = "b: acknowledged 1\na: acknowledged 1\n";
+    expect(rt, &words, &files, kept, ExitCode::SUCCESS, told, "")
 }
 
 #[test]
@@ -89,30 +121,22 @@ fn one_of_two_claims_conflicts(rt: HostRuntime) -> Result<(), Fail> {
     let shares = ["06000", "04000"];
     let first = one_work(alloc, SENDER, "NWR", "W1", iswc, shares)?;
     let second = one_work(alloc, OTHER_SENDER, "NWR", "W1", iswc, shares)?;
-    let first_answer = holding(alloc, b"")?;
-    let second_answer = holding(alloc, b"")?;
-    let files = [
-        ("a", FakeFile::Holds(&first)),
-        ("b", FakeFile::Holds(&second)),
-        ("a.ack", FakeFile::kept(&first_answer, 1000)),
-        ("b.ack", FakeFile::kept(&second_answer, 1000)),
+    let kept = [
+        keeping(alloc, "a.ack", b"", 1000)?,
+        keeping(alloc, "b.ack", b"", 1000)?,
     ];
-    let words = run_with(alloc, &["b", "a"])?;
-    let told = "b: acknowledged 1\na: acknowledged 1\n";
-    expect(&rt, &words, &files, ExitCode::SUCCESS, told, "")?;
+    run_two(&rt, &first, &second, &kept)?;
     let accepted = answer(alloc, "AS")?;
     let conflict = answer(alloc, "CO")?;
-    let one = first_answer.into_inner();
-    let other = second_answer.into_inner();
+    let one = text_in(alloc, &kept[0])?;
     let first_came = one.as_slice() == accepted.as_slice();
     let (wanted_one, wanted_other) = if first_came {
         (accepted, conflict)
     } else {
         (conflict, accepted)
     };
-    assert_eq!(rt; one.as_slice(), wanted_one.as_slice());
-    assert_eq!(rt; other.as_slice(), wanted_other.as_slice());
-    Ok(())
+    expect_held(&rt, &kept[0], &wanted_one)?;
+    expect_held(&rt, &kept[1], &wanted_other)
 }
 
 /// The plain file, with a group trailer that counts two records.
@@ -131,59 +155,76 @@ fn miscounted(alloc: Global) -> Result<Vec<u8>, Fail> {
     )
 }
 
+/// Runs files of which all but the last fail, each in another way.
+fn run_failing<'a, T: AllocGlobal + Abort + Threads + Wait + Sync>(
+    rt: &T,
+    input: &'a [u8],
+    wrong: &'a [u8],
+    kept: &[KeptFile],
+) -> Result<(), Fail> {
+    let files = [
+        ("refused", FakeFile::Holds(wrong)),
+        ("closed", FakeFile::Holds(input)),
+        ("cut", FakeFile::Holds(input)),
+        ("endless", FakeFile::Endless),
+        ("whole", FakeFile::Holds(input)),
+    ];
+    let words = run_with(
+        rt.alloc(),
+        &["absent", "refused", "closed", "cut", "endless", "whole"],
+    )?;
+    let told =
+        "absent: stopped after 0: read\nrefused: refused F9 at line 5\nclosed: stopped after 1: write after 0 bytes\ncut: stopped after 1: write after 100 bytes\nendless: stopped after 0: too long\nwhole: acknowledged 1\n";
+    expect(rt, &words, &files, kept, ExitCode::FAILURE, told, "")
+}
+
 #[test]
 fn goes_on_after_files_that_fail(rt: HostRuntime) -> Result<(), Fail> {
     let alloc = rt.alloc();
     let input = plain_file(alloc)?;
     let wrong = miscounted(alloc)?;
-    let older = holding(alloc, b"older")?;
-    let cut = holding(alloc, b"")?;
-    let whole = holding(alloc, b"")?;
-    let files = [
-        ("refused", FakeFile::Holds(&wrong)),
-        ("refused.ack", FakeFile::kept(&older, 1000)),
-        ("closed", FakeFile::Holds(&input)),
-        ("cut", FakeFile::Holds(&input)),
-        ("cut.ack", FakeFile::kept(&cut, 100)),
-        ("endless", FakeFile::Endless),
-        ("whole", FakeFile::Holds(&input)),
-        ("whole.ack", FakeFile::kept(&whole, 1000)),
+    let kept = [
+        keeping(alloc, "refused.ack", b"older", 1000)?,
+        keeping(alloc, "cut.ack", b"", 100)?,
+        keeping(alloc, "whole.ack", b"", 1000)?,
     ];
-    let words = run_with(
-        alloc,
-        &["absent", "refused", "closed", "cut", "endless", "whole"],
-    )?;
-    let told =
-        "absent: stopped after 0: read\nrefused: refused F9 at line 5\nclosed: stopped after 1: write after 0 bytes\ncut: stopped after 1: write after 100 bytes\nendless: stopped after 0: too long\nwhole: acknowledged 1\n";
-    expect(&rt, &words, &files, ExitCode::FAILURE, told, "")?;
+    run_failing(&rt, &input, &wrong, &kept)?;
     let wanted = answer(alloc, "AS")?;
-    assert_eq!(rt; older.into_inner().as_slice(), b"older".as_slice());
-    assert_eq!(rt;
-        cut.into_inner().as_slice(),
-        wanted.get(..100).ok_or("100 bytes")?
-    );
-    assert_eq!(rt; whole.into_inner().len(), 425);
+    expect_held(&rt, &kept[0], b"older")?;
+    expect_held(&rt, &kept[1], wanted.get(..100).ok_or("100 bytes")?)?;
+    assert_eq!(rt; text_in(alloc, &kept[2])?.len(), 425);
     Ok(())
+}
+
+/// Runs files of these names, none of which is there.
+fn run_absent<T: AllocGlobal + Abort + Threads + Wait + Sync>(
+    rt: &T,
+    names: &[String],
+    status: ExitCode,
+    printed: &str,
+    complained: &str,
+) -> Result<(), Fail> {
+    let mut files = Vec::new(rt.alloc());
+    for name in names {
+        files.push(name.as_str())?;
+    }
+    let words = run_with(rt.alloc(), &files)?;
+    expect(rt, &words, &[], &[], status, printed, complained)
 }
 
 #[test]
 fn takes_63_files_and_no_more(rt: HostRuntime) -> Result<(), Fail> {
     let alloc = rt.alloc();
     let mut names = Vec::new(alloc);
+    let mut told = String::new(alloc);
     for number in 1..64 {
         names.push(format!(in alloc; "{number}.v22")?)?;
+        let line = format!(in alloc; "{number}.v22: stopped after 0: read\n")?;
+        told.push_str(line.as_str())?;
     }
-    let mut words = run_with(alloc, &[])?;
-    let mut told = String::new(alloc);
-    for name in &names {
-        words.push(name.as_str())?;
-        told.push_str(name.as_str())?;
-        told.push_str(": stopped after 0: read\n")?;
-    }
-    expect(&rt, &words, &[], ExitCode::FAILURE, &told, "")?;
-    words.push("64.v22")?;
-    let status = ExitCode::from(2);
-    expect(&rt, &words, &[], status, "", "too many files\n")
+    run_absent(&rt, &names, ExitCode::FAILURE, &told, "")?;
+    names.push(format!(in alloc; "64.v22")?)?;
+    run_absent(&rt, &names, ExitCode::from(2), "", "too many files\n")
 }
 
 #[test]
@@ -202,7 +243,7 @@ fn refuses_wrong_words(rt: HostRuntime) -> Result<(), Fail> {
             return Err("twelve words".into());
         };
         *wrong = word;
-        expect(&rt, &words, &[], ExitCode::from(2), "", complained)?;
+        expect(&rt, &words, &[], &[], ExitCode::from(2), "", complained)?;
     }
     Ok(())
 }
@@ -213,16 +254,16 @@ fn tells_how_a_run_is_called(rt: HostRuntime) -> Result<(), Fail> {
     let status = ExitCode::from(2);
     let none =
         "error: the following required arguments were not provided:\n  --society <NNN>\n  --name <TEXT>\n  --date <YYYYMMDD>\n  --time <HHMMSS>\n  <FILE>...\n\nUsage: purvilgo run --society <NNN> --name <TEXT> --date <YYYYMMDD> --time <HHMMSS> <FILE>...\n\nFor more information, try '--help'.\n";
-    expect(&rt, &["purvilgo", "run"], &[], status, "", none)?;
+    expect(&rt, &["purvilgo", "run"], &[], &[], status, "", none)?;
     let no_file =
         "error: the following required arguments were not provided:\n  <FILE>...\n\nUsage: purvilgo run --society <NNN> --name <TEXT> --date <YYYYMMDD> --time <HHMMSS> <FILE>...\n\nFor more information, try '--help'.\n";
-    expect(&rt, &run_with(alloc, &[])?, &[], status, "", no_file)?;
+    expect(&rt, &run_with(alloc, &[])?, &[], &[], status, "", no_file)?;
     for option in ["--from", "--to"] {
         let words = run_with(alloc, &[option, "x", option, "y", "a"])?;
         let twice = format!(in alloc;
             "error: the argument '{option} <REGISTER>' cannot be used multiple times\n\nUsage: purvilgo run [OPTIONS] --society <NNN> --name <TEXT> --date <YYYYMMDD> --time <HHMMSS> <FILE>...\n\nFor more information, try '--help'.\n"
         )?;
-        expect(&rt, &words, &[], status, "", &twice)?;
+        expect(&rt, &words, &[], &[], status, "", &twice)?;
     }
     Ok(())
 }
