@@ -4,6 +4,8 @@ mod checks;
 mod commands;
 mod decided;
 mod kept_registers;
+mod many_jobs;
+mod refused_files;
 mod run_words;
 mod runs;
 mod sheets;

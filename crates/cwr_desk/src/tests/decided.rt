@@ -3,14 +3,22 @@ use super::sheets::{
     ALL, Answer, SENDER, Told, acknowledgement, decision, file, one_work, plain_file, stamp, work,
     writer,
 };
+use super::threads::expect_served;
 use crate::{FileOutcome, acknowledge};
 use cwr_file::{Feed, Room};
 use std::alloc::Global;
 use std::process::Abort;
+use std::sync::Wait;
 use std::test::Fail;
+use std::thread::Threads;
 
-/// Acknowledges a file into an empty book: these are the decisions that must be told.
-fn expect(rt: &impl Abort, alloc: Global, input: &[u8], answers: &[Answer]) -> Result<(), Fail> {
+/// Acknowledges a file into an empty book, alone and at the desk: these are the decisions that must be told.
+fn expect<T: Threads + Wait + Sync + Abort>(
+    rt: &T,
+    alloc: Global,
+    input: &[u8],
+    answers: &[Answer],
+) -> Result<(), Fail> {
     let wanted = acknowledgement(alloc, answers)?;
     let mut reader = Feed::new(input, 4096, None);
     let mut sink = Room::new(alloc, wanted.len(), true)?;
@@ -20,12 +28,12 @@ fn expect(rt: &impl Abort, alloc: Global, input: &[u8], answers: &[Answer]) -> R
     };
     assert_eq!(rt; transactions as usize, answers.len());
     assert_eq!(rt; sink.bytes(), wanted.as_slice());
-    Ok(())
+    expect_served(rt, alloc, input, outcome, &wanted)
 }
 
 /// A file of one new work W1, which must be accepted as work 1, or rejected for these faults.
-fn expect_one(
-    rt: &impl Abort,
+fn expect_one<T: Threads + Wait + Sync + Abort>(
+    rt: &T,
     alloc: Global,
     lines: &[String],
     faults: &[Told],

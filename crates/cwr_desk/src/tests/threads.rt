@@ -101,6 +101,24 @@ fn serve_one<'a, T: Threads + Wait + Sync, G: Gate + Sync>(
     )
 }
 
+/// Works one file at the desk, at an empty book: how its job must end, and what must be written.
+pub(crate) fn expect_served<T: Threads + Wait + Sync + Abort>(
+    rt: &T,
+    alloc: Global,
+    input: &[u8],
+    end: FileOutcome,
+    written: &[u8],
+) -> Result<(), Fail> {
+    let run = serve_one(rt, alloc, input, &OpenGate)?;
+    let ends = [end];
+    assert_eq!(rt; run.outcomes.as_slice(), ends.as_slice());
+    let [only] = run.jobs.as_slice() else {
+        return Err(Fail::from("not one job"));
+    };
+    assert_eq!(rt; only.writer.bytes(), written);
+    Ok(())
+}
+
 #[test]
 fn two_workers_meet_at_the_gate(rt: HostRuntime) -> Result<(), Fail> {
     let alloc = rt.alloc();

@@ -1,5 +1,5 @@
 //! Jobs in turn at one book.
-ghost use Rattle.std.specs.Prelude.{◌≡◌, false, IfOk};
+ghost use Rattle.std.specs.Prelude.{◌≡◌, ◌≤◌, All, IfOk, false, length, vec_len};
 
 use super::sheets::{
     ALL, OTHER_SENDER, SENDER, acknowledgement, decision, file, one_work, plain_file, stamp, work,
@@ -26,6 +26,22 @@ pub(crate) fn job<'a>(
         reader: Feed::new(bytes, 4096, fail),
         writer: Room::new(alloc, size, true)?,
     })
+}
+
+/// A job for each of these files, each with the read that fails, if one does, and the room of its writer.
+pub(crate) fn jobs_of<'a>(
+    alloc: Global,
+    inputs: &[(&'a [u8], Option<u64>, usize)],
+) -> Result<Vec<MemoryJob<'a>>, Fail>
+    ensures few { IfOk result (λ jobs. vec_len jobs ≤ length inputs.now) }
+    ensures works { IfOk result (λ jobs. All (λ j. (j.reader.has_failed ≡ false) × (j.writer.has_failed ≡ false)) jobs.items) }
+{
+    let mut jobs = Vec::new(alloc);
+    for input in inputs {
+        let (bytes, fail, size) = *input;
+        jobs.push(job(alloc, bytes, fail, size)?)?;
+    }
+    Ok(jobs)
 }
 
 /// The book holds these replies of these sessions, in order.
@@ -77,7 +93,7 @@ fn run_two<'a>(
 }
 
 /// The file of one work, with a wrong count of records in its group.
-fn miscounted(alloc: Global) -> Result<Vec<u8>, Fail> {
+pub(crate) fn miscounted(alloc: Global) -> Result<Vec<u8>, Fail> {
     let mut text = format!(in alloc;
         "HDRPB000000123PUBLISHER A{:34}01.102024050112000020240501\r\nGRHNWR0000102.200000000001\r\n",
         ""
@@ -109,10 +125,12 @@ fn a_refused_file_and_another_one(rt: HostRuntime) -> Result<(), Fail> {
 
 /// Works one file three times in turn: with a read that fails, with room for 100 bytes, and with room for all.
 fn run_three<'a>(alloc: Global, input: &'a [u8]) -> Result<Run<Feed<'a>, Room>, Fail> {
-    let mut jobs = Vec::new(alloc);
-    jobs.push(job(alloc, input, Some(1), 1000)?)?;
-    jobs.push(job(alloc, input, None, 100)?)?;
-    jobs.push(job(alloc, input, None, 425)?)?;
+    let inputs = [
+        (input, Some(1), 1000),
+        (input, None, 100),
+        (input, None, 425),
+    ];
+    let jobs = jobs_of(alloc, &inputs)?;
     Ok(
         serve_in_turn(alloc, jobs, Book::new(alloc, 100), &stamp()?)
             .ok()
@@ -230,13 +248,15 @@ fn run_six<'a>(
     fifth: &'a [u8],
     sixth: &'a [u8],
 ) -> Result<Run<Feed<'a>, Room>, Fail> {
-    let mut jobs = Vec::new(alloc);
-    jobs.push(job(alloc, first, None, 1000)?)?;
-    jobs.push(job(alloc, second, None, 1000)?)?;
-    jobs.push(job(alloc, third, None, 1000)?)?;
-    jobs.push(job(alloc, second, None, 1000)?)?;
-    jobs.push(job(alloc, fifth, None, 1000)?)?;
-    jobs.push(job(alloc, sixth, None, 1000)?)?;
+    let inputs = [
+        (first, None, 1000),
+        (second, None, 1000),
+        (third, None, 1000),
+        (second, None, 1000),
+        (fifth, None, 1000),
+        (sixth, None, 1000),
+    ];
+    let jobs = jobs_of(alloc, &inputs)?;
     Ok(
         serve_in_turn(alloc, jobs, Book::new(alloc, 100), &stamp()?)
             .ok()

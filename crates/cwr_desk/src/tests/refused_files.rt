@@ -1,0 +1,143 @@
+//! Files with a fault: none of their transactions is decided, and no byte is written.
+use super::checks;
+use super::sheets::{ALL, SENDER, file, stamp, work, writer};
+use super::threads::expect_served;
+use crate::{FileOutcome, acknowledge};
+use cwr_file::{Feed, Room};
+use std::alloc::Global;
+use std::process::Abort;
+use std::sync::Wait;
+use std::test::Fail;
+use std::thread::Threads;
+
+const GROUP: &str = "GRHNWR0000102.200000000001";
+
+const GROUP_END: &str = "GRT000010000000100000004";
+
+const END: &str = "TRL000010000000100000006";
+
+/// A file that must be refused for this fault at this line, alone and at the desk.
+fn expect_fault<T: Threads + Wait + Sync + Abort>(
+    rt: &T,
+    alloc: Global,
+    input: &[u8],
+    number: u8,
+    line: u64,
+) -> Result<(), Fail> {
+    let mut reader = Feed::new(input, 4096, None);
+    let mut sink = Room::new(alloc, 1000, true)?;
+    let outcome = acknowledge(alloc, &mut reader, &mut sink, &stamp()?);
+    assert_eq!(rt; outcome, FileOutcome::Refused { number, line });
+    assert_eq!(rt; sink.bytes(), b"".as_slice());
+    expect_served(rt, alloc, input, outcome, b"")
+}
+
+#[test]
+fn an_empty_file(rt: HostRuntime) -> Result<(), Fail> {
+    expect_fault(&rt, rt.alloc(), b"", 1, 1)
+}
+
+/// A file with these lines after its HDR, which must be refused for this fault at this line.
+fn expect_lines<T: Threads + Wait + Sync + Abort>(
+    rt: &T,
+    alloc: Global,
+    lines: &[&str],
+    number: u8,
+    line: u64,
+) -> Result<(), Fail> {
+    let input = checks::file(alloc, lines)?;
+    expect_fault(rt, alloc, &input, number, line)
+}
+
+#[test]
+fn a_wrong_header(rt: HostRuntime) -> Result<(), Fail> {
+    let alloc = rt.alloc();
+    let head = work(alloc, "NWR", 0, "W1", "")?;
+    let detail = writer(alloc, "SWR", 0, 1, ALL)?;
+    let again = work(alloc, "NWR", 0, "W2", "")?;
+    let wrong_end = "GRT000010000000900000009";
+    expect_lines(
+        &rt,
+        alloc,
+        &[GROUP, &head, &detail, &again, wrong_end, END],
+        8,
+        5,
+    )?;
+    let agreement = work(alloc, "AGR", 0, "W1", "")?;
+    expect_lines(
+        &rt,
+        alloc,
+        &[GROUP, &agreement, &detail, GROUP_END, END],
+        6,
+        3,
+    )
+}
+
+#[test]
+fn a_wrong_group(rt: HostRuntime) -> Result<(), Fail> {
+    let alloc = rt.alloc();
+    let head = work(alloc, "NWR", 0, "W1", "")?;
+    let detail = writer(alloc, "SWR", 0, 1, ALL)?;
+    expect_lines(
+        &rt,
+        alloc,
+        &["GRHAGR0000102.20", &head, &detail, GROUP_END, END],
+        5,
+        2,
+    )?;
+    let miscounted = "GRT000010000000100000002";
+    expect_lines(&rt, alloc, &[GROUP, &head, &detail, miscounted, END], 9, 5)
+}
+
+#[test]
+fn a_wrong_end(rt: HostRuntime) -> Result<(), Fail> {
+    let alloc = rt.alloc();
+    let head = work(alloc, "NWR", 0, "W1", "")?;
+    let detail = writer(alloc, "SWR", 0, 1, ALL)?;
+    expect_lines(&rt, alloc, &[GROUP, &head, &detail, GROUP_END], 11, 6)?;
+    expect_lines(
+        &rt,
+        alloc,
+        &[GROUP, &head, &detail, GROUP_END, END, "X"],
+        11,
+        7,
+    )
+}
+
+#[test]
+fn a_day_that_no_month_has(rt: HostRuntime) -> Result<(), Fail> {
+    let alloc = rt.alloc();
+    let head = work(alloc, "NWR", 0, "W1", "")?;
+    let detail = writer(alloc, "SWR", 0, 1, ALL)?;
+    let input = format!(in alloc;
+        "HDRPB000000123PUBLISHER A{:34}01.102024023012000020240501\r\n{GROUP}\r\n{head}\r\n{detail}\r\n{GROUP_END}\r\n{END}\r\n",
+        ""
+    )?;
+    expect_fault(&rt, alloc, input.as_bytes(), 3, 1)
+}
+
+/// A file of one work whose carried record, on line 8, has so many blanks and this text at its end.
+fn carried_file(alloc: Global, blanks: usize, end: &str) -> Result<Vec<u8>, Fail> {
+    let lines = [
+        work(alloc, "NWR", 0, "W1", "")?,
+        writer(alloc, "SWR", 0, 1, ALL)?,
+        String::from_str(alloc, "NWN0000000000000002")?,
+        String::from_str(alloc, "SWT0000000000000003000000001050000500005000I2136")?,
+        String::from_str(alloc, "ALT0000000000000004OTHER NAME")?,
+        format!(in alloc; "PER0000000000000005X{:blanks$}{end}", "")?,
+        String::from_str(alloc, "REC0000000000000006")?,
+        String::from_str(alloc, "ORN0000000000000007LIB")?,
+        String::from_str(alloc, "XRF0000000000000008")?,
+    ];
+    file(alloc, SENDER, "NWR", 1, &lines)
+}
+
+#[test]
+fn a_carried_line(rt: HostRuntime) -> Result<(), Fail> {
+    let alloc = rt.alloc();
+    for (blanks, end, number) in [(4077, "", 12), (0, "\t", 2)] {
+        let input = carried_file(alloc, blanks, end)?;
+        expect_fault(&rt, alloc, &input, number, 8)?;
+    }
+    Ok(())
+}
