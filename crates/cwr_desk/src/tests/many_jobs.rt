@@ -2,7 +2,7 @@
 ghost use Rattle.std.specs.Prelude.{◌≡◌, ◌≤◌, All, IfOk, false, length, vec_len};
 
 use super::sheets::{ALL, acknowledgement, decision, file, plain_file, stamp, work, writer};
-use super::turns::{ACKED, MemoryJob, accepted, expect_history, job, miscounted};
+use super::turns::{self, ACKED, MemoryJob, accepted, expect_history, job, miscounted};
 use crate::{Book, Entry, FileOutcome, OpenGate, Run, Why, serve};
 use cwr_file::{Feed, Room};
 use std::alloc::Global;
@@ -96,10 +96,12 @@ fn serve_three<'a, T: Threads + Wait + Sync>(
     second: &'a [u8],
     third: &'a [u8],
 ) -> Result<Run<Feed<'a>, Room>, Fail> {
-    let mut jobs = Vec::new(alloc);
-    jobs.push(job(alloc, first, None, 425)?)?;
-    jobs.push(job(alloc, second, Some(1), 425)?)?;
-    jobs.push(job(alloc, third, None, 425)?)?;
+    let inputs = [
+        (first, None, 425),
+        (second, Some(1), 425),
+        (third, None, 425),
+    ];
+    let jobs = turns::jobs_of(alloc, &inputs)?;
     Ok(
         serve(rt, alloc, jobs, Book::new(alloc, 100), &stamp()?, &OpenGate)
             .ok()
