@@ -11,18 +11,18 @@ use Rattle.cwr_record.specs.declared.control.Header.{Header}
 use Rattle.cwr_file.specs.AckItem.{Item, told_faults, is_rejected}
 use Rattle.cwr_file.specs.Acknowledgement.{ack_text, told_count}
 use Rattle.cwr_file.specs.File.{File, IsFile}
-use Rattle.cwr_file.specs.RawParts.{RawParts}
-use Rattle.cwr_file.specs.Submitted.{IsSubmission}
+use Rattle.cwr_file.specs.RawParts.{RawParts, IsPlaced, lines_in}
+use Rattle.cwr_file.specs.Submitted.{IsSubmission, IsBounded}
 use Rattle.cwr_file.specs.declared.transaction_fault.Fault.{Fault}
 use Rattle.cwr_rules.specs.CallValue.{CallValue}
 use Rattle.cwr_rules.specs.Calls.{call_of}
-use Rattle.cwr_rules.specs.Lawful.{is_clean}
 use Rattle.work_registry.specs.EntryValue.{EntryValue}
 use Rattle.work_registry.specs.Replay.{calls_of}
+use Rattle.work_registry.specs.Told.{status_in}
 use Rattle.cwr_desk.specs.Account.{most, Signs, Account, IsAccount, IsRead, Gives}
 use Rattle.cwr_desk.specs.Causes.{cause_of, IsCause}
 use Rattle.cwr_desk.specs.Handing.{AreAnswered, IsWorked}
-use Rattle.cwr_desk.specs.Items.{IsPlaced, item_of, items_of, calls_in, status_of}
+use Rattle.cwr_desk.specs.Items.{item_of, items_of, calls_in}
 use Rattle.cwr_desk.specs.declared.reading.ReadRefused.{ReadRefused}
 use Rattle.cwr_desk.specs.declared.reading.ReadRefused.TheVariants as unread
 use Rattle.cwr_desk.specs.declared.outcome.FileOutcome.{FileOutcome}
@@ -30,8 +30,7 @@ use Rattle.cwr_desk.specs.declared.outcome.FileOutcome.TheVariants.{Acked, Refus
 use Rattle.cwr_desk.specs.declared.outcome.Why.{Why}
 use Rattle.cwr_desk.specs.declared.outcome.Why.TheVariants.{Memory, Full, Read, TooLong, Gate, Write}
 use Rattle.cwr_desk.proofs.Answering.{Follows-none}
-use Rattle.cwr_desk.proofs.CallSizes.{few_faults, clean_sender}
-use Rattle.cwr_desk.proofs.FileSizes.{lines_in, few_lines, all_small}
+use Rattle.cwr_desk.proofs.CallSizes.{few_faults}
 
 -- ---- what was read
 
@@ -40,25 +39,20 @@ pub read_whole : (input : List ℕ) (file : File) (head : Header) (ts : List Raw
 read_whole input file head ts groups records fits formed submission =
     record { fits = fits; file = file; formed = formed; header = submission.header; found = submission.transactions }
 
-pub clean : (input : List ℕ) (head : Header) (ts : List RawParts) → IsRead input head ts → IsTrue (is_clean head.sender)
-clean input head ts read = clean_sender input read.file head read.formed read.header
+-- fewer bytes than the most
+pub within : (size : ℕ) (head : Header) (ts : List RawParts) → size ≤ most → IsBounded size head ts → IsBounded most head ts
+within size head ts fits bounds =
+    record { placed = bounds.placed; few = let few = bounds.few in omega (arith, few, fits); printable = bounds.printable }
 
-pub placed : (input : List ℕ) (head : Header) (ts : List RawParts) → IsRead input head ts → AllByRecursion IsPlaced ts
-placed input head ts read = subst (AllByRecursion IsPlaced) (sym read.found) (all_small 1 read.file.groups read.formed.groups)
-
-few_in_all : (input : List ℕ) (head : Header) (ts : List RawParts) → IsRead input head ts → lines_in ts ≤ 8388608
-few_in_all input head ts read =
-    let few = few_lines input read.file read.formed in
-    let same = ap lines_in read.found in
-    let fits : length input ≤ 16777216 = read.fits in
-    omega (arith, few, same, fits)
+few_in_all : (head : Header) (ts : List RawParts) → IsBounded most head ts → lines_in ts ≤ 8388608
+few_in_all head ts bounds = let few : 2 * lines_in ts ≤ 16777216 = bounds.few in omega (arith, few)
 
 each_has_lines : (ts : List RawParts) → AllByRecursion IsPlaced ts → length ts ≤ lines_in ts
 each_has_lines [] all = omega arith
 each_has_lines (t ∷ ts) all = let h = each_has_lines ts all.1 in let some = all.0.some in omega (arith, h, some)
 
-pub few_transactions : (input : List ℕ) (head : Header) (ts : List RawParts) → IsRead input head ts → length ts ≤ 8388608
-few_transactions input head ts read = let a = few_in_all input head ts read in let b = each_has_lines ts (placed input head ts read) in omega (arith, a, b)
+pub few_transactions : (head : Header) (ts : List RawParts) → IsBounded most head ts → length ts ≤ 8388608
+few_transactions head ts bounds = let a = few_in_all head ts bounds in let b = each_has_lines ts bounds.placed in omega (arith, a, b)
 
 items_few : (ts : List RawParts) (made : List EntryValue) → length (items_of ts made) ≤ length ts
 items_few [] made = omega arith
@@ -84,18 +78,18 @@ told_in submitter (t ∷ ts) (e ∷ made) all is =
     let rest = told_in submitter ts made all.1 others in
     let sum : told_count (item_of t e ∷ items_of ts made) ≡ length (told_faults (item_of t e)) + told_count (items_of ts made) =
     sum_by-cons (λ (item : Item). length (told_faults item)) (item_of t e) (items_of ts made) in
-    let here : length (told_faults (item_of t e)) ≤ length e.call.faults = told_few (is_rejected (status_of e.reply)) e.call.faults in
+    let here : length (told_faults (item_of t e)) ≤ length e.call.faults = told_few (is_rejected (status_in e.reply)) e.call.faults in
     let same : length e.call.faults ≡ length (call_of submitter t).faults = ap (λ (c : CallValue). length c.faults) own in
     let few = few_faults submitter t all.0.some in
     let some = all.0.some in
     omega (arith, rest, sum, here, same, few, some)
 
 -- the acknowledgement of what was handed in has eight digits for its records
-pub few_told : (session : ℕ) (input : List ℕ) (head : Header) (ts : List RawParts) (list list' : List EntryValue) (whole whole' : Option (List EntryValue)) (items : List Item)
-    → IsRead input head ts → AreAnswered session head.sender ts list list' whole whole' items → length items + told_count items ≤ 99999995
-few_told session input head ts list list' whole whole' items read so_far =
-    let few = told_in head.sender ts so_far.made (placed input head ts read) so_far.calls in
-    let all = few_in_all input head ts read in
+pub few_told : (session : ℕ) (head : Header) (ts : List RawParts) (list list' : List EntryValue) (whole whole' : Option (List EntryValue)) (items : List Item)
+    → IsBounded most head ts → AreAnswered session head.sender ts list list' whole whole' items → length items + told_count items ≤ 99999995
+few_told session head ts list list' whole whole' items bounds so_far =
+    let few = told_in head.sender ts so_far.made bounds.placed so_far.calls in
+    let all = few_in_all head ts bounds in
     subst (λ (l : List Item). length l + told_count l ≤ 99999995) (sym so_far.told) (omega (arith, few, all))
 
 -- ---- what is known of the ends

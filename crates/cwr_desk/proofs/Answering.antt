@@ -8,7 +8,7 @@ use Rattle.std.proofs.lemmas.Bool.Decides.{nat_tests}
 use Rattle.cwr_record.specs.declared.works.WorkKind.{WorkKind}
 use Rattle.cwr_file.specs.AckItem.{Item, is_rejected}
 use Rattle.cwr_file.specs.Acknowledgement.{FitsItem, FitsFault}
-use Rattle.cwr_file.specs.RawParts.{RawParts}
+use Rattle.cwr_file.specs.RawParts.{RawParts, IsPlaced}
 use Rattle.cwr_file.specs.declared.ack_item.Status.{Status}
 use Rattle.cwr_file.specs.declared.transaction_fault.Fault.{Fault}
 use Rattle.cwr_rules.specs.CallValue.{CallValue}
@@ -17,9 +17,10 @@ use Rattle.cwr_rules.specs.Lawful.{are_faults, is_fault, rises}
 use Rattle.work_registry.specs.EntryValue.{EntryValue}
 use Rattle.work_registry.specs.Numbers.{IsNumbered}
 use Rattle.work_registry.specs.Replay.{calls_of, replay, entry_for}
+use Rattle.work_registry.specs.Told.{status_in, work_in}
 use Rattle.work_registry.specs.declared.reply.Reply.{Reply}
 use Rattle.work_registry.specs.declared.reply.Reply.TheVariants.{Accepted, Duplicate, Conflict, Rejected}
-use Rattle.cwr_desk.specs.Items.{item_of, items_of, calls_in, status_of, work_in, IsPlaced}
+use Rattle.cwr_desk.specs.Items.{item_of, items_of, calls_in}
 use Rattle.cwr_desk.specs.Handing.{entry_with, Follows, IsAnswered, AreAnswered}
 
 -- ---- an item fits its line
@@ -66,7 +67,7 @@ item_fits t e placed numbered lawful =
       group = placed.group;
       sequence = placed.sequence;
       work = work_fits e.reply numbered;
-      faults = told_fit (is_rejected (status_of e.reply)) e.call.faults (faults_fit e.call.faults all);
+      faults = told_fit (is_rejected (status_in e.reply)) e.call.faults (faults_fit e.call.faults all);
     }
 
 -- ---- one transaction
@@ -75,7 +76,7 @@ item_fits t e placed numbered lawful =
 pub answered : (s : ℕ) (submitter : List ℕ) (t : RawParts) (call : CallValue) (r : Reply) (list list' : List EntryValue) (whole whole' : Option (List EntryValue))
     (group sequence : ℕ) (kind : WorkKind) (title number : List ℕ) (status : Status) (work : Option ℕ) (faults : List Fault)
     → call ≡ call_of submitter t → list' ≡ list ++ entry_with s call r ∷ [] → Follows s whole whole' (entry_with s call r ∷ [])
-    → group ≡ t.group → sequence ≡ t.sequence → kind ≡ call.kind → title ≡ call.title → number ≡ call.number → status ≡ status_of r → work ≡ work_in r
+    → group ≡ t.group → sequence ≡ t.sequence → kind ≡ call.kind → title ≡ call.title → number ≡ call.number → status ≡ status_in r → work ≡ work_in r
     → faults ≡ call.faults → IsPlaced t → IsNumbered r → IsTrue (are_faults call.faults)
     → IsAnswered s submitter t list list' whole whole' (record { group = group; sequence = sequence; kind = kind; title = title; number = number; status = status; work = work; faults = faults })
 answered s submitter t call r list list' whole whole' group sequence kind title number status work faults is grown follows a b c d e f g h placed numbered lawful =

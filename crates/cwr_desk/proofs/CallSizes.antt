@@ -1,19 +1,10 @@
--- How many faults the call of a transaction can have, and that its submitter's name has no control character.
+-- How many faults the call of a transaction can have.
 use Rattle.std.proofs.Common.{◌≡◌, ℕ, zero, suc, ◌+◌, ◌*◌, ◌<◌, ◌≤◌, Bool, true, false, List, [], ◌∷◌, ◌++◌, length, take, drop, IsTrue, arith, refl, length-append}
-use Rattle.std.specs.Prelude.{nat_le, replicate}
-use Rattle.std.proofs.lemmas.Bool.Decides.{nat_tests}
-use Rattle.std.specs.Str.Lines.{lines}
-use Rattle.cwr_record.specs.Control as table
-use Rattle.cwr_record.specs.Layout.{StandsFor}
-use Rattle.cwr_record.specs.declared.control.Header.{Header}
 use Rattle.cwr_record.specs.declared.works.WorkKind.{WorkKind}
 use Rattle.cwr_record.specs.Kinds.{work_kind_code}
-use Rattle.cwr_file.specs.File.{File, IsFile}
 use Rattle.cwr_file.specs.RawParts.{RawParts}
-use Rattle.cwr_file.specs.Rows.{has_control}
 use Rattle.cwr_rules.specs.Calls.{call_of, call_in}
 use Rattle.cwr_rules.specs.Faults.{found, all_found, faults_after, head_rules, record_rules}
-use Rattle.cwr_rules.specs.Lawful.{is_clean}
 use Rattle.cwr_rules.specs.Records.{record_of, records_of}
 use Rattle.cwr_rules.specs.Rules.{publishers, name_of}
 
@@ -49,40 +40,3 @@ faults_few submitter kind (head ∷ ls) some =
 -- at most nine faults a line
 pub few_faults : (submitter : List ℕ) (t : RawParts) → 0 < length t.lines → length (call_of submitter t).faults ≤ 9 * length t.lines
 few_faults submitter t some = faults_few submitter t.kind t.lines some
-
--- ---- the submitter's name
-
-take_clean : (n : ℕ) (xs : List ℕ) → is_clean xs ≡ true → is_clean (take n xs) ≡ true
-take_clean zero xs h = refl
-take_clean (suc n) [] h = refl
-take_clean (suc n) (x ∷ xs) h = clean_more x (take n xs) (clean_first x xs h) (take_clean n xs (clean_rest x xs h)) where
-  clean_first : (x : ℕ) (xs : List ℕ) → is_clean (x ∷ xs) ≡ true → nat_le 32 x ≡ true
-  clean_first x xs h = grind (arith, nat_tests)
-
-  clean_rest : (x : ℕ) (xs : List ℕ) → is_clean (x ∷ xs) ≡ true → is_clean xs ≡ true
-  clean_rest x xs h = grind (arith, nat_tests)
-
-  clean_more : (x : ℕ) (xs : List ℕ) → nat_le 32 x ≡ true → is_clean xs ≡ true → is_clean (x ∷ xs) ≡ true
-  clean_more x xs a b = rw (a, b) refl
-
-drop_clean : (n : ℕ) (xs : List ℕ) → has_control xs ≡ false → has_control (drop n xs) ≡ false
-drop_clean zero xs h = h
-drop_clean (suc n) [] h = refl
-drop_clean (suc n) (x ∷ xs) h = let r : has_control xs ≡ false = grind (arith, nat_tests) in drop_clean n xs r
-
-blanks_clean : (n : ℕ) → is_clean (replicate n 32) ≡ true
-blanks_clean zero = refl
-blanks_clean (suc n) = blanks_clean n
-
-then_blanks : (xs : List ℕ) (n : ℕ) → has_control xs ≡ false → is_clean (xs ++ replicate n 32) ≡ true
-then_blanks [] n h = blanks_clean n
-then_blanks (x ∷ xs) n h =
-    let a : nat_le 32 x ≡ true = grind (arith, nat_tests) in
-    let b : has_control xs ≡ false = grind (arith, nat_tests) in
-    let c = then_blanks xs n b in
-    rw (a, c) refl
-
--- no byte of the sender's name is below 32
-pub clean_sender : (input : List ℕ) (file : File) (head : Header) → IsFile (lines input) file → StandsFor table.header file.header head → IsTrue (is_clean head.sender)
-clean_sender input file head formed stands =
-    rw stands.1.0 (take_clean 11 (drop 3 file.header ++ replicate 11 32) (then_blanks (drop 3 file.header) 11 (drop_clean 3 file.header formed.plain.0.0)))

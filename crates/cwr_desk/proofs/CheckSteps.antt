@@ -31,20 +31,18 @@ fault_more faults i d out new total lt wrote so_far =
     (ap (λ (fs : List Fault). out ++ flat_map fault_text fs) (sym (drop_more faults i d lt)) ∙ so_far)
 
 -- group id, transaction sequence and kind, a blank after each
-pub place_written : (t : RawParts) (group sequence kind out a b c d e f : List ℕ) → group ≡ number_text 5 t.group
-    → sequence ≡ number_text 8 t.sequence → kind ≡ work_kind_code t.kind → a ≡ out ++ group → b ≡ a ++ codes " "
-    → c ≡ b ++ sequence → d ≡ c ++ codes " " → e ≡ d ++ kind → f ≡ e ++ codes " " → f ≡ out ++ place_text t
+pub place_written : (t : RawParts) (out a b c d e f : List ℕ) → a ≡ out ++ number_text 5 t.group → b ≡ a ++ codes " "
+    → c ≡ b ++ number_text 8 t.sequence → d ≡ c ++ codes " " → e ≡ d ++ work_kind_code t.kind → f ≡ e ++ codes " " → f ≡ out ++ place_text t
 unfolding place_text
-place_written t group sequence kind out a b c d e f g s k p q r u v w =
+place_written t out a b c d e f p q r u v w =
     let x = number_text 5 t.group in
     let y = number_text 8 t.sequence in
     let z = work_kind_code t.kind in
     let blank = codes " " in
-    let A = p ∙ ap (λ (l : List ℕ). out ++ l) g in
-    let B = then out a b x blank A q in
-    let C = then out b c (x ++ blank) y B (r ∙ ap (λ (l : List ℕ). b ++ l) s) in
+    let B = then out a b x blank p q in
+    let C = then out b c (x ++ blank) y B r in
     let D = then out c d (x ++ blank ++ y) blank C u in
-    let E = then out d e (x ++ blank ++ y ++ blank) z D (v ∙ ap (λ (l : List ℕ). d ++ l) k) in
+    let E = then out d e (x ++ blank ++ y ++ blank) z D v in
     then out e f (x ++ blank ++ y ++ blank ++ z) blank E w
 
 pub total_written : (all faulty : ℕ) (out a b c d : List ℕ) → a ≡ out ++ decimal all → b ≡ a ++ codes " transactions, "

@@ -1,9 +1,7 @@
-pub mod FileSizes
 pub mod CallSizes
 pub mod Answering
 pub mod Accounts
 pub mod CheckSteps
-pub mod ParsedFiles
 pub mod FileWords
 pub mod Turns
 pub mod Runs

@@ -1,14 +1,12 @@
 ghost use Rattle.std.specs.Prelude.{◌≡◌, ◌==◌, ◌++◌, IsTrue, IfOk, OnOk};
-ghost use Rattle.std.specs.List.{flat_map};
+ghost use Rattle.std.specs.List.{flat_map, AllByRecursion};
 ghost use Rattle.std.specs.Fmt.{decimal};
-ghost use Rattle.cwr_field.specs.Number.{number_text};
-ghost use Rattle.cwr_record.specs.Kinds.{work_kind_code};
+ghost use Rattle.cwr_file.specs.RawParts.{IsPlaced};
 ghost use Rattle.cwr_rules.specs.Lawful.{is_clean};
 ghost use Rattle.cwr_desk.specs.CheckText.{fault_text, verdict_text, place_text, transaction_line, has_faults, faulty_count, total_line, check_lines};
 
-use cwr_field::Memory;
+use cwr_field::{Memory, put_digits};
 use cwr_file::{Fault, RawTransaction, Transactions};
-use cwr_record::WorkKind;
 use cwr_rules::judge;
 use itoa::Buffer;
 use std::alloc::Allocator;
@@ -20,7 +18,8 @@ pub(crate) fn put_check<A: Allocator + Copy>(
     submitter: [u8; 11],
     transactions: &Transactions<A>,
 ) -> Result<bool, Memory>
-    requires { IsTrue (is_clean submitter) }
+    requires clean { IsTrue (is_clean submitter) }
+    requires placed { AllByRecursion IsPlaced transactions.now }
     ensures lines { OnOk result (out.new.items ≡ out.old.items ++ check_lines submitter transactions.now) }
     ensures clean_is { IfOk result (λ clean. clean ≡ (faulty_count submitter transactions.now == 0)) }
 {
@@ -42,7 +41,8 @@ fn put_transaction<A: Allocator + Copy>(
     submitter: [u8; 11],
     transaction: &RawTransaction,
 ) -> Result<bool, Memory>
-    requires { IsTrue (is_clean submitter) }
+    requires clean { IsTrue (is_clean submitter) }
+    requires placed { IsPlaced transaction.now }
     ensures line { OnOk result (out.new.items ≡ out.old.items ++ transaction_line submitter transaction.now) }
     ensures faulty { IfOk result (λ faulty. faulty ≡ has_faults submitter transaction.now) }
 {
@@ -55,38 +55,16 @@ fn put_transaction<A: Allocator + Copy>(
 
 /// Appends where a transaction stands in its file, and its kind.
 fn put_place<A: Allocator>(out: &mut Vec<u8, A>, transaction: &RawTransaction) -> Result<(), Memory>
+    requires { IsPlaced transaction.now }
     ensures { OnOk result (out.new.items ≡ out.old.items ++ place_text transaction.now) }
 {
-    out.extend_from_slice(&last_digits::<5>(transaction.group()))?;
+    put_digits(out, transaction.group() as u64, 5)?;
     out.extend_from_slice(b" ")?;
-    out.extend_from_slice(&last_digits::<8>(transaction.sequence()))?;
+    put_digits(out, transaction.sequence() as u64, 8)?;
     out.extend_from_slice(b" ")?;
-    out.extend_from_slice(kind_text(transaction.kind()))?;
+    out.extend_from_slice(transaction.kind().code())?;
     out.extend_from_slice(b" ")?;
     Ok(())
-}
-
-/// The last digits of a number, as many as the text is wide, with leading zeros.
-fn last_digits<const N: usize>(number: u32) -> [u8; N]
-    ensures { result ≡ number_text N number }
-{
-    let mut digits = [b'0'; N];
-    let mut rest = number;
-    for index in (0..N).rev() {
-        digits[index] = b'0' + (rest % 10) as u8;
-        rest /= 10;
-    }
-    digits
-}
-
-/// The record type that names a kind.
-fn kind_text(kind: WorkKind) -> &'static [u8]
-    ensures { result.now ≡ work_kind_code kind }
-{
-    match kind {
-        WorkKind::Nwr => b"NWR",
-        WorkKind::Rev => b"REV",
-    }
 }
 
 fn put_verdict<A: Allocator>(out: &mut Vec<u8, A>, faults: &[Fault]) -> Result<(), Memory>

@@ -1,8 +1,8 @@
-ghost use Rattle.std.specs.Prelude.{◌≡◌, IfOk};
+ghost use Rattle.std.specs.Prelude.{◌≡◌, IfOk, length};
 ghost use Rattle.std.specs.Str.Lines.{lines};
 ghost use Rattle.cwr_file.specs.Faults.{IsLeastFault};
 ghost use Rattle.cwr_file.specs.File.{File, IsFile};
-ghost use Rattle.cwr_file.specs.Submitted.{IsSubmission};
+ghost use Rattle.cwr_file.specs.Submitted.{IsSubmission, IsBounded};
 ghost use Rattle.cwr_desk.specs.CheckText.{IsCheck, IsCheckOfFile, IsCheckOfFault};
 
 use crate::check_lines::put_check;
@@ -43,7 +43,8 @@ fn check_of_file<A: Allocator + Copy>(
     bytes: &[u8],
     file: &Submission<A>,
 ) -> Result<Checked<A>, Memory>
-    requires { (f : File) × IsFile (lines bytes.now) f × IsSubmission f file.now.header file.now.transactions file.now.groups file.now.records }
+    requires file { (f : File) × IsFile (lines bytes.now) f × IsSubmission f file.now.header file.now.transactions file.now.groups file.now.records }
+    requires bounds { IsBounded (length bytes.now) file.now.header file.now.transactions }
     ensures { IfOk result (λ checked. IsCheckOfFile (lines bytes.now) checked.text.items checked.clean) }
 {
     let mut text = Vec::new(alloc);

@@ -1,17 +1,17 @@
 //! One transaction of a file: judged, handed in, and told.
 ghost use Rattle.std.specs.Prelude.{◌≡◌, ◌<◌, ◌≤◌, ◌+◌, IfOk, IfErr, OnErr, IsTrue};
+ghost use Rattle.cwr_file.specs.RawParts.{IsPlaced};
 ghost use Rattle.cwr_rules.specs.Lawful.{is_clean};
 ghost use Rattle.cwr_desk.specs.Causes.{IsCause, refusal_of};
 ghost use Rattle.cwr_desk.specs.Handing.{IsAnswered};
-ghost use Rattle.cwr_desk.specs.Items.{IsPlaced, status_of, work_in};
 
 use crate::gates::Gate;
 use crate::outcome::Why;
 use crate::window::Window;
-use cwr_file::{AckItem, Fault, Faults, RawTransaction, Status};
+use cwr_file::{AckItem, Fault, Faults, RawTransaction};
 use cwr_rules::judge;
 use std::alloc::{AllocError, Allocator};
-use work_registry::{Call, Reply, WhyRefused};
+use work_registry::{Call, WhyRefused};
 
 /// Who works, and the transaction in hand.
 #[derive(Clone, Copy)]
@@ -66,8 +66,8 @@ pub(crate) fn decide<H: Window<Call<A>>, G: Gate, A: Allocator + Copy + Drop>(
                 kind,
                 title,
                 number,
-                status: status(reply),
-                work: work(reply),
+                status: reply.status(),
+                work: reply.work(),
                 faults,
             };
             (window, Ok(item))
@@ -81,33 +81,6 @@ fn copied<A: Allocator>(alloc: A, faults: &[Fault]) -> Result<Faults<A>, AllocEr
     ensures { IfOk result (λ f. f ≡ faults.now) }
 {
     Ok(Faults::new(Vec::from_slice(alloc, faults)?))
-}
-
-/// The transaction status that tells a reply.
-fn status(reply: Reply) -> Status
-    ensures { result ≡ status_of reply }
-{
-    match reply {
-        Reply::Accepted {
-            work: _,
-            version: _,
-        } => Status::Accepted,
-        Reply::Duplicate { work: _ } => Status::Duplicate,
-        Reply::Conflict { work: _ } => Status::Conflict,
-        Reply::Rejected => Status::Rejected,
-    }
-}
-
-/// The work that a reply names.
-fn work(reply: Reply) -> Option<u32>
-    ensures { result ≡ work_in reply }
-{
-    match reply {
-        Reply::Accepted { work, version: _ }
-        | Reply::Duplicate { work }
-        | Reply::Conflict { work } => Some(work),
-        Reply::Rejected => None,
-    }
 }
 
 /// Why a job stops whose call was refused.

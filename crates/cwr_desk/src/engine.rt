@@ -1,12 +1,13 @@
 //! One job, at a window.
 ghost use Rattle.std.specs.Prelude.{◌≡◌, ◌<◌, ◌≤◌, ◌^◌, ℕ, Bool, List, [], Option, false, length, vec_capacity, IsTrue, IfSome, OnOk, OnErr, IfErr};
-ghost use Rattle.cwr_desk.specs.Account.{IsRead};
 ghost use Rattle.std.specs.List.{AllByRecursion};
 ghost use Rattle.cwr_file.specs.Acknowledgement.{FitsItem};
+ghost use Rattle.cwr_file.specs.RawParts.{IsPlaced};
+ghost use Rattle.cwr_file.specs.Submitted.{IsBounded};
 ghost use Rattle.cwr_rules.specs.Lawful.{is_clean};
+ghost use Rattle.cwr_desk.specs.Account.{most, IsRead};
 ghost use Rattle.cwr_desk.specs.Causes.{cause_of, IsCause};
 ghost use Rattle.cwr_desk.specs.Handing.{AreAnswered, IsWorked};
-ghost use Rattle.cwr_desk.specs.Items.{IsPlaced};
 
 use crate::decision::{Turn, decide};
 use crate::gates::Gate;
@@ -79,7 +80,7 @@ fn work_submission<H: Window<Call<A>>, G: Gate, W: Sink, A: Allocator + Copy + D
 ) -> (H, FileOutcome)
     requires writes { W.has_failed writer.old ≡ false }
     requires turns { 99999995 ≤ H.turns_left window }
-    requires read { (input : List ℕ) × IsRead input file.now.header file.now.transactions }
+    requires bounds { IsBounded most file.now.header file.now.transactions }
     ensures session { H.session result.0 ≡ H.session window }
     ensures limit { H.limit result.0 ≡ H.limit window }
     ensures home { H.home result.0 ≡ H.home window }

@@ -24,13 +24,13 @@ all_back P (x ∷ xs) ys h = all_back P xs ys h.1
 
 -- ---- printable lines
 
-abbrev IsPrintable : List ℕ → Type 0
+abbrev pub IsPrintable : List ℕ → Type 0
 IsPrintable line = IsTrue (is_printable line)
 
 printable_byte : (b : ℕ) (line : List ℕ) → (nat_lt b 32 || has_control line) ≡ false → (nat_le 32 b ≡ true) × (has_control line ≡ false)
 printable_byte b line e = (grind (arith, nat_tests), grind (arith, nat_tests))
 
-printable : (line : List ℕ) → has_control line ≡ false → IsPrintable line
+pub printable : (line : List ℕ) → has_control line ≡ false → IsPrintable line
 printable [] e = refl
 printable (b ∷ line) e = let h = printable_byte b line e in rw h.0 (printable line h.1)
 

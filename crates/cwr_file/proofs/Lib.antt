@@ -19,6 +19,7 @@ pub mod Collecting
 pub mod CountsFurther
 pub mod OneLineFurther
 pub mod FileTexts
+pub mod FileBounds
 pub mod HeaderLine
 pub mod Least
 pub mod AckLaw

@@ -1,9 +1,10 @@
 -- What the reader of a file answers: the file, or its first fault.
-use Rattle.std.specs.Prelude.{ℕ, ◌+◌, ◌≡◌, ◌≤◌, ◌<◌, ◌^◌, true, List, ◌∷◌, length, drop}
+use Rattle.std.specs.Prelude.{ℕ, ◌+◌, ◌*◌, ◌≡◌, ◌≤◌, ◌<◌, ◌^◌, true, List, ◌∷◌, length, drop, IsTrue}
 use Rattle.std.specs.List.{AllByRecursion}
 use Rattle.std.specs.Str.Lines.{lines}
 use Rattle.cwr_record.specs.Control as table
 use Rattle.cwr_record.specs.Layout.{StandsFor}
+use Rattle.cwr_record.specs.Stamp.{is_printable}
 use Rattle.cwr_record.specs.declared.control.Header.{Header}
 use Rattle.cwr_file.specs.declared.role.Role.TheVariants.{FileHeader}
 use Rattle.cwr_file.specs.declared.refusal.FileRefusal.{FileRefusal}
@@ -11,7 +12,7 @@ use Rattle.cwr_file.specs.declared.refusal.FileRefusal.TheVariants.{Memory, Faul
 use Rattle.cwr_file.specs.Roles.{role_of}
 use Rattle.cwr_file.specs.Faults.{IsLeastFault}
 use Rattle.cwr_file.specs.File.{File, IsFile, records_of}
-use Rattle.cwr_file.specs.RawParts.{RawParts, raws_of}
+use Rattle.cwr_file.specs.RawParts.{RawParts, IsPlaced, lines_in, raws_of}
 use Rattle.cwr_file.specs.declared.counts.Counts.{Counts}
 use Rattle.cwr_file.specs.declared.place.Place.{Place}
 use Rattle.cwr_file.specs.FirstFault.{first_fault, tail_fault, with_eleven}
@@ -23,6 +24,13 @@ pub record IsSubmission (f : File) (head : Header) (found : List RawParts) (grou
   pub transactions : found ≡ raws_of 1 f.groups
   pub groups : group_count ≡ length f.groups
   pub records : record_count ≡ length (records_of f)
+
+-- What any well-formed file of so many bytes gives: transactions whose numbers have the digits of their fields, at most
+-- half as many lines as bytes, and a sender without a byte below 32.
+pub record IsBounded (size : ℕ) (head : Header) (found : List RawParts) : Type 0 where
+  pub placed : AllByRecursion IsPlaced found
+  pub few : 2 * lines_in found ≤ size
+  pub printable : IsTrue (is_printable head.sender)
 
 -- memory was refused; or the text has this fault, and none before it
 abbrev pub IsRefusal : List (List ℕ) → FileRefusal → Type 0

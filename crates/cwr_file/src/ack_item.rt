@@ -20,14 +20,15 @@ pub enum Status {
 }
 
 impl Status {
-    pub(crate) fn text(self) -> [u8; 2]
-        ensures { result ≡ status_text self }
+    /// Its two letters, bytes 158 and 159 of an ACK record: `AS`, `DU`, `CO` or `RJ`.
+    pub fn code(self) -> &'static [u8; 2]
+        ensures { result.now ≡ status_text self }
     {
         match self {
-            Status::Accepted => *b"AS",
-            Status::Duplicate => *b"DU",
-            Status::Conflict => *b"CO",
-            Status::Rejected => *b"RJ",
+            Status::Accepted => b"AS",
+            Status::Duplicate => b"DU",
+            Status::Conflict => b"CO",
+            Status::Rejected => b"RJ",
         }
     }
 }

@@ -3,15 +3,12 @@
 ghost use Rattle.std.specs.Prelude.{◌≡◌, ◌≤◌, ◌+◌, ◌%◌, ◌++◌, codes, length};
 ghost use Rattle.cwr_field.specs.Layout.{padded};
 ghost use Rattle.cwr_field.specs.Number.{number_text};
-ghost use Rattle.cwr_record.specs.Kinds.{work_kind_code};
 ghost use Rattle.cwr_file.specs.Acknowledgement.{file_start, group_start, group_end, file_end, ack_record, message_record, work_text};
 
 use crate::ack_item::AckItem;
 use crate::messages::message_text;
 use crate::transaction_fault::Fault;
-use cwr_record::{
-    Ack, FileTrailer, GroupHead, GroupTrailer, Header, Message, Prefix, Stamp, WorkKind,
-};
+use cwr_record::{Ack, FileTrailer, GroupHead, GroupTrailer, Header, Message, Prefix, Stamp};
 use std::alloc::Allocator;
 
 pub(crate) fn file_start(stamp: &Stamp) -> Header
@@ -78,22 +75,12 @@ pub(crate) fn ack_record<A: Allocator>(
         creation_time: header.creation_time,
         original_group: item.group,
         original_transaction: item.sequence,
-        original_type: type_text(item.kind),
+        original_type: *item.kind.code(),
         title: item.title,
         submitter_number: filled(&item.number),
         recipient_number: recipient_number(item.work),
         processing_date: stamp.date(),
-        status: item.status.text(),
-    }
-}
-
-/// The record type that names a kind.
-fn type_text(kind: WorkKind) -> [u8; 3]
-    ensures { result ≡ work_kind_code kind }
-{
-    match kind {
-        WorkKind::Nwr => *b"NWR",
-        WorkKind::Rev => *b"REV",
+        status: *item.status.code(),
     }
 }
 

@@ -1,9 +1,9 @@
-ghost use Rattle.std.specs.Prelude.{◌≡◌, ◌∷◌, ℕ, List, IfOk, IfErr};
+ghost use Rattle.std.specs.Prelude.{◌≡◌, ◌∷◌, ℕ, List, IfOk, IfErr, length};
 ghost use Rattle.std.specs.Str.Lines.{lines};
 ghost use Rattle.cwr_record.specs.Control as table;
 ghost use Rattle.cwr_record.specs.Layout.{StandsFor};
 ghost use Rattle.cwr_file.specs.File.{File, IsFile};
-ghost use Rattle.cwr_file.specs.Submitted.{BeginsWithHeader, IsReadTo, IsSubmission, IsRefusal};
+ghost use Rattle.cwr_file.specs.Submitted.{BeginsWithHeader, IsReadTo, IsSubmission, IsBounded, IsRefusal};
 
 use crate::counts::Counts;
 use crate::fault::{fault_of, tail_fault};
@@ -34,14 +34,16 @@ pub struct Submission<'a, A: Allocator = Global> {
 
 /// Reads a file: an HDR line, groups and a TRL line, each group a GRH line, transactions and a GRT line.
 ///
-/// A well-formed file gives its header, its transactions and its counts. Any other gives its first fault: of its
-/// faulty lines the first, and of that line's faults the least. The bytes are gone over once. Memory is asked for the
+/// A well-formed file gives its header, its transactions and its counts: numbers that have the digits of their fields,
+/// transactions of at least one line, at most half as many lines as bytes, and a sender without a byte below 32. Any
+/// other gives its first fault: of its faulty lines the first, and of that line's faults the least. The bytes are gone over once. Memory is asked for the
 /// places of the transactions alone.
 pub fn parse_file<'a, A: Allocator>(
     alloc: A,
     bytes: &'a [u8],
 ) -> Result<Submission<'a, A>, FileRefusal>
     ensures found { IfOk result (λ s. (f : File) × IsFile (lines bytes.now) f × IsSubmission f s.header s.transactions s.groups s.records) }
+    ensures bounds { IfOk result (λ s. IsBounded (length bytes.now) s.header s.transactions) }
     ensures fault { IfErr result (IsRefusal (lines bytes.now)) }
 {
     let mut places = Vec::new(alloc);
@@ -78,6 +80,7 @@ fn finished<'a, A: Allocator>(
 ) -> Result<Submission<'a, A>, FileRefusal>
     requires { IsReadTo bytes.now places.items counts.now at }
     ensures found { IfOk result (λ s. (f : File) × IsFile (lines bytes.now) f × IsSubmission f s.header s.transactions s.groups s.records) }
+    ensures bounds { IfOk result (λ s. IsBounded (length bytes.now) s.header s.transactions) }
     ensures fault { IfErr result (IsRefusal (lines bytes.now)) }
 {
     if let Some(line) = tail_fault(&bytes[at..], counts.lines + 1) {

@@ -29,8 +29,8 @@ pub enum WorkKind {
 }
 
 impl WorkKind {
-    /// The record type that names it.
-    fn code(self) -> &'static [u8; 3]
+    /// The record type that names it: `NWR` or `REV`, bytes 1 to 3 of its head.
+    pub fn code(self) -> &'static [u8; 3]
         ensures { result.now ≡ work_kind_code self }
     {
         match self {

@@ -18,7 +18,8 @@ use Rattle.work_registry.specs.Rows.{Row, rows_of}
 use Rattle.work_registry.specs.Reply.{reply_to}
 use Rattle.work_registry.specs.Replay.{is_opening}
 use Rattle.work_registry.specs.RegisterLine.{IsEntryLine}
-use Rattle.work_registry.specs.Register.{status_of, work_of, version_of, line_for, entry_lines, count_line, register_text, opened, IsWholeEntry}
+use Rattle.work_registry.specs.Told.{status_in}
+use Rattle.work_registry.specs.Register.{work_of, version_of, line_for, entry_lines, count_line, register_text, opened, IsWholeEntry}
 use Rattle.work_registry.specs.RegisterFaults.{lines, IsFault, IsRefusal}
 use Rattle.work_registry.specs.RegisterReading.{IsReadTo}
 use Rattle.work_registry.proofs.SoundHistories.{Follows, follows-first, follows-rest, rows_of-push}
@@ -67,7 +68,7 @@ all_entries limit count text (e ∷ es) h r len follows whole =
     let line = says (length h + 1) e (omega (arith, small, len)) w in
     let next = next_read limit count text (entry_lines (length h + 1) (e ∷ es)) (front_of x) (entry_lines (length h + 1 + 1) es) h x r
     (entry_split (length h + 1) e es) (entry_first (length h + 1) e es w) (omega (arith, len)) line (λ y other. one_reading (front_of x) y x other line) refl
-    (record { status = ap status_of reply; work = ap work_of reply; version = ap version_of reply }) in
+    (record { status = ap status_in reply; work = ap work_of reply; version = ap version_of reply }) in
     let P : Reply → Type 0 = λ a. IsReadTo limit text count (h ++ record { session = 0; call = e.call; reply = a } ∷ []) (entry_lines (length h + 1 + 1) es) in
     let then : IsReadTo limit text count (h ++ opened e ∷ []) (entry_lines (length h + 1 + 1) es) = subst P (sym reply) next in
     let grown = length_push h (opened e) in

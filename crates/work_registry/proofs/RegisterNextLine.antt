@@ -15,7 +15,8 @@ use Rattle.work_registry.specs.Rows.{rows_of}
 use Rattle.work_registry.specs.Reply.{reply_to}
 use Rattle.work_registry.specs.Replay.{is_opening}
 use Rattle.work_registry.specs.RegisterLine.{EntryLine, IsEntryLine, line_of, head, head_of, fault}
-use Rattle.work_registry.specs.Register.{status_of, work_of, version_of, line_for, entry_line, entry_lines, count_line, register_text, IsWholeEntry}
+use Rattle.work_registry.specs.Told.{status_in}
+use Rattle.work_registry.specs.Register.{work_of, version_of, line_for, entry_line, entry_lines, count_line, register_text, IsWholeEntry}
 use Rattle.work_registry.specs.RegisterFaults.{in_front, lines, has_end, IsNoEntry, Tells, HasNumber, HasFaultAfter, IsFault, IsLeastFault}
 use Rattle.work_registry.specs.RegisterReading.{IsReadTo}
 use Rattle.cwr_rules.proofs.FaultForms.{both}
@@ -136,7 +137,7 @@ reply_from status.Duplicate work version = Duplicate work
 reply_from status.Conflict work version = Conflict work
 reply_from status.Rejected work version = Rejected
 
-reply_again : (r : Reply) → reply_from (status_of r) (work_of r) (version_of r) ≡ r
+reply_again : (r : Reply) → reply_from (status_in r) (work_of r) (version_of r) ≡ r
 unfolding reply_from
 reply_again (Accepted work version) = refl
 reply_again (Duplicate work) = refl
@@ -157,7 +158,7 @@ entry_again index a b e s =
 
 told_line : (index : ℕ) (x : EntryLine) (r : Reply) → x.index ≡ index → Tells x r → line_for index x.call r ≡ x
 told_line index x r place tells =
-    line_is index x.index (status_of r) x.status (work_of r) x.work (version_of r) x.version (sym place) (sym tells.status) (sym tells.work) (sym tells.version)
+    line_is index x.index (status_in r) x.status (work_of r) x.work (version_of r) x.version (sym place) (sym tells.status) (sym tells.work) (sym tells.version)
   where
     line_is : (i i' : ℕ) (s s' : Status) (w w' v v' : ℕ) → i ≡ i' → s ≡ s' → w ≡ w' → v ≡ v'
         → let a : EntryLine = record { index = i; call = x.call; status = s; work = w; version = v } in

@@ -5,6 +5,7 @@ pub mod Rows
 pub mod Works
 pub mod Claims
 pub mod Reply
+pub mod Told
 pub mod Numbers
 pub mod History
 pub mod Replay

@@ -1,46 +1,30 @@
 -- The text of a register: a line with the number of entries, and a line for each entry. An LF ends each line.
-use Rattle.std.specs.Prelude.{◌≡◌, ℕ, ◌+◌, ◌<◌, ◌^◌, List, [], ◌∷◌, ◌++◌, length, codes, IsTrue}
+use Rattle.std.specs.Prelude.{◌≡◌, ℕ, ◌+◌, ◌<◌, ◌^◌, List, [], ◌∷◌, ◌++◌, length, codes, IsTrue, unwrap_or}
 use Rattle.std.specs.List.{AllByRecursion}
 use Rattle.cwr_field.specs.Number.{number_text}
-use Rattle.cwr_file.specs.declared.ack_item.Status.{Status}
-use Rattle.cwr_file.specs.declared.ack_item.Status.TheVariants as status
 use Rattle.cwr_rules.specs.CallValue.{CallValue}
 use Rattle.cwr_rules.specs.Lawful.{is_lawful}
 use Rattle.work_registry.specs.declared.reply.Reply.{Reply}
-use Rattle.work_registry.specs.declared.reply.Reply.TheVariants.{Accepted, Duplicate, Conflict, Rejected}
 use Rattle.work_registry.specs.EntryValue.{EntryValue}
 use Rattle.work_registry.specs.History.{IsHistory}
 use Rattle.work_registry.specs.Replay.{is_opening}
+use Rattle.work_registry.specs.Told.{status_in, work_in, version_in}
 use Rattle.work_registry.specs.RegisterLine.{EntryLine, line_text, IsTyped}
 
--- what a register tells of a reply
-
-abbrev pub status_of : Reply → Status
-status_of (Accepted work version) = status.Accepted
-status_of (Duplicate work) = status.Duplicate
-status_of (Conflict work) = status.Conflict
-status_of Rejected = status.Rejected
-
--- the work, or 0 where there is none
+-- the work that a reply names, or 0 where there is none
 abbrev pub work_of : Reply → ℕ
-work_of (Accepted work version) = work
-work_of (Duplicate work) = work
-work_of (Conflict work) = work
-work_of Rejected = 0
+work_of reply = unwrap_or (work_in reply) 0
 
 -- the version of an accepted claim, else 0
 abbrev pub version_of : Reply → ℕ
-version_of (Accepted work version) = version
-version_of (Duplicate work) = 0
-version_of (Conflict work) = 0
-version_of Rejected = 0
+version_of reply = unwrap_or (version_in reply) 0
 
 -- what the line of the entry with this index says
 abbrev pub line_for : ℕ → CallValue → Reply → EntryLine
 line_for index call reply = record {
   index = index;
   call = call;
-  status = status_of reply;
+  status = status_in reply;
   work = work_of reply;
   version = version_of reply;
 }

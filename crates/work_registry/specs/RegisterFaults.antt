@@ -10,7 +10,8 @@ use Rattle.work_registry.specs.EntryValue.{EntryValue}
 use Rattle.work_registry.specs.Rows.{rows_of}
 use Rattle.work_registry.specs.Reply.{reply_to}
 use Rattle.work_registry.specs.RegisterLine.{EntryLine, IsEntryLine}
-use Rattle.work_registry.specs.Register.{status_of, work_of, version_of, line_for, count_line}
+use Rattle.work_registry.specs.Told.{status_in}
+use Rattle.work_registry.specs.Register.{work_of, version_of, line_for, count_line}
 
 -- a byte in front of lines
 abbrev pub in_front : ℕ → List (List ℕ) → List (List ℕ)
@@ -40,7 +41,7 @@ IsMisplaced index line = (x : EntryLine) × IsEntryLine line x × (x.index ≡ i
 
 -- a line tells a reply: by its status, work and version
 pub record Tells (x : EntryLine) (reply : Reply) : Type 0 where
-  pub status : x.status ≡ status_of reply
+  pub status : x.status ≡ status_in reply
   pub work : x.work ≡ work_of reply
   pub version : x.version ≡ version_of reply
 

@@ -1,3 +1,8 @@
+ghost use Rattle.std.specs.Prelude.{◌≡◌};
+ghost use Rattle.work_registry.specs.Told.{status_in, work_in, version_in};
+
+use cwr_file::Status;
+
 /// What the registry decided on a call.
 ///
 /// Works are numbered 1, 2, .. as they are first accepted. Each work and each version in a reply of a book is from 1
@@ -23,4 +28,43 @@ pub enum Reply {
     },
     /// The call has faults: RJ.
     Rejected,
+}
+
+impl Reply {
+    /// The Transaction Status that tells it.
+    pub fn status(self) -> Status
+        ensures { result ≡ status_in self }
+    {
+        match self {
+            Reply::Accepted {
+                work: _,
+                version: _,
+            } => Status::Accepted,
+            Reply::Duplicate { work: _ } => Status::Duplicate,
+            Reply::Conflict { work: _ } => Status::Conflict,
+            Reply::Rejected => Status::Rejected,
+        }
+    }
+
+    /// The registry's number of the work that it names.
+    pub fn work(self) -> Option<u32>
+        ensures { result ≡ work_in self }
+    {
+        match self {
+            Reply::Accepted { work, version: _ }
+            | Reply::Duplicate { work }
+            | Reply::Conflict { work } => Some(work),
+            Reply::Rejected => None,
+        }
+    }
+
+    /// The version of an accepted claim.
+    pub fn version(self) -> Option<u32>
+        ensures { result ≡ version_in self }
+    {
+        match self {
+            Reply::Accepted { work: _, version } => Some(version),
+            Reply::Duplicate { work: _ } | Reply::Conflict { work: _ } | Reply::Rejected => None,
+        }
+    }
 }

@@ -16,7 +16,6 @@ ghost use Rattle.work_registry.specs.declared.register.refusal.RegisterRefusal.T
 use super::entry_line::{ReadEntry, read_entry};
 use super::lines::{count_in, cut_line};
 use super::refusal::RegisterRefusal;
-use super::writing::told;
 use crate::book::Book;
 use crate::refused::WhyRefused;
 use crate::reply::Reply;
@@ -51,25 +50,13 @@ fn read_count(text: &[u8], limit: u32) -> Result<(u32, &[u8]), RegisterRefusal>
     Ok((count, rest))
 }
 
-/// Whether two statuses are one.
-fn is_same(one: Status, other: Status) -> bool
-    ensures { IsTrue result ↔ (one ≡ other) }
-{
-    match (one, other) {
-        (Status::Accepted, Status::Accepted)
-        | (Status::Duplicate, Status::Duplicate)
-        | (Status::Conflict, Status::Conflict)
-        | (Status::Rejected, Status::Rejected) => true,
-        _ => false,
-    }
-}
-
 /// Whether a status, a work and a version tell a reply.
 fn is_told(status: Status, work: u32, version: u32, reply: Reply) -> bool
     ensures { (x : EntryLine) → x.status ≡ status → x.work ≡ work → x.version ≡ version → IsTrue result ↔ Tells x reply }
 {
-    let (wanted, wanted_work, wanted_version) = told(reply);
-    is_same(status, wanted) && work == wanted_work && version == wanted_version
+    status == reply.status()
+        && work == reply.work().unwrap_or(0)
+        && version == reply.version().unwrap_or(0)
 }
 
 /// Hands the call of a line in, and says whether the book replies what the line tells.

@@ -2,56 +2,17 @@
 
 ghost use Rattle.std.specs.Prelude.{◌≡◌, ◌++◌, ◌∷◌, [], ◌<◌, ◌≤◌, ◌^◌, ◌*◌, OnOk, IfOk, IsTrue, length, codes};
 ghost use Rattle.std.specs.List.{flat_map, AllByRecursion};
-ghost use Rattle.cwr_record.specs.Kinds.{work_kind_code};
-ghost use Rattle.cwr_file.specs.AckItem.{status_text};
 ghost use Rattle.cwr_rules.specs.Lawful.{is_lawful};
 ghost use Rattle.work_registry.specs.RegisterLine.{line_of, head, fault, head_of, IsTyped};
 ghost use Rattle.work_registry.specs.RegisterPieces.{FitsHead, FitsFault};
-ghost use Rattle.work_registry.specs.Register.{status_of, work_of, version_of, line_for, entry_line, entry_lines, count_line, register_text, FitsEntry, IsWholeEntry};
+ghost use Rattle.work_registry.specs.Register.{line_for, entry_line, entry_lines, count_line, register_text, FitsEntry, IsWholeEntry};
 
 use super::head::Head;
 use super::pieces::{Piece, put_pieces};
 use crate::entry::Entry;
-use crate::reply::Reply;
 use cwr_field::Memory;
-use cwr_file::{Fault, Status};
-use cwr_record::WorkKind;
+use cwr_file::Fault;
 use std::alloc::Allocator;
-
-/// The record type that names a kind.
-fn kind_code(kind: WorkKind) -> &'static [u8]
-    ensures { result.now ≡ work_kind_code kind }
-{
-    match kind {
-        WorkKind::Nwr => b"NWR",
-        WorkKind::Rev => b"REV",
-    }
-}
-
-fn status_code(status: Status) -> &'static [u8]
-    ensures { result.now ≡ status_text status }
-{
-    match status {
-        Status::Accepted => b"AS",
-        Status::Duplicate => b"DU",
-        Status::Conflict => b"CO",
-        Status::Rejected => b"RJ",
-    }
-}
-
-/// What a register tells of a reply: the status, the work and the version, or 0 where there is none.
-pub(crate) fn told(reply: Reply) -> (Status, u32, u32)
-    ensures status { result.0 ≡ status_of reply }
-    ensures work { result.1 ≡ work_of reply }
-    ensures version { result.2 ≡ version_of reply }
-{
-    match reply {
-        Reply::Accepted { work, version } => (Status::Accepted, work, version),
-        Reply::Duplicate { work } => (Status::Duplicate, work, 0),
-        Reply::Conflict { work } => (Status::Conflict, work, 0),
-        Reply::Rejected => (Status::Rejected, 0, 0),
-    }
-}
 
 fn head_for<A: Allocator>(index: u32, entry: &Entry<A>) -> Head
     ensures value { result ≡ head_of (line_for index entry.now.call entry.now.reply) }
@@ -61,7 +22,7 @@ fn head_for<A: Allocator>(index: u32, entry: &Entry<A>) -> Head
     ensures number { length entry.now.call.number ≡ 14 }
     ensures control { length entry.now.call.control ≡ 3 }
 {
-    let (status, work, version) = told(entry.reply());
+    let reply = entry.reply();
     Head {
         index,
         submitter: entry.call().submitter(),
@@ -70,9 +31,9 @@ fn head_for<A: Allocator>(index: u32, entry: &Entry<A>) -> Head
         number: entry.call().number(),
         iswc: entry.call().iswc(),
         control: entry.call().control(),
-        status,
-        work,
-        version,
+        status: reply.status(),
+        work: reply.work().unwrap_or(0),
+        version: reply.version().unwrap_or(0),
         faults: entry.call().faults().len() as u32,
     }
 }
@@ -88,14 +49,14 @@ fn put_head<A: Allocator>(out: &mut Vec<u8, A>, x: &Head) -> Result<(), Memory>
             Piece::Text(b"ENT"),
             Piece::Digits(x.index as u64, 8),
             Piece::Text(&x.submitter),
-            Piece::Text(kind_code(x.kind)),
+            Piece::Text(x.kind.code()),
             Piece::Text(&x.title),
             Piece::Text(&x.number),
             Piece::Code(x.iswc),
             Piece::Digits(x.control[0], 12),
             Piece::Digits(x.control[1], 12),
             Piece::Digits(x.control[2], 12),
-            Piece::Text(status_code(x.status)),
+            Piece::Text(x.status.code()),
             Piece::Digits(x.work as u64, 8),
             Piece::Digits(x.version as u64, 8),
             Piece::Digits(x.faults as u64, 9),

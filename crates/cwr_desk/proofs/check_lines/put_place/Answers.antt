@@ -1,12 +1,9 @@
-use Rattle.std.proofs.Common.{rules}
 use Rattle.cwr_desk.proofs.CheckSteps.{place_written}
 use Rattle.cwr_desk.proofs.check_lines.put_place.Goals as goal
 
 pub returns : goal.returns
 returns g c =
-    place_written c.args.transaction.now c.last_digits.result c.last_digits-2.result c.kind_text.result.now c.args.out.now.items
-    c.extend_from_slice.new.self.items c.extend_from_slice-2.new.self.items c.extend_from_slice-3.new.self.items
-    c.extend_from_slice-4.new.self.items c.extend_from_slice-5.new.self.items c.extend_from_slice-6.new.self.items
-    (search rules) (search rules) (search rules)
-    c.in_ok-extend_from_slice.ensures.items c.in_ok-extend_from_slice-2.ensures.items c.in_ok-extend_from_slice-3.ensures.items
-    c.in_ok-extend_from_slice-4.ensures.items c.in_ok-extend_from_slice-5.ensures.items c.in_ok-extend_from_slice-6.ensures.items
+    place_written c.args.transaction.now c.args.out.now.items c.put_digits.new.out.items c.extend_from_slice.new.self.items
+    c.put_digits-2.new.out.items c.extend_from_slice-2.new.self.items c.extend_from_slice-3.new.self.items c.extend_from_slice-4.new.self.items
+    (rw c.group.ensures at c.in_ok-put_digits.ensures.ok) c.in_ok-extend_from_slice.ensures.items (rw c.sequence.ensures at c.in_ok-put_digits-2.ensures.ok)
+    c.in_ok-extend_from_slice-2.ensures.items (rw (c.code.ensures, c.kind.ensures) at c.in_ok-extend_from_slice-3.ensures.items) c.in_ok-extend_from_slice-4.ensures.items

@@ -2,7 +2,7 @@ use Rattle.std.proofs.Common.{◌≡◌, ◌∙◌, ◌∷◌, ap, sym, refl, su
 use Rattle.std.specs.List.{AllByRecursion}
 use Rattle.std.proofs.lemmas.Grind.{common_steps}
 use Rattle.cwr_file.specs.Acknowledgement.{FitsItem}
-use Rattle.cwr_desk.specs.Items.{IsPlaced}
+use Rattle.cwr_file.specs.RawParts.{IsPlaced}
 use Rattle.cwr_desk.proofs.Answering.{answered_none, answered_next, fit_next, drop_next}
 use Rattle.cwr_desk.proofs.engine.hand_in_all.Goals as goal
 

@@ -2,7 +2,7 @@ use Rattle.std.proofs.Common.{◌≡◌, ◌+◌, ◌≤◌, length, drop, vec_c
 use Rattle.std.specs.List.{AllByRecursion}
 use Rattle.cwr_file.specs.Acknowledgement.{FitsItem}
 use Rattle.cwr_desk.specs.Handing.{AreAnswered}
-use Rattle.cwr_desk.specs.Items.{IsPlaced}
+use Rattle.cwr_file.specs.RawParts.{IsPlaced}
 use Rattle.cwr_desk.proofs.engine.hand_in_all.Given as goal
 
 abbrev pub invariant-loop-index : goal.invariant-loop-index

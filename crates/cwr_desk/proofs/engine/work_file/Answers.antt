@@ -1,6 +1,6 @@
 use Rattle.std.proofs.Common.{◌≤◌, ap, Err, arith, length}
 use Rattle.cwr_desk.specs.Account.{most}
-use Rattle.cwr_desk.proofs.Accounts.{not_read, not_begun, read_whole}
+use Rattle.cwr_desk.proofs.Accounts.{not_read, not_begun, read_whole, within}
 use Rattle.cwr_desk.proofs.engine.work_file.Goals as goal
 
 pub returns-in-Err-clause-worked : goal.returns-in-Err-clause-worked
@@ -16,3 +16,8 @@ returns-in-Ok-parse_file-clause-worked g c =
 
 pub returns-clause-worked : goal.returns-clause-worked
 returns-clause-worked g c = rw c.stopped-in-Err-Memory.ensures (not_begun _ _ _ _ _ _ _)
+
+pub work_submission-requires-clause-bounds : goal.work_submission-requires-clause-bounds
+work_submission-requires-clause-bounds g c =
+    let fits : length c.in-Ok.text.items ≤ most = omega (arith, c.in-Ok.ensures.fits, c.in-Ok.text.ok.0) in
+    within _ _ _ fits (rw c.deref.ensures.value at c.in-Ok-parse_file.ensures.bounds)

@@ -1,25 +1,25 @@
 use Rattle.std.proofs.Common.{◌≡◌, arith, length}
-use Rattle.cwr_desk.proofs.Accounts.{clean, placed, few_transactions, few_items, few_told, not_begun, handed_some, no_text, acked, cut_off, Appends-nil}
+use Rattle.cwr_desk.proofs.Accounts.{few_transactions, few_items, few_told, not_begun, handed_some, no_text, acked, cut_off, Appends-nil}
 use Rattle.cwr_desk.proofs.engine.work_submission.Goals as goal
 
 pub returns-in_default-clause-worked : goal.returns-in_default-clause-worked
 returns-in_default-clause-worked g c = λ left input read_failed given read. rw c.stopped.ensures (not_begun _ _ _ left _ _ _)
 
 pub hand_in_all-window-requires-clause-few : goal.hand_in_all-window-requires-clause-few
-hand_in_all-window-requires-clause-few g c = let few = few_transactions _ _ _ c.requires.read.1 in omega (arith, few)
+hand_in_all-window-requires-clause-few g c = let few = few_transactions _ _ c.requires.bounds in omega (arith, few)
 
 pub hand_in_all-window-requires-clause-turns : goal.hand_in_all-window-requires-clause-turns
-hand_in_all-window-requires-clause-turns g c = let few = few_transactions _ _ _ c.requires.read.1 in omega (arith, few, c.requires.turns)
+hand_in_all-window-requires-clause-turns g c = let few = few_transactions _ _ c.requires.bounds in omega (arith, few, c.requires.turns)
 
 pub hand_in_all-window-requires-clause-clean : goal.hand_in_all-window-requires-clause-clean
-hand_in_all-window-requires-clause-clean g c = clean _ _ _ c.requires.read.1
+hand_in_all-window-requires-clause-clean g c = c.requires.bounds.printable
 
 pub hand_in_all-window-requires-clause-placed : goal.hand_in_all-window-requires-clause-placed
-hand_in_all-window-requires-clause-placed g c = placed _ _ _ c.requires.read.1
+hand_in_all-window-requires-clause-placed g c = c.requires.bounds.placed
 
 pub overflow_cast-handed : goal.overflow_cast-handed
 overflow_cast-handed g c =
-    let few = few_transactions _ _ _ c.requires.read.1 in
+    let few = few_transactions _ _ c.requires.bounds in
     let items = few_items _ _ _ _ _ _ _ _ c.hand_in_all-window.ensures.answered in
     omega (arith, few, items, c.len-handed.ensures, c.hand_in_all-window.new.items.ok.0)
 
@@ -33,7 +33,7 @@ returns-in-Err-clause-worked g c =
 
 pub ack_file-requires-clause-few : goal.ack_file-requires-clause-few
 ack_file-requires-clause-few g c =
-    rw c.deref.ensures.value (few_told _ _ _ _ _ _ _ _ _ c.requires.read.1 c.hand_in_all-window.ensures.answered)
+    rw c.deref.ensures.value (few_told _ _ _ _ _ _ _ _ c.requires.bounds c.hand_in_all-window.ensures.answered)
 
 pub returns-in_default-ack_file-clause-worked : goal.returns-in_default-ack_file-clause-worked
 returns-in_default-ack_file-clause-worked g c =

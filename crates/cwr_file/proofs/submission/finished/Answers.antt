@@ -10,6 +10,7 @@ use Rattle.cwr_file.specs.FirstFault.{tail_fault, with_eleven}
 use Rattle.cwr_file.specs.Places.{IsPlace}
 use Rattle.cwr_file.specs.RawParts.{RawParts}
 use Rattle.cwr_file.specs.Submitted.{IsReadTo}
+use Rattle.cwr_file.proofs.FileBounds.{file_bounds}
 use Rattle.cwr_file.proofs.FileLaw.{accepted_file}
 use Rattle.cwr_file.proofs.FileTexts.{HasText, file_texts, are_places}
 use Rattle.cwr_file.proofs.Least.{first_is_least}
@@ -51,3 +52,10 @@ returns-clause-found g c =
         records = parts.records;
       },
     )
+
+pub returns-clause-bounds : goal.returns-clause-bounds
+returns-clause-bounds g c =
+    let file = file_read _ _ _ _ _ c.requires (take_rest c.args.bytes.now c.args.at) c.in_default.ensures in
+    file_bounds c.args.bytes.now file.0 _ _ file.1
+    (c.header_of.ensures file.0.header (lines_of_groups file.0.groups ++ file.0.trailer ∷ [] ++ file.0.tail) file.1.lines)
+    (c.requires.parts file.0 file.1).transactions

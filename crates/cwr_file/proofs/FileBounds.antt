@@ -1,14 +1,22 @@
--- How large the numbers of a well-formed file are, and how many lines its transactions can have.
-use Rattle.std.proofs.Common.{◌≡◌, ℕ, ◌+◌, ◌*◌, ◌-◌, ◌<◌, ◌≤◌, ◌^◌, Bool, true, false, cond, List, [], ◌∷◌, ◌++◌, length, take, arith, refl, ap}
-use Rattle.std.specs.Prelude.{◌==◌, slice_index}
-use Rattle.std.specs.List.{slice_split, onto_first, AllByRecursion}
+-- What every well-formed file is within: the numbers of its transactions, their lines, and the bytes of its sender.
+use Rattle.std.proofs.Common.{◌≡◌, ◌∙◌, ℕ, zero, suc, ◌+◌, ◌*◌, ◌-◌, ◌<◌, ◌≤◌, ◌^◌, Bool, true, false, cond, List, [], ◌∷◌, ◌++◌, length, take, drop, replicate, arith, refl, sym, ap, subst}
+use Rattle.std.specs.Prelude.{◌==◌, ◌&&◌, ◌||◌, IsTrue, slice_index, nat_le, nat_lt}
+use Rattle.std.specs.List.{slice_split, onto_first, AllByRecursion, list_all}
 use Rattle.std.specs.Str.Lines.{lines, lines_of_parts, strip_carriage_return}
-use Rattle.std.proofs.lemmas.List.{length-take}
+use Rattle.std.proofs.lemmas.Bool.Decides.{nat_tests}
+use Rattle.std.proofs.lemmas.List.{length-take, take-append-drop}
+use Rattle.std.proofs.lemmas.List.Folds.{list_all-append}
+use Rattle.cwr_field.specs.Layout.{field}
+use Rattle.cwr_record.specs.Control as table
+use Rattle.cwr_record.specs.Layout.{StandsFor}
+use Rattle.cwr_record.specs.Stamp.{is_printable}
+use Rattle.cwr_record.specs.declared.control.Header.{Header}
 use Rattle.cwr_record.specs.declared.works.WorkKind.{WorkKind}
 use Rattle.cwr_file.specs.File.{File, FileGroup, IsFile, AreGroups, AreTransactions, IsTransaction, AreDetails, lines_of_group, lines_of_groups, joined, records_of}
-use Rattle.cwr_file.specs.RawParts.{RawParts, raws_of, raws_of_group}
+use Rattle.cwr_file.specs.RawParts.{RawParts, IsPlaced, lines_in, raws_of, raws_of_group}
+use Rattle.cwr_file.specs.Submitted.{IsBounded}
+use Rattle.cwr_file.proofs.FileTexts.{printable}
 use Rattle.cwr_file.proofs.Numbers.{small_role}
-use Rattle.cwr_desk.specs.Items.{IsPlaced}
 
 -- ---- the lines of a text
 
@@ -48,11 +56,6 @@ weight-lines bytes = omega (arith, weight-parts (slice_split (λ b. b == 10) byt
 
 -- ---- the transactions of a file
 
--- how many lines transactions have
-abbrev pub lines_in : List RawParts → ℕ
-lines_in [] = 0
-lines_in (t ∷ ts) = length t.lines + lines_in ts
-
 lines_in-append : (xs ys : List RawParts) → lines_in (xs ++ ys) ≡ lines_in xs + lines_in ys
 lines_in-append [] ys = omega arith
 lines_in-append (x ∷ xs) ys = let h = lines_in-append xs ys in omega arith
@@ -87,7 +90,7 @@ groups_weigh i (g ∷ gs) are =
     omega arith
 
 -- the transactions of a file have at most half as many lines as it has bytes
-pub few_lines : (input : List ℕ) (file : File) → IsFile (lines input) file → 2 * lines_in (raws_of 1 file.groups) ≤ length input
+few_lines : (input : List ℕ) (file : File) → IsFile (lines input) file → 2 * lines_in (raws_of 1 file.groups) ≤ length input
 few_lines input file formed =
     let h = groups_weigh 1 file.groups formed.groups in
     let w = weight-lines input in
@@ -106,9 +109,40 @@ all_append : (xs ys : List RawParts) → AllByRecursion IsPlaced xs → AllByRec
 all_append [] ys h k = k
 all_append (x ∷ xs) ys h k = (h.0, all_append xs ys h.1 k)
 
-pub all_small : (i : ℕ) (gs : List FileGroup) → AreGroups i gs → AllByRecursion IsPlaced (raws_of i gs)
+all_small : (i : ℕ) (gs : List FileGroup) → AreGroups i gs → AllByRecursion IsPlaced (raws_of i gs)
 all_small i [] are = tt
 all_small i (g ∷ gs) are =
     let lt : i < 10 ^ 5 = small_role g.head _ are.0.head in
     all_append (raws_of_group i 0 g.kind g.transactions) (raws_of (i + 1) gs)
     (group_small i 0 g.kind g.transactions lt are.0.transactions) (all_small (i + 1) gs are.1)
+
+-- ---- the sender
+
+and_both : (a b : Bool) → (a && b) ≡ true → (a ≡ true) × (b ≡ true)
+and_both true b h = (refl, h)
+and_both false b h = absurd cc
+
+blanks_printable : (n : ℕ) → is_printable (replicate n 32) ≡ true
+blanks_printable zero = refl
+blanks_printable (suc n) = blanks_printable n
+
+parts_printable : (n : ℕ) (xs : List ℕ) → is_printable xs ≡ true → (is_printable (take n xs) ≡ true) × (is_printable (drop n xs) ≡ true)
+parts_printable n xs h =
+    and_both (is_printable (take n xs)) (is_printable (drop n xs))
+    (sym (list_all-append (nat_le 32) (take n xs) (drop n xs)) ∙ ap (λ (l : List ℕ). is_printable l) (take-append-drop n xs) ∙ h)
+
+field_printable : (line : List ℕ) (s n : ℕ) → is_printable line ≡ true → is_printable (field line s n) ≡ true
+field_printable line s n h =
+    let whole : is_printable (drop (s - 1) line ++ replicate n 32) ≡ true =
+    list_all-append (nat_le 32) (drop (s - 1) line) (replicate n 32) ∙ rw ((parts_printable (s - 1) line h).1, blanks_printable n) refl
+    in (parts_printable n (drop (s - 1) line ++ replicate n 32) whole).0
+
+-- ---- all of it
+
+pub file_bounds : (input : List ℕ) (file : File) (head : Header) (found : List RawParts) → IsFile (lines input) file → StandsFor table.header file.header head
+    → found ≡ raws_of 1 file.groups → IsBounded (length input) head found
+file_bounds input file head found formed stands is = record {
+  placed = subst (λ (ts : List RawParts). AllByRecursion IsPlaced ts) (sym is) (all_small 1 file.groups formed.groups);
+  few = let h = few_lines input file formed in let same = ap lines_in is in omega (arith, h, same);
+  printable = rw stands.1.0 (field_printable file.header 4 11 (printable file.header formed.plain.0.0));
+}
