@@ -33,9 +33,9 @@ pub record Found (me after : Seated) (t : ℕ) (b : BookValue) : Type 0 where
   pub book : b ≡ book_with me.0 b.history
   pub finds : Finds me.0 b.history
 
-module _ (me me' after : Seated) (c : Counts) (t found : ℕ) (b : BookValue) (w : Waits me c t) (told : Looks (step 0 0 0 0 none) me found me') where
+module _ (me me' after : Seated) (c : Counts) (i t found : ℕ) (b : BookValue) (w : Waits me c t) (told : Looks (step 0 i 0 0 none) me found me') where
   pub found_book : found ≡ open_flag → me'.1 ≡ (0, Some b) ∷ rest me'.1 → after ≡ (me'.0, (0, None) ∷ rest me'.1) → Found me after t b
-  found_book hit carried put = let f = (told t w.waits).0 hit in let h : List EntryValue = f.0 in
+  found_book hit carried put = let f = (told t w.waits).1 hit in let h : List EntryValue = f.0 in
       let same : book_with me.0 h ≡ b = ap (first_book b) (sym (ap (λ (m : Seated). m.1) f.1) ∙ carried) in
       let there : b.history ≡ h = ap (λ (x : BookValue). x.history) (sym same) in record {
         seat = put ∙ (ap (λ (m : Seated). (m.0, (0, None) ∷ rest m.1)) f.1 ∙ (λ i. (entered me.0 t (sym there i), (0, None) ∷ w.carries i)));

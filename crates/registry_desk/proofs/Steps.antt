@@ -215,6 +215,7 @@ module _ (slots id : ℕ) (me : Seated) (live : me.0.spent ≡ false) where
             (λ j u ne e. r.each j u e) r.registry r.bounded r.later
             (λ nobody. absurd (nobody id t w (set_here s.views id w (within s.views id v at)) refl)),
         λ j is. (
+          ap (λ (z : ℕ). z % 64 + 1) (same_ticket t j waits is),
           (λ _. (
             r.history,
             ap (λ (z : ℕ). (entered v z r.history, (0, Some (book_with v r.history)) ∷ me.1)) (same_ticket t j waits is),
@@ -238,5 +239,5 @@ module _ (slots id : ℕ) (me : Seated) (live : me.0.spent ≡ false) where
             (rephased (length s.views) id r.history r.limit v w live refl fits.turns (λ j e. let clash : Waiting t ≡ Inside j = sym waits ∙ e in absurd (cc)) fits)
             (λ j u ne e. r.each j u e) r.registry r.bounded r.later
             (λ nobody. r.at_home (nobody_was s r id v w at (λ j e. let clash : Waiting t ≡ Inside j = sym waits ∙ e in absurd (cc)) nobody)),
-        λ j is. ((λ hit. absurd (miss hit)), λ _. refl),
+        λ j is. (ap (λ (z : ℕ). z % 64 + 1) (same_ticket t j waits is), (λ hit. absurd (miss hit)), λ _. refl),
       ))

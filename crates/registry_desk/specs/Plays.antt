@@ -1,8 +1,9 @@
 -- What each atomic step tells the seat that makes it: of the step, the seat before, the word found (at a store, the
 -- word stored) and the seat after.
-use Rattle.std.specs.Prelude.{◌≡◌, ◌≢◌, ℕ, ◌≤◌, Bool, List, [], ◌∷◌, length, Option, Some}
+use Rattle.std.specs.Prelude.{◌≡◌, ◌≢◌, ℕ, ◌+◌, ◌≤◌, Bool, List, [], ◌∷◌, length, Option, Some}
 use mathlib.Core.List.{IsPrefix}
 use Rattle.atomic_table.specs.Table.{Me, Step}
+use Rattle.ticket_core.specs.ArrayLock.{flag_of}
 use Rattle.ticket_core.specs.declared.array_lock.ArrayPhase.TheVariants.{Waiting, Inside}
 use Rattle.work_registry.specs.EntryValue.{EntryValue}
 use Rattle.work_registry.specs.BookValue.{BookValue}
@@ -30,10 +31,12 @@ pub record Finds (v : View) (history : List EntryValue) : Type 0 where
 abbrev pub Draws : Step (Option BookValue) → Seated → ℕ → Seated → Type 0
 Draws step me ticket after = after ≡ (drawn me.0 ticket, me.1)
 
--- where the word found is an open flag's, the seat is inside, with the book; else it waits on
+-- The word is the flag of the ticket. Where an open flag's is found, the seat is inside, with the book; else it waits
+-- on.
 abbrev pub Looks : Step (Option BookValue) → Seated → ℕ → Seated → Type 0
 Looks step me found after = (ticket : ℕ) → me.0.phase ≡ Waiting ticket
-    → (found ≡ open_flag → (history : List EntryValue)
+    → (step.word ≡ flag_of ticket + 1)
+    × (found ≡ open_flag → (history : List EntryValue)
     × (after ≡ (entered me.0 ticket history, (0, Some (book_with me.0 history)) ∷ me.1)) × Finds me.0 history)
     × (found ≢ open_flag → after ≡ (looked me.0 found, me.1))
 

@@ -6,6 +6,7 @@ ghost use Rattle.registry_desk.specs.Views.{most_turns, opening_view, drawn, giv
 ghost use Rattle.registry_desk.specs.Closing.{Closes};
 ghost use Rattle.registry_desk.specs.Turns.{LooksFor};
 
+use crate::door::Door;
 use crate::rule::{Count, DeskRule, Draw, Give, Look, Meet, Opening};
 use crate::seat::{Counts, Inside, Looked, Seat, Waiting};
 use crate::view::View;
@@ -25,6 +26,7 @@ pub struct Desk<A: Allocator + Copy + Drop = Global> {
     pub(crate) table: Table<Option<Book<A>>, View, Opening<A>, DeskRule, A>,
     /// Who waits with a ticket sleeps at the ticket's place, until the one before it passes the lock on.
     pub(crate) sleepers: Vec<EventCount, A>,
+    pub(crate) door: Door,
 }
 
 impl<A: Allocator + Copy + Drop> Model for Desk<A> {
@@ -71,7 +73,11 @@ impl<A: Allocator + Copy + Drop> Desk<A> {
         words[flag_word(0)] = OPEN;
         match Table::new(alloc, &words, slots, &opening) {
             Ok((table, seat)) => Ok((
-                Desk { table, sleepers },
+                Desk {
+                    table,
+                    sleepers,
+                    door: Door::new(),
+                },
                 Seat {
                     seat,
                     counts: counts_of(0, seats - 1),
@@ -181,7 +187,7 @@ impl<A: Allocator + Copy + Drop> Desk<A> {
         ensures { Closes seat.view result }
     {
         let Seat { seat, counts: _ } = seat;
-        let Desk { table, sleepers: _ } = self;
+        let Desk { table, .. } = self;
         let mut closed = table.close_with(seat);
         let book = closed.take(BOOK).unwrap();
         closed.free();

@@ -11,6 +11,7 @@
 #![tactic(auto)]
 
 mod desk;
+mod door;
 pub mod laws;
 mod rule;
 mod seat;

@@ -20,7 +20,7 @@ use work_registry::{Book, Call, Refused, Reply, WhyRefused};
 
 /// How often a seat looks before it sleeps. Its turn comes by a certain other seat, which often is not running: so it pays
 /// to sleep soon.
-const FEW_LOOKS: u32 = 2;
+const FEW_LOOKS: u32 = 8;
 
 impl<A: Allocator + Copy + Drop> Inside<A> {
     /// Hands a call in, as [`Book::apply`] does by the seat's session.
@@ -131,9 +131,12 @@ impl<A: Allocator + Copy + Drop> Desk<A> {
         ensures desk { result.0.desk ≡ self.now }
         ensures turn { HandsIn seat.view call result.1 result.0.view }
     {
+        self.door.come_in(rt);
         let mut inside = self.enter(rt, seat);
         let reply = inside.apply(call);
-        (inside.leave(self), reply)
+        let seat = inside.leave(self);
+        self.door.go_out();
+        (seat, reply)
     }
 
     /// Draws a ticket, and waits until the seat is inside.

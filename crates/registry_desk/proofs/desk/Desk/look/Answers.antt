@@ -14,15 +14,15 @@ load-found-requires g c = let w = c.waiting.invariant in let word : c.flag_word-
 
 pub exchange-requires : goal.exchange-requires
 exchange-requires g c = let w = c.waiting.invariant in let found : c.load-found.result ≡ 1 = search rules in
-    let t = (c.load-found.ensures.2 c.waiting.inside.ticket w.waits).0 found in let carried = ap (λ m. m.1) t.1 in
+    let t = (c.load-found.ensures.2 c.waiting.inside.ticket w.waits).1 found in let carried = ap (λ m. m.1) t.1 in
     (search rules, (Some (book_with c.waiting.inside.seat.me.0 t.0), carried ∙ ap (λ l. (0, Some (book_with c.waiting.inside.seat.me.0 t.0)) ∷ rest l) (sym carried)))
 
 pub invariant_of-result-2 : goal.invariant_of-result-2
 invariant_of-result-2 g c = stays_inside c.waiting.inside.seat.me c.exchange.new.seat.me _ _ _ c.waiting.invariant
-    (found_book _ c.load-found.new.seat.me _ c.waiting.inside.counts _ _ _ c.waiting.invariant c.load-found.ensures.2 c.if-found-ne-OPEN.false
+    (found_book _ c.load-found.new.seat.me _ c.waiting.inside.counts _ _ _ _ c.waiting.invariant c.load-found.ensures.2 c.if-found-ne-OPEN.false
     (c.exchange.ensures.2 ∙ ap (λ x. (0, x) ∷ rest c.load-found.new.seat.me.1) c.unwrap-book.ensures) c.exchange.ensures.3)
 
 pub returns : goal.returns
 returns g c = enters_with c.args.waiting _ _ c.waiting.inside.seat.me c.exchange.new.seat.me c.waiting.inside.counts _ _ c.waiting.view_is (c.exchange.ensures.0 ∙ c.load-found.ensures.0) c.waiting.invariant
-    (found_book _ c.load-found.new.seat.me _ c.waiting.inside.counts _ _ _ c.waiting.invariant c.load-found.ensures.2 c.if-found-ne-OPEN.false
+    (found_book _ c.load-found.new.seat.me _ c.waiting.inside.counts _ _ _ _ c.waiting.invariant c.load-found.ensures.2 c.if-found-ne-OPEN.false
     (c.exchange.ensures.2 ∙ ap (λ x. (0, x) ∷ rest c.load-found.new.seat.me.1) c.unwrap-book.ensures) c.exchange.ensures.3)
