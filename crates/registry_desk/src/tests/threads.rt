@@ -139,7 +139,7 @@ fn expect_each_session(rt: &impl Abort, book: &Book) {
 
 #[test]
 fn sixty_four_seats(rt: HostRuntime) -> Result<(), Fail> {
-    for _ in 0..5 {
+    for _ in 0..50 {
         let (desk, opening) = open(rt.alloc(), 1000, 64)?;
         let opening = all_seats(&rt, rt.alloc(), &desk, opening);
         assert_eq!(rt; (opening.given(), opening.met()), (63, 63));

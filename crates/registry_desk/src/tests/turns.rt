@@ -1,31 +1,40 @@
 use super::{call, key, let_in, not_yet, open};
 use crate::{Reply, WhyRefused};
+use std::alloc::Global;
+use std::process::Abort;
+use std::sync::Wait;
 use std::test::Fail;
 
 /// Two seats in turn: the second waits until the first has left.
-#[test]
-fn second_waits_for_the_first(rt: HostRuntime) -> Result<(), Fail> {
-    let (desk, mut opening) = open(rt.alloc(), 10, 3)?;
+fn two_in_turn(rt: &impl Abort, alloc: Global) -> Result<(), Fail> {
+    let (desk, mut opening) = open(alloc, 10, 3)?;
     let one = desk.split(&mut opening);
     let two = desk.split(&mut opening);
     assert_eq!(rt; (one.session(), two.session()), (1, 2));
-    let inside = let_in(&rt, &desk, desk.draw(one));
-    let waiting = not_yet(&rt, &desk, desk.draw(two));
-    let waiting = not_yet(&rt, &desk, waiting);
+    let inside = let_in(rt, &desk, desk.draw(one));
+    let waiting = not_yet(rt, &desk, desk.draw(two));
+    let waiting = not_yet(rt, &desk, waiting);
     let one = inside.leave(&desk);
-    let two = let_in(&rt, &desk, waiting).leave(&desk);
+    let two = let_in(rt, &desk, waiting).leave(&desk);
     desk.meet(&mut opening, one);
     desk.meet(&mut opening, two);
     assert_eq!(rt; desk.close(opening).len(), 0);
     Ok(())
 }
 
-/// A book of one entry: the second call comes back, and the seat still gets in.
 #[test]
-fn full_book(rt: HostRuntime) -> Result<(), Fail> {
-    let (desk, mut opening) = open(rt.alloc(), 1, 2)?;
+fn second_waits_for_the_first(rt: HostRuntime) -> Result<(), Fail> {
+    for _ in 0..100 {
+        two_in_turn(&rt, rt.alloc())?;
+    }
+    Ok(())
+}
+
+/// A book of one entry: the second call comes back, and the seat still gets in.
+fn one_entry_alone<R: Wait + Abort>(rt: &R, alloc: Global) -> Result<(), Fail> {
+    let (desk, mut opening) = open(alloc, 1, 2)?;
     let seat = desk.split(&mut opening);
-    let (seat, first) = desk.hand_in(&rt, seat, call(rt.alloc(), b'A', 1)?);
+    let (seat, first) = desk.hand_in(rt, seat, call(alloc, b'A', 1)?);
     let Ok(reply) = first else {
         panic!(rt; "there is room for one")
     };
@@ -36,16 +45,24 @@ fn full_book(rt: HostRuntime) -> Result<(), Fail> {
             version: 1
         }
     );
-    let (seat, second) = desk.hand_in(&rt, seat, call(rt.alloc(), b'A', 2)?);
+    let (seat, second) = desk.hand_in(rt, seat, call(alloc, b'A', 2)?);
     let Err(refused) = second else {
         panic!(rt; "there is room for one alone")
     };
     assert_eq!(rt; refused.why, WhyRefused::Full);
     assert_eq!(rt; refused.call.number(), key(b'A', 2));
-    let seat = let_in(&rt, &desk, desk.draw(seat)).leave(&desk);
+    let seat = let_in(rt, &desk, desk.draw(seat)).leave(&desk);
     assert_eq!(rt; seat.turns_left(), 4294967292);
     desk.meet(&mut opening, seat);
     assert_eq!(rt; desk.close(opening).len(), 1);
+    Ok(())
+}
+
+#[test]
+fn full_book(rt: HostRuntime) -> Result<(), Fail> {
+    for _ in 0..100 {
+        one_entry_alone(&rt, rt.alloc())?;
+    }
     Ok(())
 }
 
