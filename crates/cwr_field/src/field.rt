@@ -26,6 +26,8 @@ impl<'a> Model for Field<'a> {
 
 /// The field of a line from a position, counted from 1, with so many bytes.
 ///
+/// The position is at most 13,000,000,158, where the last field of the longest register line begins; the width is from
+/// 1 to 150.
 /// A line that is too short for the field reads as if blanks followed it without end.
 pub fn cut(line: &[u8], start: usize, width: usize) -> Field<'_>
     requires start { (1 ≤ start) × (start ≤ 13000000158) }

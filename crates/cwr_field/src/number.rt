@@ -9,7 +9,7 @@ use std::alloc::Allocator;
 /// All of a right, in hundredths of one per cent.
 const WHOLE: u64 = 10000;
 
-/// The number that bytes spell, where each is a digit.
+/// The number that at most 18 bytes spell, where each is a digit.
 pub(crate) fn number_in(bytes: &[u8]) -> Option<u64>
     requires { length bytes.now ≤ 18 }
     ensures value { result ≡ number_of bytes.now }
@@ -51,7 +51,7 @@ pub fn share(text: Field) -> Option<u16>
     }
 }
 
-/// Appends a number in so many digits, with leading zeros.
+/// Appends a number in so many digits, at most 18, with leading zeros. It fits them.
 ///
 /// A refusal leaves the vector as it was.
 pub fn put_digits<A: Allocator>(

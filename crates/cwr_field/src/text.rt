@@ -4,7 +4,7 @@ ghost use Rattle.cwr_field.specs.Layout.{padded};
 use crate::memory::Memory;
 use std::alloc::Allocator;
 
-/// Appends a text, and blanks up to the width.
+/// Appends a text, which is no longer than the width, and blanks up to the width.
 ///
 /// A refusal leaves the vector as it was.
 pub fn put_text<A: Allocator>(out: &mut Vec<u8, A>, text: &[u8], width: usize) -> Result<(), Memory>

@@ -24,7 +24,8 @@ use std::alloc::Allocator;
 ///
 /// Its lines, each with CR LF at its end, are HDR, GRH, for each transaction an ACK and after that of
 /// a rejected one a MSG for each of its faults, GRT and TRL. Titles and numbers of submitters are
-/// written as they stand. All memory is asked for at once.
+/// written as they stand. Transactions and told faults are at most 99,999,995 together, so that the
+/// counts fit. All memory is asked for at once; where it is refused nothing is left.
 pub fn ack_file<A: Allocator + Copy>(
     alloc: A,
     stamp: &Stamp,

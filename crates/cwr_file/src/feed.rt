@@ -34,7 +34,8 @@ impl<'a> Model for Feed<'a> {
 }
 
 impl<'a> Feed<'a> {
-    /// Gives the bytes, at most `piece` of them in a read, and fails at the read `fail`, counted from 1.
+    /// Gives the bytes, at most `piece` of them in a read, which is not 0, and fails at the read `fail`, counted from 1;
+    /// at none for `None` and for 0.
     pub fn new(bytes: &'a [u8], piece: usize, fail: Option<u64>) -> Feed<'a>
         requires { 0 < piece }
         ensures left { result.left ≡ bytes.now }

@@ -33,7 +33,7 @@ impl<A: Allocator> Model for Room<A> {
 }
 
 impl<A: Allocator> Room<A> {
-    /// A sink that takes `size` bytes in all. When it is full it fails, or where not `fails` takes 0.
+    /// A sink that takes `size` bytes in all. When it is full it fails, or takes 0 bytes where `fails` is false.
     ///
     /// All its memory is asked for here, and no later call takes any.
     pub fn new(alloc: A, size: usize, fails: bool) -> Result<Room<A>, Memory>

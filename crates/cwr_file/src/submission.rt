@@ -34,10 +34,11 @@ pub struct Submission<'a, A: Allocator = Global> {
 
 /// Reads a file: an HDR line, groups and a TRL line, each group a GRH line, transactions and a GRT line.
 ///
-/// A well-formed file gives its header, its transactions and its counts: numbers that have the digits of their fields,
-/// transactions of at least one line, at most half as many lines as bytes, and a sender without a byte below 32. Any
-/// other gives its first fault: of its faulty lines the first, and of that line's faults the least. The bytes are gone over once. Memory is asked for the
-/// places of the transactions alone.
+/// A well-formed file gives its header, its transactions and its counts: group ids of at most five digits, sequences of
+/// at most eight, transactions of at least one line, at most half as many lines as bytes, and a sender without a byte
+/// below 32. Any other gives its first fault: of its faulty lines the first, and of that line's faults the least. The
+/// bytes are gone over once. Memory is asked for the places of the transactions alone; that it was refused says nothing
+/// of the file.
 pub fn parse_file<'a, A: Allocator>(
     alloc: A,
     bytes: &'a [u8],

@@ -64,8 +64,8 @@ IsHeld Code width (Maybe None) = width ≡ 11
 IsHeld Code width (Maybe (Some n)) = (n < 10 ^ 9) × (width ≡ 11)
 IsHeld content width value = ⊥
 
--- The record has in each part what the field can hold. Of a record of a program only Fits is open: its texts have
--- their widths, and its days and times are of the calendar, by their types.
+-- The record has in each part what the field can hold. Of a record that a program made this says no more than Fits: its
+-- texts have their widths, and its days and times are of the calendar, by their types.
 abbrev pub IsWhole : {X : Type 0} → List (Part X) → X → Type 0
 IsWhole [] x = Unit {0}
 IsWhole (Read s part ∷ parts) x = IsHeld s.content s.width (part x) × IsWhole parts x

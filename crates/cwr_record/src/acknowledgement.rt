@@ -18,7 +18,7 @@ use std::alloc::Allocator;
 /// The acknowledgement of a transaction: ACK, Acknowledgement of Transaction.
 #[derive(Clone, Copy, Debug, PartialEq, Eq)]
 pub struct Ack {
-    /// The place of this record in the acknowledgement file.
+    /// The place of this record in the acknowledgement file, bytes 4 to 19.
     pub prefix: Prefix,
     /// Creation date of the acknowledged file, bytes 20 to 27.
     pub creation_date: Day,

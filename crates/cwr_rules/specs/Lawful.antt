@@ -5,7 +5,7 @@ use Rattle.std.specs.Char.{is_ascii_uppercase}
 use Rattle.cwr_file.specs.declared.transaction_fault.Fault.{Fault}
 use Rattle.cwr_rules.specs.CallValue.{CallValue}
 
--- no byte is a control character
+-- no byte is below 32
 abbrev pub is_clean : List ℕ → Bool
 is_clean bytes = list_all (λ b. nat_le 32 b) bytes
 

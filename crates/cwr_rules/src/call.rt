@@ -37,7 +37,8 @@ impl<A: Allocator> Model for Call<A> {
 }
 
 impl<A: Allocator> Call<A> {
-    /// The call of these parts, or `None` where they can be those of no call. No memory is asked for.
+    /// The call of these parts, or `None` where they can be those of no call: the faults are then dropped. No memory is
+    /// asked for.
     ///
     /// They can where no byte of submitter, title and number is below 32; the ISWC is at most 999,999,999; no control
     /// is above 999,999,990,000, and without faults none above 10006; and there are at most 999,999,999 faults,

@@ -50,7 +50,9 @@ fn faults_of<A: Allocator + Copy>(
 
 /// The call of a transaction: its parts, its control, and every fault of its rules.
 ///
-/// It is judged whether or not it has faults. Memory is asked for its records and its faults alone.
+/// It is judged whether or not it has faults. No byte of the submitter is below 32. Memory is asked for its records in
+/// short form, the parties of its publishers, the totals of its territories and its faults; where it is refused nothing
+/// is left.
 pub fn judge<A: Allocator + Copy>(
     alloc: A,
     transaction: &RawTransaction,

@@ -5,7 +5,7 @@ ghost use Rattle.cwr_rules.specs.Lawful.{is_clean, is_fault, is_before, rises, a
 
 use cwr_file::Fault;
 
-/// Whether no byte is a control character.
+/// Whether no byte is below 32.
 pub(crate) fn is_clean(bytes: &[u8]) -> bool
     ensures { result ≡ is_clean bytes.now }
 {

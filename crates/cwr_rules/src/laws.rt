@@ -1,4 +1,6 @@
 //! What the definitions mean: the record order is that of the pattern, and the faults are all that hold, in order.
+//!
+//! A law is a function that does nothing. Its contract is what is proved.
 
 ghost use Rattle.std.specs.Prelude.{◌≡◌, ◌↔◌, ◌∷◌, ℕ, true, List, reverse, IsSome, IsTrue};
 ghost use Rattle.cwr_file.specs.declared.transaction_fault.Fault.{Fault};

@@ -54,16 +54,6 @@ fn is_off(total: u64) -> bool
     total != 0 && !(9994 <= total && total <= 10006)
 }
 
-/// The record type of a transaction's header.
-fn header_name(kind: WorkKind) -> [u8; 3]
-    ensures { result ≡ work_kind_code kind }
-{
-    match kind {
-        WorkKind::Nwr => *b"NWR",
-        WorkKind::Rev => *b"REV",
-    }
-}
-
 /// Appends the faults of the transaction as a whole.
 pub(crate) fn push_faults_of_whole<A: Allocator + Copy>(
     faults: &mut Vec<Fault, A>,
@@ -74,7 +64,7 @@ pub(crate) fn push_faults_of_whole<A: Allocator + Copy>(
     ensures { OnOk result ((records : List Record) → IsSummary summary.now.sums summary.now.parties.set (get nat_eq summary.now.collected.by_code) summary.now.collected.is_over records
         → faults.new.items ≡ faults.old.items ++ all_found 0 (work_kind_code kind) (head_rules head.now records)) }
 {
-    let rtype = header_name(kind);
+    let rtype = *kind.code();
     let ownership = summary.sums.ownership;
     push_found(faults, 0, rtype, 2, is_blank(cut(head, 20, 60)))?;
     push_found(faults, 0, rtype, 3, is_blank(cut(head, 82, 14)))?;

@@ -1,4 +1,4 @@
-//! Two fair locks as pure state machines, proved to let at most one place in.
+//! Two locks as pure state machines, proved to let at most one place in.
 //!
 //! A lock has a number of places. Each place goes through its phases by events, and a lock answers
 //! an event with its outcome: a thread that runs one of these locks over atomic words does one such
