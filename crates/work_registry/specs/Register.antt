@@ -1,5 +1,5 @@
 -- The text of a register: a line with the number of entries, and a line for each entry. An LF ends each line.
-use Rattle.std.specs.Prelude.{◌≡◌, ℕ, ◌+◌, ◌<◌, ◌^◌, List, [], ◌∷◌, ◌++◌, length, codes, IsTrue, unwrap_or}
+use Rattle.std.specs.Prelude.{◌≡◌, ℕ, ◌+◌, ◌≤◌, ◌<◌, ◌^◌, List, [], ◌∷◌, ◌++◌, length, codes, IsTrue, unwrap_or}
 use Rattle.std.specs.List.{AllByRecursion}
 use Rattle.cwr_field.specs.Number.{number_text}
 use Rattle.cwr_rules.specs.CallValue.{CallValue}
@@ -7,6 +7,7 @@ use Rattle.cwr_rules.specs.Lawful.{is_lawful}
 use Rattle.work_registry.specs.declared.reply.Reply.{Reply}
 use Rattle.work_registry.specs.EntryValue.{EntryValue}
 use Rattle.work_registry.specs.History.{IsHistory}
+use Rattle.work_registry.specs.Numbers.{most_entries}
 use Rattle.work_registry.specs.Replay.{is_opening}
 use Rattle.work_registry.specs.Told.{status_in, work_in, version_in}
 use Rattle.work_registry.specs.RegisterLine.{EntryLine, line_text, IsTyped}
@@ -64,10 +65,13 @@ pub record IsWholeEntry (e : EntryValue) : Type 0 where
   pub control : length e.call.control ≡ 3
   pub types : AllByRecursion IsTyped e.call.faults
 
--- the text is the register of a history of one registry with so many entries, all of the opening
+-- the text is the register of a history of one registry with so many entries, all of the opening, each of which can be
+-- told and is of a call
 pub record IsAudited (text : List ℕ) (count : ℕ) : Type 0 where
   pub history : List EntryValue
   pub register : text ≡ register_text history
   pub lawful : IsHistory history
   pub opening : IsTrue (is_opening history)
+  pub whole : AllByRecursion IsWholeEntry history
   pub entries : length history ≡ count
+  pub few : count ≤ most_entries

@@ -64,6 +64,7 @@ pub fn read_register<A: Allocator + Copy + Drop>(
     ensures lawful { IfOk result (λ book. IsHistory book.history) }
     ensures opening { IfOk result (λ book. IsTrue (is_opening book.history)) }
     ensures fits { IfOk result (λ book. length book.history ≤ limit) }
+    ensures whole { IfOk result (λ book. AllByRecursion IsWholeEntry book.history) }
     // What was written of a history that the limit holds is read again, and then nothing but memory is refused.
     ensures again { (history : List EntryValue) → IsHistory history → AllByRecursion IsWholeEntry history → length history ≤ limit → bytes.now ≡ register_text history
         → MatchResult result (λ book. book.history ≡ map opened history) (λ refusal. refusal ≡ refused) }
