@@ -7,6 +7,7 @@ mod plain;
 mod revisions;
 
 use crate::{Book, Call, Fault, Faults, Reply, WorkKind};
+pub(crate) use revisions::revised;
 use std::alloc::Global;
 use std::test::Fail;
 
@@ -16,6 +17,8 @@ pub(crate) const ONE: [u8; 11] = *b"PB000000123";
 pub(crate) const OTHER: [u8; 11] = *b"PB000000456";
 
 pub(crate) const W1: [u8; 14] = *b"W1            ";
+
+pub(crate) const TITLE: [u8; 60] = *b"SONG ONE                                                    ";
 
 /// The nine digits of ISWC T0345246801.
 pub(crate) const ISWC: Option<u64> = Some(34524680);
@@ -41,14 +44,12 @@ pub(crate) fn controlled(
     iswc: Option<u64>,
     control: [u64; 3],
 ) -> Result<Call, Fail> {
-    let title = *b"SONG ONE                                                    ";
     let faults = Faults::new(Vec::new(alloc));
-    Ok(Call::of(submitter, kind, title, number, iswc, control, faults).ok_or("no call")?)
+    Ok(Call::of(submitter, kind, TITLE, number, iswc, control, faults).ok_or("no call")?)
 }
 
 /// A revision whose ISWC has a wrong check digit.
 pub(crate) fn call_with_fault(alloc: Global) -> Result<Call, Fail> {
-    let title = *b"SONG ONE                                                    ";
     let faults = [Fault {
         sequence: 0,
         number: 4,
@@ -56,7 +57,7 @@ pub(crate) fn call_with_fault(alloc: Global) -> Result<Call, Fail> {
     }]
     .to_vec(alloc)?;
     let faults = Faults::new(faults);
-    Ok(Call::of(ONE, WorkKind::Rev, title, W1, None, [5000; 3], faults).ok_or("no call")?)
+    Ok(Call::of(ONE, WorkKind::Rev, TITLE, W1, None, [5000; 3], faults).ok_or("no call")?)
 }
 
 /// Hands a call in, which must be taken.

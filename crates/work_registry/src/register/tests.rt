@@ -1,11 +1,11 @@
 //! Registers, byte for byte, and texts that are none.
 
-ghost use Rattle.std.specs.Prelude.{◌≤◌};
-
 mod damage;
+mod ten_entries;
 mod texts;
 
-use crate::{Book, Call, Fault, Faults, RegisterRefusal, WorkKind, audit};
+use crate::tests::{ONE, TITLE, W1, call};
+use crate::{Call, Fault, Faults, RegisterRefusal, WorkKind, audit};
 use std::alloc::{AllocError, Global};
 use std::test::Fail;
 
@@ -19,23 +19,11 @@ pub(crate) fn one_entry(alloc: Global) -> Result<String, AllocError> {
 
 /// The call of that entry, or one with another number of the work.
 pub(crate) fn whole_call(alloc: Global, number: [u8; 14]) -> Result<Call, Fail> {
-    let title = *b"SONG ONE                                                    ";
-    let faults = Faults::new(Vec::new(alloc));
-    Ok(Call::of(
-        *b"PB000000123",
-        WorkKind::Nwr,
-        title,
-        number,
-        None,
-        [10000; 3],
-        faults,
-    )
-    .ok_or("no call")?)
+    call(alloc, ONE, WorkKind::Nwr, number, None, 10000)
 }
 
 /// The call of a transaction whose writer has no share of the performing right: 10001 is none.
 pub(crate) fn faulty_call(alloc: Global) -> Result<Call, Fail> {
-    let title = *b"SONG ONE                                                    ";
     let faults = [Fault {
         sequence: 1,
         number: 6,
@@ -43,25 +31,15 @@ pub(crate) fn faulty_call(alloc: Global) -> Result<Call, Fail> {
     }]
     .to_vec(alloc)?;
     Ok(Call::of(
-        *b"PB000000123",
+        ONE,
         WorkKind::Nwr,
-        title,
-        *b"W1            ",
+        TITLE,
+        W1,
         None,
         [0, 10000, 10000],
         Faults::new(faults),
     )
     .ok_or("no call")?)
-}
-
-/// Hands a call in for a session, which the book must take.
-pub(crate) fn hand_in(book: &mut Book, session: u32, call: Call) -> Result<crate::Reply, Fail>
-    requires { session ≤ 63 }
-{
-    match book.apply(session, call) {
-        Ok(reply) => Ok(reply),
-        Err(_refused) => Err("the call was refused")?,
-    }
 }
 
 /// The number and the line of the fault of a text, or nothing where it is a register.

@@ -7,7 +7,7 @@ use std::test::Fail;
 const W7: [u8; 14] = *b"W7            ";
 
 /// A book in which one submitter gives up a part of its claim, so that another's is accepted at its second try.
-fn revised(rt: &impl Abort, alloc: Global) -> Result<Book, Fail> {
+pub(crate) fn revised(rt: &impl Abort, alloc: Global) -> Result<Book, Fail> {
     let mut book = Book::new(alloc, 100);
     for (control, first, next) in [
         (

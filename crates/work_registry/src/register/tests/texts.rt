@@ -1,4 +1,5 @@
-use super::{fault_of, faulty_call, hand_in, one_entry, whole_call};
+use super::{fault_of, faulty_call, one_entry, whole_call};
+use crate::tests::{W1, reply};
 use crate::{Book, RegisterRefusal, Reply, audit, read_register};
 use std::alloc::{AllocError, Global};
 use std::test::Fail;
@@ -21,7 +22,7 @@ fn without_entries(rt: HostRuntime) -> Result<(), Fail> {
 fn with_one_entry(rt: HostRuntime) -> Result<(), Fail> {
     let alloc = rt.alloc();
     let mut book = Book::new(alloc, 10);
-    hand_in(&mut book, 1, whole_call(alloc, *b"W1            ")?)?;
+    reply(&mut book, whole_call(alloc, W1)?)?;
     let text = book.write_register(alloc)?;
     assert_eq!(rt; text.len(), 186);
     assert_eq!(rt; text.as_slice(), one_entry(alloc)?.as_bytes());
@@ -32,7 +33,7 @@ fn with_one_entry(rt: HostRuntime) -> Result<(), Fail> {
 /// The register of a book with one rejected call.
 fn with_a_fault(alloc: Global) -> Result<Vec<u8>, Fail> {
     let mut book = Book::new(alloc, 10);
-    hand_in(&mut book, 1, faulty_call(alloc)?)?;
+    reply(&mut book, faulty_call(alloc)?)?;
     Ok(book.write_register(alloc)?)
 }
 
@@ -67,8 +68,8 @@ fn text_with_another_fault(rt: HostRuntime) -> Result<(), Fail> {
 /// The register of a book that is full with two works.
 fn of_two_works(alloc: Global) -> Result<Vec<u8>, Fail> {
     let mut book = Book::new(alloc, 2);
-    hand_in(&mut book, 1, whole_call(alloc, *b"W1            ")?)?;
-    hand_in(&mut book, 1, whole_call(alloc, *b"W2            ")?)?;
+    reply(&mut book, whole_call(alloc, W1)?)?;
+    reply(&mut book, whole_call(alloc, *b"W2            ")?)?;
     Ok(book.write_register(alloc)?)
 }
 
@@ -100,7 +101,7 @@ fn calls_after_reading(rt: HostRuntime) -> Result<(), Fail> {
     let text = of_two_works(rt.alloc())?;
     let mut book = read_register(rt.alloc(), &text, 10)?;
     for (number, wanted) in [
-        (*b"W1            ", Reply::Duplicate { work: 1 }),
+        (W1, Reply::Duplicate { work: 1 }),
         (*b"W2            ", Reply::Duplicate { work: 2 }),
         (
             *b"W3            ",
@@ -111,7 +112,7 @@ fn calls_after_reading(rt: HostRuntime) -> Result<(), Fail> {
         ),
     ] {
         let call = whole_call(rt.alloc(), number)?;
-        assert_eq!(rt; hand_in(&mut book, 1, call)?, wanted);
+        assert_eq!(rt; reply(&mut book, call)?, wanted);
     }
     let longer = book.write_register(rt.alloc())?;
     assert_eq!(rt; audit(rt.alloc(), &longer), Ok(5));
