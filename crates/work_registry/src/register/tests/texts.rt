@@ -1,7 +1,8 @@
 use super::{fault_of, faulty_call, one_entry, whole_call};
 use crate::tests::{W1, reply};
-use crate::{Book, RegisterRefusal, Reply, audit, read_register};
+use crate::{Book, Entry, Fault, RegisterRefusal, Reply, audit, read_register};
 use std::alloc::{AllocError, Global};
+use std::process::Abort;
 use std::test::Fail;
 
 /// Twelve bytes without an entry, and no line at all.
@@ -65,6 +66,11 @@ fn text_with_another_fault(rt: HostRuntime) -> Result<(), Fail> {
     Ok(())
 }
 
+/// The reply to the first call for a work.
+fn new_work(work: u32) -> Reply {
+    Reply::Accepted { work, version: 1 }
+}
+
 /// The register of a book that is full with two works.
 fn of_two_works(alloc: Global) -> Result<Vec<u8>, Fail> {
     let mut book = Book::new(alloc, 2);
@@ -73,15 +79,60 @@ fn of_two_works(alloc: Global) -> Result<Vec<u8>, Fail> {
     Ok(book.write_register(alloc)?)
 }
 
-/// What was written is read again, with every entry of the opening.
+/// What an entry is to say: the number of its work, its faults and the reply to it.
+type Said<'a> = ([u8; 14], &'a [Fault], Reply);
+
+fn expect_entry(rt: &impl Abort, entry: &Entry, wanted: &Said) {
+    let (number, faults, reply) = wanted;
+    assert_eq!(rt; entry.session(), 0);
+    assert_eq!(rt; entry.call().number(), *number);
+    assert_eq!(rt; entry.call().faults(), *faults);
+    assert_eq!(rt; entry.reply(), *reply);
+}
+
+/// The text is read as these entries, every one of the opening, and written again it is the same.
+fn expect_again(rt: &impl Abort, alloc: Global, text: &[u8], wanted: &[Said]) -> Result<(), Fail> {
+    let book = read_register(alloc, text, 10)?;
+    assert_eq!(rt; book.limit(), 10);
+    assert!(rt; book.is_opening());
+    assert_eq!(rt; book.len(), wanted.len());
+    for (entry, wanted) in book.history().iter().zip(wanted) {
+        expect_entry(rt, entry, wanted);
+    }
+    assert_eq!(rt; book.write_register(alloc)?.as_slice(), text);
+    Ok(())
+}
+
+/// What was written is read again: two works of one submitter.
 #[test]
 fn read_again(rt: HostRuntime) -> Result<(), Fail> {
     let text = of_two_works(rt.alloc())?;
-    let book = read_register(rt.alloc(), &text, 10)?;
-    assert_eq!(rt; book.len(), 2);
-    assert_eq!(rt; book.limit(), 10);
-    assert!(rt; book.is_opening());
-    Ok(())
+    let works = [
+        (W1, [].as_slice(), new_work(1)),
+        (*b"W2            ", [].as_slice(), new_work(2)),
+    ];
+    expect_again(&rt, rt.alloc(), &text, &works)
+}
+
+/// So is a rejected call.
+#[test]
+fn read_a_fault_again(rt: HostRuntime) -> Result<(), Fail> {
+    let text = with_a_fault(rt.alloc())?;
+    let faults = [Fault {
+        sequence: 1,
+        number: 6,
+        rtype: *b"SWR",
+    }];
+    let rejected = [(W1, faults.as_slice(), Reply::Rejected)];
+    expect_again(&rt, rt.alloc(), &text, &rejected)
+}
+
+/// So is the text of one entry.
+#[test]
+fn read_one_entry_again(rt: HostRuntime) -> Result<(), Fail> {
+    let text = one_entry(rt.alloc())?;
+    let wanted = [(W1, [].as_slice(), new_work(1))];
+    expect_again(&rt, rt.alloc(), text.as_bytes(), &wanted)
 }
 
 #[test]
@@ -103,13 +154,7 @@ fn calls_after_reading(rt: HostRuntime) -> Result<(), Fail> {
     for (number, wanted) in [
         (W1, Reply::Duplicate { work: 1 }),
         (*b"W2            ", Reply::Duplicate { work: 2 }),
-        (
-            *b"W3            ",
-            Reply::Accepted {
-                work: 3,
-                version: 1,
-            },
-        ),
+        (*b"W3            ", new_work(3)),
     ] {
         let call = whole_call(rt.alloc(), number)?;
         assert_eq!(rt; reply(&mut book, call)?, wanted);
