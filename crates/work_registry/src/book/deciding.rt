@@ -35,7 +35,6 @@ impl<A: Allocator + Copy + Drop> Book<A> {
         requires known { claim ≡ claim_of (key_of call.now) (rows_of self.now.history) }
         ensures { result ≡ reply_to (rows_of self.now.history) call.now }
     {
-        let _ = &self.history;
         if !call.faults().is_empty() {
             return Reply::Rejected;
         }
@@ -60,6 +59,7 @@ impl<A: Allocator + Copy + Drop> Book<A> {
         requires known { claim ≡ claim_of (key_of call.now) (rows_of self.now.history) }
         ensures { result ≡ reply_for_work (rows_of self.now.history) call.now work }
     {
+        // Looking at it tells the check what holds in every book.
         let _ = &self.history;
         if self.is_over(key, claim, work, call.control()) {
             return Reply::Conflict { work };
@@ -78,6 +78,7 @@ impl<A: Allocator + Copy + Drop> Book<A> {
         requires { claim ≡ claim_of key.now (rows_of self.now.history) }
         ensures { result ≡ is_over work key.now control (rows_of self.now.history) }
     {
+        // Looking at it tells the check what holds in every book.
         let _ = &self.history;
         are_over_whole(self.others(key, claim, work), control)
     }
@@ -116,6 +117,7 @@ impl<A: Allocator + Copy + Drop> Book<A> {
     pub(super) fn work(&self, work: u32) -> KeptWork
         ensures { result ≡ kept_work work (rows_of self.now.history) }
     {
+        // Looking at it tells the check what holds in every book.
         let _ = &self.kept;
         if work == 0 {
             return KeptWork {
@@ -171,6 +173,7 @@ impl<A: Allocator + Copy + Drop> Book<A> {
         requires decided { reply ≡ reply_to (rows_of self.now.history) call.now }
         ensures { result ≡ change_of (rows_of self.now.history) call.now reply }
     {
+        // Looking at it tells the check what holds in every book.
         let _ = &self.history;
         let Reply::Accepted { work, version } = reply else {
             return None;
