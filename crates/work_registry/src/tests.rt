@@ -4,6 +4,7 @@ mod conflicts;
 mod limits;
 mod many_calls;
 mod plain;
+mod replies;
 mod revisions;
 
 use crate::{Book, Call, Fault, Faults, Reply, WorkKind};
