@@ -26,7 +26,8 @@ pub struct Checked<A: Allocator = Global> {
 /// For a file that is not well-formed the text is its first fault, as `refused F9 at line 5`. For any other it has a
 /// line for each transaction, in the order of the file: its group id in five digits, its transaction sequence in
 /// eight, its kind (NWR or REV), and then `ok`, or `rejected` and each of its faults, as `1:J6` for a record sequence
-/// and the number of a rule; and a last line, as `2 transactions, 1 with faults`. Each line has LF at its end.
+/// and the number of a rule; and a last line, as `2 transactions, 1 with faults`. Each line has LF at its end. Where
+/// memory is refused nothing is told.
 pub fn check_text<A: Allocator + Copy>(alloc: A, bytes: &[u8]) -> Result<Checked<A>, Memory>
     ensures { IfOk result (λ checked. IsCheck (lines bytes.now) checked.text.items checked.clean) }
 {

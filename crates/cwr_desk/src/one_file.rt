@@ -14,8 +14,10 @@ pub(crate) const LIMIT: u32 = 99_999_999;
 
 /// Acknowledges one file into an empty registry.
 ///
-/// Reads the file to its end, decides its transactions in file order and writes their acknowledgement. A file that is
-/// not well-formed is answered with its first fault, and nothing is written.
+/// Reads the file to its end, decides its transactions in file order and writes their acknowledgement. At most
+/// 16,777,216 bytes are taken. A file that is not well-formed is answered with its first fault, and nothing is written.
+/// A job that is stopped for a write leaves the first bytes of the acknowledgement in the writer; one that is stopped
+/// for anything else leaves nothing there. The book is dropped.
 pub fn acknowledge<R: Source, W: Sink, A: Allocator + Copy + Drop>(
     alloc: A,
     reader: &mut R,

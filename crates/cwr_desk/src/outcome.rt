@@ -13,20 +13,35 @@ pub enum Why {
     TooLong,
     /// The gate was shut.
     Gate,
-    /// A write failed, or took nothing, after so many bytes of the acknowledgement.
-    Write { sent: u64 },
+    /// A write failed, or took nothing.
+    Write {
+        /// How many bytes of the acknowledgement were written: its first ones.
+        sent: u64,
+    },
 }
 
 /// How a job ended: what became of one file.
 #[derive(Clone, Copy, Debug, PartialEq, Eq, Hash)]
 pub enum FileOutcome {
     /// Each of the file's transactions was decided, and the acknowledgement was written whole.
-    Acked { transactions: u32 },
-    /// The file is not well-formed: its first fault, F1 to F12, and that fault's line, from 1.
-    /// Nothing was decided and nothing written.
-    Refused { number: u8, line: u64 },
+    Acked {
+        /// How many transactions the file has.
+        transactions: u32,
+    },
+    /// The file is not well-formed: this is its first fault. Nothing was decided and nothing written.
+    Refused {
+        /// The fault, 1 to 12 for F1 to F12.
+        number: u8,
+        /// The line that has it, from 1. The one after the last line is the end of the file.
+        line: u64,
+    },
     /// So many of its transactions were decided, in file order, and then the job was stopped.
-    Stopped { handed: u32, why: Why },
+    Stopped {
+        /// How many transactions were decided. Their entries stay in the book.
+        handed: u32,
+        /// What stopped the job.
+        why: Why,
+    },
 }
 
 impl fmt::Display for Why {

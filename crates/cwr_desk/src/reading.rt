@@ -26,7 +26,8 @@ const PIECE: usize = 65536;
 
 /// Reads to the end, and at most `limit` bytes.
 ///
-/// It ends after at most `limit` + 2 reads, however few bytes each of them gives.
+/// It asks for 65,536 bytes at a time, so up to that many past the limit may have been read. It ends after at most
+/// `limit` + 2 reads, however few bytes each of them gives. With an error the bytes that were read are dropped.
 pub fn read_file<R: Source, A: Allocator>(
     alloc: A,
     reader: &mut R,

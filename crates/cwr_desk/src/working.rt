@@ -17,8 +17,12 @@ use std::sync::Wait;
 /// Works one file at a seat: reads it to its end, hands its transactions in, in file order, and writes their
 /// acknowledgement.
 ///
-/// The worker is the seat's session, and the gate is passed before and after each transaction. A transaction that gets
-/// no reply ends the job. It waits whenever another seat is inside.
+/// The seat is one of this desk, not the opening one, and has at least 99,999,995 turns left, one for each transaction
+/// that a file may have; `worker` is its session. A transaction that gets no reply ends the job, and the entries made
+/// before it stay. It waits whenever another seat is inside.
+///
+/// That the gate is passed before and after each transaction is tested only. What is promised is that a job stops for
+/// the gate only where the gate may shut, and with a transaction of the file left.
 pub fn work<T: Wait, R: Source, W: Sink, G: Gate, A: Allocator + Copy + Drop>(
     rt: &T,
     alloc: A,
