@@ -15,7 +15,7 @@ use work_registry::{Call, WhyRefused};
 
 /// Who works, and the transaction in hand.
 #[derive(Clone, Copy)]
-pub(crate) struct Turn {
+pub(crate) struct InHand {
     /// The worker, from 1.
     pub(crate) worker: u32,
     /// How many transactions of the file come before this one.
@@ -29,28 +29,28 @@ pub(crate) fn decide<H: Window<Call<A>>, G: Gate, A: Allocator + Copy + Drop>(
     alloc: A,
     window: H,
     gate: &G,
-    turn: Turn,
+    in_hand: InHand,
     transaction: &RawTransaction,
 ) -> (H, Result<AckItem<A>, Why>)
     requires turns { 0 < H.turns_left window }
-    requires clean { IsTrue (is_clean turn.submitter) }
+    requires clean { IsTrue (is_clean in_hand.submitter) }
     requires placed { IsPlaced transaction.now }
     ensures session { H.session result.0 ≡ H.session window }
     ensures limit { H.limit result.0 ≡ H.limit window }
     ensures home { H.home result.0 ≡ H.home window }
     ensures turns { H.turns_left window ≤ H.turns_left result.0 + 1 }
-    ensures answered { IfOk result.1 (IsAnswered (H.session window) turn.submitter transaction.now (H.list window) (H.list result.0)
+    ensures answered { IfOk result.1 (IsAnswered (H.session window) in_hand.submitter transaction.now (H.list window) (H.list result.0)
         (H.whole window) (H.whole result.0)) }
     ensures kept { OnErr result.1 ((H.list result.0 ≡ H.list window) × (H.whole result.0 ≡ H.whole window)) }
     ensures why { IfErr result.1 (IsCause (H.marked result.0) (G.may_shut gate.now)) }
 {
-    let Ok(call) = judge(alloc, transaction, turn.submitter) else {
+    let Ok(call) = judge(alloc, transaction, in_hand.submitter) else {
         return (window, Err(Why::Memory));
     };
     let Ok(faults) = copied(alloc, call.faults()) else {
         return (window, Err(Why::Memory));
     };
-    if gate.before(turn.worker, turn.index).is_err() {
+    if gate.before(in_hand.worker, in_hand.index).is_err() {
         return (window, Err(Why::Gate));
     }
     let kind = call.kind();
@@ -59,7 +59,7 @@ pub(crate) fn decide<H: Window<Call<A>>, G: Gate, A: Allocator + Copy + Drop>(
     let (window, reply) = window.hand_in(call);
     match reply {
         Ok(reply) => {
-            gate.after(turn.worker, turn.index);
+            gate.after(in_hand.worker, in_hand.index);
             let item = AckItem {
                 group: transaction.group(),
                 sequence: transaction.sequence(),

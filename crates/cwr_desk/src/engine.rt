@@ -9,7 +9,7 @@ ghost use Rattle.cwr_desk.specs.Account.{most, IsRead};
 ghost use Rattle.cwr_desk.specs.Causes.{cause_of, IsCause};
 ghost use Rattle.cwr_desk.specs.Handing.{AreAnswered, IsWorked};
 
-use crate::decision::{Turn, decide};
+use crate::decision::{InHand, decide};
 use crate::gates::Gate;
 use crate::outcome::{FileOutcome, Why};
 use crate::reading::{MOST_BYTES, ReadRefused, read_file};
@@ -47,12 +47,12 @@ fn hand_in_all<H: Window<Call<A>>, G: Gate, A: Allocator + Copy + Drop>(
 {
     for (index, transaction) in file.transactions.iter().enumerate() {
         let index = index as u32;
-        let turn = Turn {
+        let in_hand = InHand {
             worker,
             index,
             submitter: file.header.sender,
         };
-        let (next, item) = decide(alloc, window, gate, turn, &transaction);
+        let (next, item) = decide(alloc, window, gate, in_hand, &transaction);
         window = next;
         match item {
             Ok(item) => {
