@@ -17,12 +17,20 @@ pub(crate) fn command_line<'a>(alloc: Global) -> Result<Command<'a>, AllocError>
 fn check_command<'a>(alloc: Global) -> Result<Command<'a>, AllocError> {
     Command::new(alloc, "check")
         .about("Tells which rules a CWR 2.2 file breaks")
-        .arg(Arg::new(alloc, "FILE").required(true))
+        .arg(
+            Arg::new(alloc, "FILE")
+                .required(true)
+                .help("a CWR 2.2 file"),
+        )
 }
 
-/// `audit FILE`.
+/// `audit REGISTER`.
 fn audit_command<'a>(alloc: Global) -> Result<Command<'a>, AllocError> {
     Command::new(alloc, "audit")
-        .about("Tells whether a register is one that the registry's rules give")
-        .arg(Arg::new(alloc, "FILE").required(true))
+        .about("Checks every decision of a register")
+        .arg(
+            Arg::new(alloc, "REGISTER")
+                .required(true)
+                .help("a register"),
+        )
 }

@@ -1,4 +1,8 @@
-//! The registry's desk: files are read, decided and acknowledged.
+//! Submission files worked into one book of works: read, checked, decided and acknowledged.
+//!
+//! A [`Job`] is a reader and a writer. [`serve`] works up to 63 jobs on threads, [`serve_in_turn`] on one, [`work`] one at
+//! a seat, [`acknowledge`] one into an empty book; each ends in a [`FileOutcome`]. [`check_text`] tells the faults of a
+//! file; [`run_program`] is the program.
 #![tactic(auto)]
 
 mod at_desk;
@@ -24,6 +28,7 @@ mod registers;
 mod run_words;
 mod running;
 mod serving;
+mod status;
 #[cfg(test)]
 mod tests;
 mod window;

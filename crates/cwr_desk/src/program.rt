@@ -7,6 +7,7 @@ use crate::outcome::FileOutcome;
 use crate::reading::{MOST_BYTES, read_file};
 use crate::registers::audit_file;
 use crate::running::run_files;
+use crate::status::{BAD_WORDS, bad_words, no_memory};
 use clap::ArgMatches;
 use cwr_field::{Clock, Day, cut, date, time};
 use cwr_file::Through;
@@ -17,15 +18,16 @@ use std::sync::Wait;
 use std::thread::Threads;
 use std::{env, io, str};
 
-/// The status of a command line that is not taken.
-const BAD_COMMAND_LINE: u8 = 2;
-
 /// Runs the program on its words, and answers its exit status.
 ///
 /// Without words it acknowledges standard input to standard output. `run` acknowledges files at one book, which may
-/// come from a register and go to one; the status is 0 where all are acknowledged. `check FILE` tells on standard
-/// output which rules a file breaks; the status is 0 where it breaks none. `audit FILE` tells there how many entries a
-/// register has, or its first fault; the status is 0 where it has none.
+/// come from a register and go to one. `check FILE` tells on standard output which rules a file breaks, and
+/// `audit REGISTER` tells there how many entries a register has, or its first fault.
+///
+/// The status is 0 without words where the input is acknowledged; of `run` where all files are, each outcome is told,
+/// and the register that is asked for is kept; of `check` and `audit` where there is no fault, and that is told. It is 2
+/// where the words are not taken: one of them is not text, `clap` answers with a text of its own (so also where help is
+/// asked for), or those of `run` have a [`RunFault`](crate::RunFault). Else it is 1.
 pub fn run_program<R: Env + AllocGlobal + Input + Print + Eprint + Files + Threads + Wait + Sync>(
     rt: &R,
 ) -> ExitCode
@@ -34,7 +36,7 @@ where
     R::Dir: Send,
 {
     let Ok(words) = env::args(rt) else {
-        return not_text(rt);
+        return bad_words(rt, "a word of the command line is not text");
     };
     let words: Vec<String> = match words.collect(rt.alloc()) {
         Ok(words) => words,
@@ -47,7 +49,7 @@ where
         Ok(matches) => run_given(rt, &matches),
         Err(error) => {
             let _ = eprint!(rt; "{error}");
-            ExitCode::from(BAD_COMMAND_LINE)
+            ExitCode::from(BAD_WORDS)
         }
     }
 }
@@ -74,10 +76,10 @@ fn run_on_file<R: AllocGlobal + Print + Eprint + Files>(
     name: &str,
     given: &ArgMatches,
 ) -> ExitCode {
-    match (name, given.get_str("FILE")) {
-        ("check", Some(path)) => check_file(rt, path),
-        ("audit", Some(path)) => audit_file(rt, path),
-        _ => ExitCode::from(BAD_COMMAND_LINE),
+    match (name, given.get_str("FILE"), given.get_str("REGISTER")) {
+        ("check", Some(path), _) => check_file(rt, path),
+        ("audit", _, Some(path)) => audit_file(rt, path),
+        _ => bad_words(rt, "the command line is not taken"),
     }
 }
 
@@ -127,14 +129,4 @@ fn fixed_stamp() -> Stamp {
     let day: Day = date(cut(b"20240601", 1, 8)).unwrap();
     let clock: Clock = time(cut(b"090000", 1, 6)).unwrap();
     Stamp::new(0, b"CWR REGISTRY", day, clock).unwrap()
-}
-
-fn not_text<R: Eprint>(rt: &R) -> ExitCode {
-    let _ = eprintln!(rt; "a word of the command line is not text");
-    ExitCode::from(BAD_COMMAND_LINE)
-}
-
-fn no_memory<R: Eprint>(rt: &R) -> ExitCode {
-    let _ = eprintln!(rt; "stopped: memory");
-    ExitCode::FAILURE
 }

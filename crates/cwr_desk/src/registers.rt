@@ -6,6 +6,7 @@ ghost use Rattle.work_registry.specs.Replay.{is_opening};
 use crate::files::{InputFile, OutputFile};
 use crate::one_file::LIMIT;
 use crate::reading::{ReadRefused, read_file};
+use crate::status::no_memory;
 use cwr_file::write_out;
 use std::process::ExitCode;
 use std::rt::Files;
@@ -90,10 +91,7 @@ pub(crate) fn audit_file<R: AllocGlobal + Print + Eprint + Files>(rt: &R, path: 
             Ok(()) => ExitCode::SUCCESS,
             Err(_) => ExitCode::FAILURE,
         },
-        Err(RegisterRefusal::Memory) => {
-            let _ = eprintln!(rt; "stopped: memory");
-            ExitCode::FAILURE
-        }
+        Err(RegisterRefusal::Memory) => no_memory(rt),
         Err(refusal) => {
             let _ = println!(rt; "{refusal}");
             ExitCode::FAILURE

@@ -3,6 +3,7 @@
 ghost use Rattle.std.specs.Prelude.{◌≡◌, ◌<◌, None, map, length, IfOk};
 ghost use Rattle.cwr_desk.specs.RunFault.{run_fault, run_stamp};
 
+use crate::status::bad_words;
 use crate::words::{RunFault, run_fault};
 use clap::{Arg, ArgAction, ArgMatches, Command};
 use cwr_field::{cut, date, digits, time};
@@ -10,29 +11,30 @@ use cwr_record::Stamp;
 use std::alloc::{AllocError, Global};
 use std::process::ExitCode;
 
-/// The status of words that are wrong.
-pub(crate) const BAD_WORDS: u8 = 2;
-
 /// `run --society NNN --name TEXT --date YYYYMMDD --time HHMMSS [--from REGISTER] [--to REGISTER] FILE..`
 pub(crate) fn run_command<'a>(alloc: Global) -> Result<Command<'a>, AllocError> {
     let files = Arg::new(alloc, "FILE")
         .action(ArgAction::Append)
         .num_args(1..)
-        .required(true);
+        .required(true)
+        .help("a CWR 2.2 file");
     Command::new(alloc, "run")
         .about("Acknowledges CWR 2.2 files, the acknowledgement of FILE in FILE.ack")
-        .arg(option(alloc, "society", "NNN").required(true))?
-        .arg(option(alloc, "name", "TEXT").required(true))?
-        .arg(option(alloc, "date", "YYYYMMDD").required(true))?
-        .arg(option(alloc, "time", "HHMMSS").required(true))?
-        .arg(option(alloc, "from", "REGISTER"))?
-        .arg(option(alloc, "to", "REGISTER"))?
+        .arg(option(alloc, "society", "NNN", "three digits").required(true))?
+        .arg(option(alloc, "name", "TEXT", "1 to 45 bytes").required(true))?
+        .arg(option(alloc, "date", "YYYYMMDD", "YYYYMMDD").required(true))?
+        .arg(option(alloc, "time", "HHMMSS", "HHMMSS").required(true))?
+        .arg(option(alloc, "from", "REGISTER", "the register to go on from"))?
+        .arg(option(alloc, "to", "REGISTER", "the register to write"))?
         .arg(files)
 }
 
 /// An option with one value, which is given at most once.
-fn option<'a>(alloc: Global, name: &'a str, value: &'a str) -> Arg<'a> {
-    Arg::new(alloc, name).long(name).value_name(value)
+fn option<'a>(alloc: Global, name: &'a str, value: &'a str, help: &'a str) -> Arg<'a> {
+    Arg::new(alloc, name)
+        .long(name)
+        .value_name(value)
+        .help(help)
 }
 
 /// The words of a run, as they were given.
@@ -95,13 +97,10 @@ pub(crate) fn right_words<'m, 'a, R: Eprint>(
     ensures few { IfOk result (λ words. length words.files.now < 64) }
 {
     let Some(words) = RunWords::given(matches) else {
-        return Err(ExitCode::from(BAD_WORDS));
+        return Err(bad_words(rt, "the command line is not taken"));
     };
     match words.fault() {
         None => Ok(words),
-        Some(fault) => {
-            let _ = eprintln!(rt; "{}", fault.text());
-            Err(ExitCode::from(BAD_WORDS))
-        }
+        Some(fault) => Err(bad_words(rt, fault.text())),
     }
 }

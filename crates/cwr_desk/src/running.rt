@@ -8,8 +8,9 @@ use crate::jobs::Job;
 use crate::lines::outcome_line;
 use crate::outcome::FileOutcome;
 use crate::registers::{keep_book, opening_book};
-use crate::run_words::{BAD_WORDS, right_words};
+use crate::run_words::right_words;
 use crate::serving::serve;
+use crate::status::{bad_words, no_memory};
 use clap::ArgMatches;
 use cwr_field::Memory;
 use std::alloc::Global;
@@ -38,7 +39,7 @@ where
         Err(status) => return status,
     };
     let Some(stamp) = words.stamp() else {
-        return ExitCode::from(BAD_WORDS);
+        return bad_words(rt, "the words name no stamp");
     };
     let Some(book) = opening_book(rt, words.from) else {
         return ExitCode::FAILURE;
@@ -116,9 +117,4 @@ fn is_acknowledged(outcome: &FileOutcome) -> bool {
         FileOutcome::Acked { transactions: _ } => true,
         FileOutcome::Refused { .. } | FileOutcome::Stopped { .. } => false,
     }
-}
-
-fn no_memory<R: Eprint>(rt: &R) -> ExitCode {
-    let _ = eprintln!(rt; "stopped: memory");
-    ExitCode::FAILURE
 }

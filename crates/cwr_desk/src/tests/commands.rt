@@ -67,11 +67,11 @@ fn refuses_other_words(rt: HostRuntime) -> Result<(), Fail> {
         ),
         (
             &["purvilgo", "--help"],
-            "Acknowledges a CWR 2.2 file from standard input to standard output\n\nUsage: purvilgo [COMMAND]\n\nCommands:\n  run    Acknowledges CWR 2.2 files, the acknowledgement of FILE in FILE.ack\n  check  Tells which rules a CWR 2.2 file breaks\n  audit  Tells whether a register is one that the registry's rules give\n  help   Print this message or the help of the given subcommand(s)\n\nOptions:\n  -h, --help  Print help\n",
+            "Acknowledges a CWR 2.2 file from standard input to standard output\n\nUsage: purvilgo [COMMAND]\n\nCommands:\n  run    Acknowledges CWR 2.2 files, the acknowledgement of FILE in FILE.ack\n  check  Tells which rules a CWR 2.2 file breaks\n  audit  Checks every decision of a register\n  help   Print this message or the help of the given subcommand(s)\n\nOptions:\n  -h, --help  Print help\n",
         ),
         (
             &["purvilgo", "check", "--help"],
-            "Tells which rules a CWR 2.2 file breaks\n\nUsage: purvilgo check <FILE>\n\nArguments:\n  <FILE>  \n\nOptions:\n  -h, --help  Print help\n",
+            "Tells which rules a CWR 2.2 file breaks\n\nUsage: purvilgo check <FILE>\n\nArguments:\n  <FILE>  a CWR 2.2 file\n\nOptions:\n  -h, --help  Print help\n",
         ),
     ];
     for (words, complained) in cases {
