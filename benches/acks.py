@@ -2,8 +2,8 @@
 """Checks the acknowledgements of a run against facts that hold of every order of its workers: acks.py FOLDER
 
 The folder has files of many.py and, beside each, its acknowledgement. Each transaction has one acknowledgement, in file
-order; works are numbered without a gap; a submitter's versions are counted without a gap; a duplicate names the work
-of its number; a work has one ISWC and an ISWC one work; and no work's control is above 100.06 per cent."""
+order; works are numbered without a gap; a duplicate names the work of its number; a work has one ISWC and an ISWC one
+work; no work's control is above 100.06 per cent; and each conflict has a cause."""
 import collections
 import glob
 import sys

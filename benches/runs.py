@@ -1,11 +1,13 @@
 #!/usr/bin/env python3
 """Times whole runs of many files, and the audit of their registers: runs.py PROGRAM FOLDER
 
-Prints for each the time, the greatest memory and both for each transaction, and checks the acknowledgements."""
+Prints for each the time, the greatest memory and both for each transaction, and checks what was printed and the
+acknowledgements."""
 import os
 import shutil
 import subprocess
 import sys
+import tempfile
 import time
 
 HERE = os.path.dirname(os.path.abspath(__file__))
@@ -15,15 +17,19 @@ CASES = [(16, 625, ""), (16, 62_500, ""), (63, 250, ""), (63, 1_000, "shared")]
 
 
 def timed(words, folder):
-    """Runs a program in a folder: its status, seconds, and greatest memory in bytes."""
-    start = time.perf_counter()
-    child = subprocess.Popen(words, cwd=folder, stdout=subprocess.DEVNULL)
-    _, status, used = os.wait4(child.pid, 0)
-    return os.waitstatus_to_exitcode(status), time.perf_counter() - start, used.ru_maxrss * 1024
+    """Runs a program in a folder: what it prints, its seconds, and its greatest memory in bytes."""
+    with tempfile.TemporaryFile() as printed:
+        start = time.perf_counter()
+        child = subprocess.Popen(words, cwd=folder, stdout=printed)
+        _, status, used = os.wait4(child.pid, 0)
+        seconds = time.perf_counter() - start
+        assert os.waitstatus_to_exitcode(status) == 0, (words, status)
+        printed.seek(0)
+        return printed.read().decode().splitlines(), seconds, used.ru_maxrss * 1024
 
 
-def tell(what, count, status, seconds, memory):
-    assert status == 0, (what, status)
+def tell(what, count, wanted, printed, seconds, memory):
+    assert printed == wanted, (what, printed)
     print("%-34s %9d %9.3f %11.2f %9.1f %9d" % (what, count, seconds, seconds * 1e6 / count, memory / 1e6, memory / count), flush=True)
 
 
@@ -36,8 +42,10 @@ def main(program, folder):
         subprocess.run([sys.executable, f"{HERE}/many.py", place, str(files), str(works), *shared.split()], check=True)
         names = sorted(os.listdir(place))
         what = f"{files} files of {works} transactions"
-        tell(f"run, {what}", files * works, *timed([program, *WORDS, "--to", "register", *names], place))
-        tell(f"audit, {what}", files * works, *timed([program, "audit", "register"], place))
+        wanted = [f"{name}: acknowledged {works}" for name in names]
+        tell(f"run, {what}", files * works, wanted, *timed([program, *WORDS, "--to", "register", *names], place))
+        wanted = [f"{files * works} entries"]
+        tell(f"audit, {what}", files * works, wanted, *timed([program, "audit", "register"], place))
         subprocess.run([sys.executable, f"{HERE}/acks.py", place], check=True)
         shutil.rmtree(place)
 

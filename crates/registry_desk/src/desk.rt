@@ -26,6 +26,7 @@ pub struct Desk<A: Allocator + Copy + Drop = Global> {
     pub(crate) table: Table<Option<Book<A>>, View, Opening<A>, DeskRule, A>,
     /// Who waits with a ticket sleeps at the ticket's place, until the one before it passes the lock on.
     pub(crate) sleepers: Vec<EventCount, A>,
+    /// Who hands a call in comes through the door first.
     pub(crate) door: Door,
 }
 
@@ -48,7 +49,7 @@ pub struct OpenRefused<A: Allocator + Copy + Drop = Global> {
 }
 
 impl<A: Allocator + Copy + Drop> Desk<A> {
-    /// Opens a desk with a book, for this many seats, the opening seat among them, and gives the opening seat.
+    /// Opens a desk with a book, for 1 to 64 seats, the opening seat among them, and gives the opening seat.
     ///
     /// The book may hold entries, all of the opening session. It comes back where there is no memory for the desk.
     pub fn open(alloc: A, book: Book<A>, seats: u32) -> Result<(Desk<A>, Seat<A>), OpenRefused<A>>
@@ -57,6 +58,7 @@ impl<A: Allocator + Copy + Drop> Desk<A> {
         ensures opened { IfOk result (λ r. r.1 ≡ record { desk = r.0; view = opening_view book seats }) }
         ensures refused { IfErr result (λ e. e.book ≡ book) }
     {
+        // Looking at it tells the check what holds in every book.
         let _entries = book.history().len();
         let opening = Opening {
             book: Snapshot::of(&book),

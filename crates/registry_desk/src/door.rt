@@ -48,6 +48,9 @@ impl Door {
     }
 
     /// Sleeps until called, unless there is room by now.
+    ///
+    /// It announces its sleep and takes back any call before it looks, so whoever leaves the line after that look calls
+    /// anew; and takes back the call that woke it, so that the next one to leave calls the next sleeper.
     fn sleep(&self, rt: &impl Wait) {
         let sleep = self.sleepers.prepare_wait();
         self.called.store(false, SeqCst);

@@ -18,8 +18,7 @@ use std::alloc::Allocator;
 use std::sync::Wait;
 use work_registry::{Book, Call, Refused, Reply, WhyRefused};
 
-/// How often a seat looks before it sleeps. Its turn comes by a certain other seat, which often is not running: so it pays
-/// to sleep soon.
+/// How often the next seat looks before it sleeps: longer each time, some microseconds in all.
 const FEW_LOOKS: u32 = 8;
 
 impl<A: Allocator + Copy + Drop> Inside<A> {
@@ -40,6 +39,7 @@ impl<A: Allocator + Copy + Drop> Inside<A> {
     {
         match self.book.apply(self.counts.session, call) {
             Ok(reply) => {
+                // Looking at it tells the check what holds in every book.
                 let _entries = self.book.history().len();
                 self.unused = false;
                 Ok(reply)
@@ -117,8 +117,9 @@ impl<A: Allocator + Copy + Drop> Leaving<A> {
 impl<A: Allocator + Copy + Drop> Desk<A> {
     /// One whole turn with one call: draws, looks until the seat is inside, hands the call in, and leaves.
     ///
-    /// It waits while others are before it. A reply has added exactly that entry, and a refusal none: it hands the call
-    /// back, and a full book marks the seat.
+    /// The seat is not the opening one, and has a turn left. It waits until there is room in line, and then while others
+    /// are before it. A reply has added exactly that entry, and a refusal none: it hands the call back, and a full book
+    /// marks the seat.
     pub fn hand_in(
         &self,
         rt: &impl Wait,
