@@ -20,10 +20,10 @@ pub(crate) fn run_command<'a>(alloc: Global) -> Result<Command<'a>, AllocError> 
         .help("a CWR 2.2 file");
     Command::new(alloc, "run")
         .about("Acknowledges CWR 2.2 files, the acknowledgement of FILE in FILE.ack")
-        .arg(option(alloc, "society", "NNN", "three digits").required(true))?
-        .arg(option(alloc, "name", "TEXT", "1 to 45 bytes").required(true))?
-        .arg(option(alloc, "date", "YYYYMMDD", "YYYYMMDD").required(true))?
-        .arg(option(alloc, "time", "HHMMSS", "HHMMSS").required(true))?
+        .arg(option(alloc, "society", "NNN", "number of the society").required(true))?
+        .arg(option(alloc, "name", "TEXT", "its name, 1 to 45 bytes").required(true))?
+        .arg(option(alloc, "date", "YYYYMMDD", "date of the run").required(true))?
+        .arg(option(alloc, "time", "HHMMSS", "time of the run").required(true))?
         .arg(option(alloc, "from", "REGISTER", "the register to go on from"))?
         .arg(option(alloc, "to", "REGISTER", "the register to write"))?
         .arg(files)
