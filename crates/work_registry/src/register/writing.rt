@@ -1,6 +1,6 @@
 //! The text of a history.
 
-ghost use Rattle.std.specs.Prelude.{◌≡◌, ◌++◌, ◌∷◌, [], ◌<◌, ◌≤◌, ◌^◌, ◌*◌, OnOk, IfOk, IsTrue, length, codes};
+ghost use Rattle.std.specs.Prelude.{◌≡◌, ◌++◌, ◌∷◌, [], ◌<◌, ◌≤◌, ◌^◌, ◌*◌, ◌+◌, OnOk, IfOk, IsTrue, length, sum_by, codes};
 ghost use Rattle.std.specs.List.{flat_map, AllByRecursion};
 ghost use Rattle.cwr_rules.specs.Lawful.{is_lawful};
 ghost use Rattle.work_registry.specs.RegisterLine.{line_of, head, fault, head_of, IsTyped};
@@ -131,6 +131,7 @@ fn put_count<A: Allocator>(out: &mut Vec<u8, A>, count: usize) -> Result<(), Mem
 /// The length of the text. Its first line has 12 bytes; a line has 174 and 13 for each fault.
 fn text_len<A: Allocator>(entries: &[Entry<A>]) -> usize
     requires { length entries.now < 10 ^ 8 }
+    ensures { result ≡ 12 + 174 * length entries.now + 13 * sum_by (λ e. length e.call.faults) entries.now }
 {
     let mut faults = 0;
     for entry in entries {
