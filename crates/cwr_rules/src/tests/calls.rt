@@ -1,19 +1,18 @@
 use super::judged;
+use super::records::{HALF_WRITER, OWNER, link};
 use crate::{Call, Fault, Faults, WorkKind};
 use std::test::Fail;
 
 /// The parts of a call, with the ISWC, and with the control of a publisher and a writer.
 #[test]
 fn parts_of_a_call(rt: HostRuntime) -> Result<(), Fail> {
-    let call = judged(
-        rt.alloc(),
-        "\
-REV0000000000000000SONG ONE                                                      W1            T0345246801\n\
-SPU000000000000000101000000002PUBLISHER A                                   E                                      05000   10000   10000\n\
-SWR0000000000000002000000001DOE                                                                         CA                       05000   00000   00000\n\
-PWR0000000000000003000000002PUBLISHER A                                                              000000001",
-        WorkKind::Rev,
-    )?;
+    let lines = [
+        "REV0000000000000000SONG ONE                                                      W1            T0345246801",
+        OWNER,
+        HALF_WRITER,
+        link!("PWR0000000000000003000000002"),
+    ];
+    let call = judged(rt.alloc(), &lines, WorkKind::Rev)?;
     assert_eq!(rt; call.submitter(), *b"PB000000123");
     assert_eq!(rt; call.kind(), WorkKind::Rev);
     assert_eq!(rt;
@@ -30,7 +29,7 @@ PWR0000000000000003000000002PUBLISHER A                                         
 /// A fault of the whole has the type of the header.
 #[test]
 fn faults_of_a_revision(rt: HostRuntime) -> Result<(), Fail> {
-    let call = judged(rt.alloc(), "REV0000000000000000", WorkKind::Rev)?;
+    let call = judged(rt.alloc(), &["REV0000000000000000"], WorkKind::Rev)?;
     assert_eq!(rt; call.iswc(), None);
     assert_eq!(rt; call.faults().len(), 3);
     for fault in call.faults() {

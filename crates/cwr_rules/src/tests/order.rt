@@ -1,91 +1,78 @@
 use super::expect;
+use super::records::{LATER_WRITER, WORK, WRITER, publisher, writer};
 use std::test::Fail;
 
-/// The records stand in blocks, then the titles; the order breaks once.
+/// The records stand in blocks, then the titles.
 #[test]
-fn record_order(rt: HostRuntime) -> Result<(), Fail> {
-    expect(
-        &rt,
-        rt.alloc(),
-        "\
-NWR0000000000000000SONG ONE                                                      W1\n\
-ALT0000000000000001X\n\
-SWR0000000000000002000000001DOE                                                                         CA                       10000   10000   10000",
-        &[(2, 1)],
-    )?;
-    expect(
-        &rt,
-        rt.alloc(),
-        "\
-NWR0000000000000000SONG ONE                                                      W1\n\
-SWT0000000000000001000000001050000500005000I2136\n\
-SWR0000000000000002000000001DOE                                                                         CA                       10000   10000   10000",
-        &[(1, 1)],
-    )?;
-    expect(
-        &rt,
-        rt.alloc(),
-        "\
-NWR0000000000000000SONG ONE                                                      W1\n\
-SWR0000000000000001000000001DOE                                                                         CA                       10000   10000   10000",
-        &[],
-    )?;
-    expect(
-        &rt,
-        rt.alloc(),
-        "\
-NWR0000000000000000SONG ONE                                                      W1\n\
-SWR0000000000000001000000001DOE                                                                         CA                       10000   10000   10000\n\
-ALT0000000000000002X\n\
-XRF0000000000000003\n\
-ALT0000000000000004Y",
-        &[],
-    )?;
-    expect(
-        &rt,
-        rt.alloc(),
-        "\
-NWR0000000000000000SONG ONE                                                      W1\n\
-SWR0000000000000001000000001DOE                                                                         CA                       10000   10000   10000\n\
-XRF0000000000000002\n\
-SPU000000000000000301000000002PUBLISHER A                                   E                                      00000   00000   00000\n\
-SPU000000000000000401000000002PUBLISHER A                                   E                                      00000   00000   00000",
-        &[(3, 1)],
-    )?;
-    expect(
-        &rt,
-        rt.alloc(),
-        "\
-NWR0000000000000000SONG ONE                                                      W1\n\
-OPU000000000000000101000000002PUBLISHER A                                   E                                      00000   00000   00000\n\
-SPT0000000000000002000000002      050000500005000I2136\n\
-SWR0000000000000003000000001DOE                                                                         CA                       10000   10000   10000",
-        &[(2, 1)],
-    )?;
-    expect(
-        &rt,
-        rt.alloc(),
-        "\
-NWR0000000000000000SONG ONE                                                      W1\n\
-SWR0000000000000001000000001DOE                                                                         CA                       10000   10000   10000\n\
-SPU000000000000000201000000002PUBLISHER A                                   E                                      00000   00000   00000\n\
-SPT0000000000000003000000002      050000500005000I2136",
-        &[],
-    )?;
-    expect(
-        &rt,
-        rt.alloc(),
-        "\
-NWR0000000000000000SONG ONE                                                      W1\n\
-SWR0000000000000001000000001DOE                                                                         CA                       10000   10000   10000\n\
-NWN0000000000000002\n\
-SWT0000000000000003000000001050000500005000I2136\n\
-ALT0000000000000004OTHER NAME\n\
-PER0000000000000005X\n\
-REC0000000000000006\n\
-ORN0000000000000007LIB\n\
-XRF0000000000000008",
-        &[],
-    )?;
+fn records_in_order(rt: HostRuntime) -> Result<(), Fail> {
+    let orders: [&[&str]; 4] = [
+        &[WORK, WRITER],
+        &[
+            WORK,
+            WRITER,
+            "ALT0000000000000002X",
+            "XRF0000000000000003",
+            "ALT0000000000000004Y",
+        ],
+        &[
+            WORK,
+            WRITER,
+            publisher!("SPU000000000000000201000000002", "00000   00000   00000"),
+            "SPT0000000000000003000000002      050000500005000I2136",
+        ],
+        &[
+            WORK,
+            WRITER,
+            "NWN0000000000000002",
+            "SWT0000000000000003000000001050000500005000I2136",
+            "ALT0000000000000004OTHER NAME",
+            "PER0000000000000005X",
+            "REC0000000000000006",
+            "ORN0000000000000007LIB",
+            "XRF0000000000000008",
+        ],
+    ];
+    for lines in orders {
+        expect(&rt, rt.alloc(), lines, &[])?;
+    }
+    Ok(())
+}
+
+/// The order breaks once.
+#[test]
+fn records_out_of_order(rt: HostRuntime) -> Result<(), Fail> {
+    let orders: [(&[&str], u32); 4] = [
+        (&[WORK, "ALT0000000000000001X", LATER_WRITER], 2),
+        (
+            &[
+                WORK,
+                "SWT0000000000000001000000001050000500005000I2136",
+                LATER_WRITER,
+            ],
+            1,
+        ),
+        (
+            &[
+                WORK,
+                WRITER,
+                "XRF0000000000000002",
+                publisher!("SPU000000000000000301000000002", "00000   00000   00000"),
+                publisher!("SPU000000000000000401000000002", "00000   00000   00000"),
+            ],
+            3,
+        ),
+        (
+            &[
+                WORK,
+                publisher!("OPU000000000000000101000000002", "00000   00000   00000"),
+                "SPT0000000000000002000000002      050000500005000I2136",
+                writer!("SWR0000000000000003000000001", "10000   10000   10000"),
+            ],
+            2,
+        ),
+    ];
+    for (lines, sequence) in orders {
+        expect(&rt, rt.alloc(), lines, &[(sequence, 1)])?;
+    }
     Ok(())
 }
