@@ -13,6 +13,11 @@ fn registration<'a>(alloc: Global, code: &'a [u8], rest: &'a [u8]) -> Result<Vec
     )
 }
 
+/// A fault of the field that starts at this byte.
+fn fault(start: usize, number: u8) -> FieldFault {
+    FieldFault { start, number }
+}
+
 #[test]
 fn fault_of_a_work_code(rt: HostRuntime) -> Result<(), Fail> {
     let wrong = registration(
@@ -20,13 +25,7 @@ fn fault_of_a_work_code(rt: HostRuntime) -> Result<(), Fail> {
         b"T0345246802",
         b"20010203               000330U",
     )?;
-    assert_eq!(rt;
-        read_work_head(&wrong),
-        Err(FieldFault {
-            start: 96,
-            number: 5
-        })
-    );
+    assert_eq!(rt; read_work_head(&wrong), Err(fault(96, 5)));
     Ok(())
 }
 
@@ -48,21 +47,9 @@ fn optional_fields(rt: HostRuntime) -> Result<(), Fail> {
         .ok_or("a fault")?;
     assert_eq!(rt; leap_day.copyright_date, Some(day(b"20240229")?));
     let no_day = registration(rt.alloc(), b"           ", b"20230229")?;
-    assert_eq!(rt;
-        read_work_head(&no_day),
-        Err(FieldFault {
-            start: 107,
-            number: 3
-        })
-    );
+    assert_eq!(rt; read_work_head(&no_day), Err(fault(107, 3)));
     let no_time = registration(rt.alloc(), b"           ", b"20240229               240000")?;
-    assert_eq!(rt;
-        read_work_head(&no_time),
-        Err(FieldFault {
-            start: 130,
-            number: 4
-        })
-    );
+    assert_eq!(rt; read_work_head(&no_time), Err(fault(130, 4)));
     Ok(())
 }
 
@@ -70,45 +57,22 @@ fn optional_fields(rt: HostRuntime) -> Result<(), Fail> {
 fn faults_of_the_type(rt: HostRuntime) {
     assert_eq!(rt;
         read_writer(b"ALT0000000000000004OTHER NAME"),
-        Err(FieldFault {
-            start: 1,
-            number: 6
-        })
+        Err(fault(1, 6))
     );
-    assert_eq!(rt;
-        read_header(b""),
-        Err(FieldFault {
-            start: 1,
-            number: 6
-        })
-    );
-    assert_eq!(rt;
-        read_work_head(b"ACK0000000000000000"),
-        Err(FieldFault {
-            start: 1,
-            number: 6
-        })
-    );
+    assert_eq!(rt; read_header(b""), Err(fault(1, 6)));
+    assert_eq!(rt; read_work_head(b"ACK0000000000000000"), Err(fault(1, 6)));
 }
 
 #[test]
-fn least_faults(rt: HostRuntime) -> Result<(), Fail> {
+fn least_fault_of_a_trailer(rt: HostRuntime) {
     let later = read_group_trailer(b"GRT000010000000100x00004");
-    assert_eq!(rt;
-        later,
-        Err(FieldFault {
-            start: 17,
-            number: 1
-        })
-    );
+    assert_eq!(rt; later, Err(fault(17, 1)));
     let both = read_group_trailer(b"GRT00x010000000100x00004");
-    assert_eq!(rt;
-        both,
-        Err(FieldFault {
-            start: 4,
-            number: 1
-        })
-    );
+    assert_eq!(rt; both, Err(fault(4, 1)));
+}
+
+#[test]
+fn least_fault_of_a_header(rt: HostRuntime) -> Result<(), Fail> {
     let header = line(
         rt.alloc(),
         &[
@@ -116,13 +80,12 @@ fn least_faults(rt: HostRuntime) -> Result<(), Fail> {
             (b"01.102024023024000020240501", 15),
         ],
     )?;
-    assert_eq!(rt;
-        read_header(&header),
-        Err(FieldFault {
-            start: 65,
-            number: 3
-        })
-    );
+    assert_eq!(rt; read_header(&header), Err(fault(65, 3)));
+    Ok(())
+}
+
+#[test]
+fn least_fault_of_shares(rt: HostRuntime) -> Result<(), Fail> {
     let share = line(
         rt.alloc(),
         &[
@@ -133,13 +96,7 @@ fn least_faults(rt: HostRuntime) -> Result<(), Fail> {
             (b"1000x", 0),
         ],
     )?;
-    assert_eq!(rt;
-        read_writer(&share),
-        Err(FieldFault {
-            start: 138,
-            number: 2
-        })
-    );
+    assert_eq!(rt; read_writer(&share), Err(fault(138, 2)));
     Ok(())
 }
 
