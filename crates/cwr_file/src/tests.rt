@@ -236,13 +236,13 @@ fn lines_end_for_good(rt: HostRuntime) {
     assert!(rt; lines.next().is_none());
 }
 
-/// A job's reader and writer go to the thread that works it.
+/// Takes only what may go to another thread, as a job's reader and writer do.
 fn sent<T: Send + Drop>(value: T) -> T {
     value
 }
 
 #[test]
-fn jobs_go_to_threads(rt: HostRuntime) -> Result<(), Fail> {
+fn sources_and_sinks_are_send(rt: HostRuntime) -> Result<(), Fail> {
     let feed = sent(Feed::new(b"HDR", 1, None));
     let room = sent(Room::new(rt.alloc(), 1, true)?);
     assert!(rt; !feed.failed() && !room.failed());
