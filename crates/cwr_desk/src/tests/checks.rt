@@ -1,40 +1,12 @@
 //! What a check tells of files of the profile.
 
+use super::sheets::{ALL, SENDER, file, file_of_lines, miscounted, plain_file, work, writer};
 use crate::check_text;
 use std::alloc::Global;
 use std::process::Abort;
 use std::test::Fail;
 
-/// A file of the submitter `PB000000123` with these lines after its HDR, each with CR LF.
-pub(super) fn file(alloc: Global, lines: &[&str]) -> Result<Vec<u8>, Fail> {
-    let mut text = format!(in alloc;
-        "HDRPB000000123PUBLISHER A{:34}01.102024050112000020240501\r\n",
-        ""
-    )?;
-    for line in lines {
-        text.push_str(line)?;
-        text.push_str("\r\n")?;
-    }
-    Ok(text.into_bytes())
-}
-
-/// The header of a transaction: its kind, its sequence and the submitter's work number.
-fn work(alloc: Global, kind: &str, sequence: u32, number: &str) -> Result<String, Fail> {
-    Ok(format!(in alloc; "{kind}{sequence:08}00000000SONG ONE{:54}{number}", "")?)
-}
-
-/// A writer: the record's type, transaction and sequence, and the shares of PR, MR and SR.
-fn writer(alloc: Global, transaction: u32, record: u32, shares: [&str; 3]) -> Result<String, Fail> {
-    let [performing, mechanical, synchronization] = shares;
-    Ok(format!(in alloc;
-        "SWR{transaction:08}{record:08}000000001DOE{:73}CA{:23}{performing}   {mechanical}   {synchronization}",
-        "", ""
-    )?)
-}
-
 const GROUP: &str = "GRHNWR0000102.200000000001";
-
-const WHOLE: [&str; 3] = ["10000", "10000", "10000"];
 
 fn expect(
     rt: &impl Abort,
@@ -50,39 +22,32 @@ fn expect(
 }
 
 /// A file with one work and its writer, who has these shares.
-pub(super) fn one_work(alloc: Global, shares: [&str; 3]) -> Result<Vec<u8>, Fail> {
-    let head = work(alloc, "NWR", 0, "W1")?;
-    let detail = writer(alloc, 0, 1, shares)?;
-    file(
-        alloc,
-        &[
-            GROUP,
-            &head,
-            &detail,
-            "GRT000010000000100000004",
-            "TRL000010000000100000006",
-        ],
-    )
+pub(super) fn one_writer(alloc: Global, shares: [&str; 3]) -> Result<Vec<u8>, Fail> {
+    let lines = [
+        work(alloc, "NWR", 0, "W1", "")?,
+        writer(alloc, "SWR", 0, 1, shares)?,
+    ];
+    file(alloc, SENDER, "NWR", 1, &lines)
 }
 
 #[test]
 fn tells_a_clean_file(rt: HostRuntime) -> Result<(), Fail> {
     let alloc = rt.alloc();
     let wanted = "00001 00000000 NWR ok\n1 transactions, 0 with faults\n";
-    let whole = one_work(alloc, WHOLE)?;
+    let whole = plain_file(alloc)?;
     expect(&rt, alloc, &whole, wanted, true)?;
-    let none = file(alloc, &["TRL000000000000000000002"])?;
+    let none = file_of_lines(alloc, &["TRL000000000000000000002"])?;
     expect(&rt, alloc, &none, "0 transactions, 0 with faults\n", true)
 }
 
 #[test]
 fn tells_each_transaction(rt: HostRuntime) -> Result<(), Fail> {
     let alloc = rt.alloc();
-    let first = work(alloc, "NWR", 0, "W1")?;
-    let first_writer = writer(alloc, 0, 2, WHOLE)?;
-    let second = work(alloc, "NWR", 1, "W2")?;
-    let second_writer = writer(alloc, 1, 1, WHOLE)?;
-    let bytes = file(
+    let first = work(alloc, "NWR", 0, "W1", "")?;
+    let first_writer = writer(alloc, "SWR", 0, 2, ALL)?;
+    let second = work(alloc, "NWR", 1, "W2", "")?;
+    let second_writer = writer(alloc, "SWR", 1, 1, ALL)?;
+    let bytes = file_of_lines(
         alloc,
         &[
             GROUP,
@@ -103,10 +68,10 @@ fn tells_each_transaction(rt: HostRuntime) -> Result<(), Fail> {
 #[test]
 fn tells_groups_and_kinds(rt: HostRuntime) -> Result<(), Fail> {
     let alloc = rt.alloc();
-    let new = work(alloc, "NWR", 0, "W1")?;
-    let revised = work(alloc, "REV", 0, "W1")?;
-    let detail = writer(alloc, 0, 1, WHOLE)?;
-    let bytes = file(
+    let new = work(alloc, "NWR", 0, "W1", "")?;
+    let revised = work(alloc, "REV", 0, "W1", "")?;
+    let detail = writer(alloc, "SWR", 0, 1, ALL)?;
+    let bytes = file_of_lines(
         alloc,
         &[
             GROUP,
@@ -127,7 +92,7 @@ fn tells_groups_and_kinds(rt: HostRuntime) -> Result<(), Fail> {
 #[test]
 fn tells_every_fault(rt: HostRuntime) -> Result<(), Fail> {
     let alloc = rt.alloc();
-    let bare = file(
+    let bare = file_of_lines(
         alloc,
         &[
             GROUP,
@@ -146,7 +111,7 @@ fn tells_every_fault(rt: HostRuntime) -> Result<(), Fail> {
         let wanted = format!(in alloc;
             "00001 00000000 NWR rejected {faults}\n1 transactions, 1 with faults\n"
         )?;
-        let bytes = one_work(alloc, shares)?;
+        let bytes = one_writer(alloc, shares)?;
         expect(&rt, alloc, &bytes, &wanted, false)?;
     }
     Ok(())
@@ -155,10 +120,10 @@ fn tells_every_fault(rt: HostRuntime) -> Result<(), Fail> {
 #[test]
 fn tells_a_sequence_of_two_digits(rt: HostRuntime) -> Result<(), Fail> {
     let alloc = rt.alloc();
-    let head = work(alloc, "NWR", 0, "W1")?;
-    let first = writer(alloc, 0, 1, WHOLE)?;
-    let late = writer(alloc, 0, 12, ["00000", "00000", "00000"])?;
-    let bytes = file(
+    let head = work(alloc, "NWR", 0, "W1", "")?;
+    let first = writer(alloc, "SWR", 0, 1, ALL)?;
+    let late = writer(alloc, "SWR", 0, 12, ["00000", "00000", "00000"])?;
+    let bytes = file_of_lines(
         alloc,
         &[
             GROUP,
@@ -187,19 +152,10 @@ fn tells_a_sequence_of_two_digits(rt: HostRuntime) -> Result<(), Fail> {
 fn tells_the_first_fault_of_a_file(rt: HostRuntime) -> Result<(), Fail> {
     let alloc = rt.alloc();
     expect(&rt, alloc, b"", "refused F1 at line 1\n", false)?;
-    let head = work(alloc, "NWR", 0, "W1")?;
-    let detail = writer(alloc, 0, 1, WHOLE)?;
-    let cut_off = file(alloc, &[GROUP, &head, &detail, "GRT000010000000100000004"])?;
+    let head = work(alloc, "NWR", 0, "W1", "")?;
+    let detail = writer(alloc, "SWR", 0, 1, ALL)?;
+    let cut_off = file_of_lines(alloc, &[GROUP, &head, &detail, "GRT000010000000100000004"])?;
     expect(&rt, alloc, &cut_off, "refused F11 at line 6\n", false)?;
-    let miscounted = file(
-        alloc,
-        &[
-            GROUP,
-            &head,
-            &detail,
-            "GRT000010000000100000002",
-            "TRL000010000000100000006",
-        ],
-    )?;
-    expect(&rt, alloc, &miscounted, "refused F9 at line 5\n", false)
+    let wrong = miscounted(alloc)?;
+    expect(&rt, alloc, &wrong, "refused F9 at line 5\n", false)
 }

@@ -1,6 +1,7 @@
 //! The program's commands, over a runtime of the tests' own.
 
-use super::checks::{file, one_work};
+use super::checks::one_writer;
+use super::sheets::{file_of_lines, plain_file};
 use crate::fake::Fake;
 use crate::fake_files::FakeFile;
 use crate::run_program;
@@ -10,9 +11,9 @@ use std::test::Fail;
 #[test]
 fn checks_a_file(rt: HostRuntime) -> Result<(), Fail> {
     let alloc = rt.alloc();
-    let clean = one_work(alloc, ["10000", "10000", "10000"])?;
-    let faulty = one_work(alloc, ["10001", "10000", "10000"])?;
-    let refused = file(alloc, &["TRL000000000000000000003"])?;
+    let clean = plain_file(alloc)?;
+    let faulty = one_writer(alloc, ["10001", "10000", "10000"])?;
+    let refused = file_of_lines(alloc, &["TRL000000000000000000003"])?;
     let files = [
         ("clean", FakeFile::Holds(&clean)),
         ("faulty", FakeFile::Holds(&faulty)),

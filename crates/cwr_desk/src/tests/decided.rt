@@ -1,10 +1,11 @@
 //! Files and their acknowledgements, byte for byte.
 use super::sheets::{
-    ALL, Answer, SENDER, Told, acknowledgement, decision, file, one_work, plain_file, stamp, work,
-    writer,
+    ALL, Answer, SENDER, Told, acknowledgement, decision, file, one_work, plain_file, stamp,
+    with_newlines, work, work_twice, writer,
 };
-use super::threads::expect_served;
-use crate::{FileOutcome, acknowledge};
+use super::threads::{expect_served, serve_one};
+use super::turns::{accepted, expect_in_turn, run_one};
+use crate::{Book, FileOutcome, OpenGate, Reply, acknowledge};
 use cwr_file::{Feed, Room};
 use std::alloc::Global;
 use std::process::Abort;
@@ -12,12 +13,14 @@ use std::sync::Wait;
 use std::test::Fail;
 use std::thread::Threads;
 
-/// Acknowledges a file into an empty book, alone and at the desk: these are the decisions that must be told.
+/// Acknowledges a file into an empty book, alone, as a job in turn, and at the desk: these are the decisions that must
+/// be told, and the replies that the two books must hold.
 fn expect<T: Threads + Wait + Sync + Abort>(
     rt: &T,
     alloc: Global,
     input: &[u8],
     answers: &[Answer],
+    replies: &[Reply],
 ) -> Result<(), Fail> {
     let wanted = acknowledgement(alloc, answers)?;
     let mut reader = Feed::new(input, 4096, None);
@@ -28,7 +31,8 @@ fn expect<T: Threads + Wait + Sync + Abort>(
     };
     assert_eq!(rt; transactions as usize, answers.len());
     assert_eq!(rt; sink.bytes(), wanted.as_slice());
-    expect_served(rt, alloc, input, outcome, &wanted)
+    expect_in_turn(rt, alloc, input, outcome, &wanted, replies)?;
+    expect_served(rt, alloc, input, outcome, &wanted, replies)
 }
 
 /// A file of one new work W1, which must be accepted as work 1, or rejected for these faults.
@@ -39,25 +43,21 @@ fn expect_one<T: Threads + Wait + Sync + Abort>(
     faults: &[Told],
 ) -> Result<(), Fail> {
     let input = file(alloc, SENDER, "NWR", 1, lines)?;
-    let (work, status) = if faults.is_empty() {
-        ("00000001", "AS")
+    let (work, status, reply) = if faults.is_empty() {
+        ("00000001", "AS", accepted(1, 1))
     } else {
-        ("", "RJ")
+        ("", "RJ", Reply::Rejected)
     };
-    expect(
-        rt,
-        alloc,
-        &input,
-        &[decision(0, "NWR", "W1", work, status, faults)],
-    )
+    let answers = [decision(0, "NWR", "W1", work, status, faults)];
+    expect(rt, alloc, &input, &answers, &[reply])
 }
 
 #[test]
 fn one_work_of_one_writer(rt: HostRuntime) -> Result<(), Fail> {
     let alloc = rt.alloc();
-    let accepted = [decision(0, "NWR", "W1", "00000001", "AS", &[])];
-    assert_eq!(rt; acknowledgement(alloc, &accepted)?.len(), 425);
-    expect(&rt, alloc, &plain_file(alloc)?, &accepted)
+    let answers = [decision(0, "NWR", "W1", "00000001", "AS", &[])];
+    assert_eq!(rt; acknowledgement(alloc, &answers)?.len(), 425);
+    expect(&rt, alloc, &plain_file(alloc)?, &answers, &[accepted(1, 1)])
 }
 
 #[test]
@@ -67,7 +67,7 @@ fn a_file_without_groups(rt: HostRuntime) -> Result<(), Fail> {
         "HDRPB000000123PUBLISHER A{:34}01.102024050112000020240501\r\nTRL000000000000000000002\r\n",
         ""
     )?;
-    expect(&rt, alloc, input.as_bytes(), &[])
+    expect(&rt, alloc, input.as_bytes(), &[], &[])
 }
 
 #[test]
@@ -92,20 +92,37 @@ fn ownership_totals(rt: HostRuntime) -> Result<(), Fail> {
 }
 
 #[test]
-fn check_digits_and_dates(rt: HostRuntime) -> Result<(), Fail> {
+fn check_digits(rt: HostRuntime) -> Result<(), Fail> {
     let alloc = rt.alloc();
     let wrong: &[Told] = &[(0, "NWR", 4, "ISWC IS NOT VALID")];
-    let no_day: &[Told] = &[(0, "NWR", 5, "DATE OR DURATION IS NOT VALID")];
-    for (after, faults) in [
+    for (iswc, faults) in [
         ("T0345246801", [].as_slice()),
         ("T0345246802", wrong),
         ("", [].as_slice()),
-        ("           20230229", no_day),
-        ("           20240229", [].as_slice()),
-        ("           00000000", [].as_slice()),
     ] {
         let lines = [
-            work(alloc, "NWR", 0, "W1", after)?,
+            work(alloc, "NWR", 0, "W1", iswc)?,
+            writer(alloc, "SWR", 0, 1, ["05000"; 3])?,
+            writer(alloc, "OWR", 0, 2, ["05000"; 3])?,
+        ];
+        expect_one(&rt, alloc, &lines, faults)?;
+    }
+    Ok(())
+}
+
+#[test]
+fn copyright_dates(rt: HostRuntime) -> Result<(), Fail> {
+    let alloc = rt.alloc();
+    let no_day: &[Told] = &[(0, "NWR", 5, "DATE OR DURATION IS NOT VALID")];
+    for (date, faults) in [
+        ("20230229", no_day),
+        ("20240229", [].as_slice()),
+        ("00000000", [].as_slice()),
+        ("", [].as_slice()),
+    ] {
+        let after = format!(in alloc; "{:11}{date}", "")?;
+        let lines = [
+            work(alloc, "NWR", 0, "W1", &after)?,
             writer(alloc, "SWR", 0, 1, ALL)?,
         ];
         expect_one(&rt, alloc, &lines, faults)?;
@@ -150,24 +167,20 @@ fn a_rejected_work_and_an_accepted_one(rt: HostRuntime) -> Result<(), Fail> {
         decision(0, "NWR", "W1", "", "RJ", told),
         decision(1, "NWR", "W2", "00000001", "AS", &[]),
     ];
-    expect(&rt, alloc, &input, &answers)
+    let replies = [Reply::Rejected, accepted(1, 1)];
+    expect(&rt, alloc, &input, &answers, &replies)
 }
 
 #[test]
 fn a_work_twice(rt: HostRuntime) -> Result<(), Fail> {
     let alloc = rt.alloc();
-    let lines = [
-        work(alloc, "NWR", 0, "W1", "")?,
-        writer(alloc, "SWR", 0, 1, ALL)?,
-        work(alloc, "NWR", 1, "W1", "")?,
-        writer(alloc, "SWR", 1, 1, ALL)?,
-    ];
-    let input = file(alloc, SENDER, "NWR", 2, &lines)?;
+    let input = work_twice(alloc, SENDER)?;
     let answers = [
         decision(0, "NWR", "W1", "00000001", "AS", &[]),
         decision(1, "NWR", "W1", "00000001", "DU", &[]),
     ];
-    expect(&rt, alloc, &input, &answers)
+    let replies = [accepted(1, 1), Reply::Duplicate { work: 1 }];
+    expect(&rt, alloc, &input, &answers, &replies)
 }
 
 #[test]
@@ -199,47 +212,60 @@ fn a_header_alone(rt: HostRuntime) -> Result<(), Fail> {
         status: "RJ",
         faults: told,
     }];
-    expect(&rt, alloc, &input, &answers)
+    expect(&rt, alloc, &input, &answers, &[Reply::Rejected])
+}
+
+/// The file of a new work of a publisher and a writer whose publisher is named by this number.
+fn published(alloc: Global, publisher: &str) -> Result<Vec<u8>, Fail> {
+    let lines = [
+        work(alloc, "NWR", 0, "W1", "")?,
+        format!(in alloc;
+            "SPU000000000000000101000000002PUBLISHER A{:35}E{:38}05000   10000   10000",
+            "", ""
+        )?,
+        writer(alloc, "SWR", 0, 2, ["05000", "00000", "00000"])?,
+        format!(in alloc;
+            "PWR0000000000000003{publisher}PUBLISHER A{:62}000000001",
+            ""
+        )?,
+    ];
+    file(alloc, SENDER, "NWR", 1, &lines)
 }
 
 #[test]
 fn a_publisher_of_the_writer(rt: HostRuntime) -> Result<(), Fail> {
     let alloc = rt.alloc();
-    let unknown: &[Told] = &[(3, "PWR", 9, "PUBLISHER OF WRITER IS NOT IN THE TRANSACTION")];
-    for (publisher, faults) in [("000000002", [].as_slice()), ("000000009", unknown)] {
-        let lines = [
-            work(alloc, "NWR", 0, "W1", "")?,
-            format!(in alloc;
-                "SPU000000000000000101000000002PUBLISHER A{:35}E{:38}05000   10000   10000",
-                "", ""
-            )?,
-            writer(alloc, "SWR", 0, 2, ["05000", "00000", "00000"])?,
-            format!(in alloc;
-                "PWR0000000000000003{publisher}PUBLISHER A{:62}000000001",
-                ""
-            )?,
-        ];
-        expect_one(&rt, alloc, &lines, faults)?;
-    }
+    let known = published(alloc, "000000002")?;
+    let answers = [decision(0, "NWR", "W1", "00000001", "AS", &[])];
+    expect(&rt, alloc, &known, &answers, &[accepted(1, 1)])?;
+    let unknown = published(alloc, "000000009")?;
+    let told: &[Told] = &[(3, "PWR", 9, "PUBLISHER OF WRITER IS NOT IN THE TRANSACTION")];
+    let answers = [decision(0, "NWR", "W1", "", "RJ", told)];
+    expect(&rt, alloc, &unknown, &answers, &[Reply::Rejected])
+}
+
+#[test]
+fn what_a_publisher_and_a_writer_control(rt: HostRuntime) -> Result<(), Fail> {
+    let alloc = rt.alloc();
+    let input = published(alloc, "000000002")?;
+    let run = run_one(alloc, Book::new(alloc, 100), &input)?;
+    assert_eq!(rt; run.book.control_of(1), [10000; 3]);
+    let run = serve_one(&rt, alloc, Book::new(alloc, 100), &input, &OpenGate)?;
+    assert_eq!(rt; run.book.control_of(1), [10000; 3]);
     Ok(())
 }
 
 #[test]
 fn other_line_ends(rt: HostRuntime) -> Result<(), Fail> {
     let alloc = rt.alloc();
-    let accepted = [decision(0, "NWR", "W1", "00000001", "AS", &[])];
-    let whole = plain_file(alloc)?;
-    let mut newlines = Vec::new(alloc);
-    for byte in &whole {
-        if *byte != b'\r' {
-            newlines.push(*byte)?;
-        }
-    }
+    let answers = [decision(0, "NWR", "W1", "00000001", "AS", &[])];
+    let newlines = with_newlines(alloc, &plain_file(alloc)?)?;
     let cut = newlines.len().saturating_sub(1);
-    expect(&rt, alloc, newlines.get(..cut).ok_or("a line")?, &accepted)?;
+    let unended = newlines.get(..cut).ok_or("a line")?;
+    expect(&rt, alloc, unended, &answers, &[accepted(1, 1)])?;
     let mut marked = plain_file(alloc)?;
     marked.extend_from_slice(b"\r\n\x1a\r\n")?;
-    expect(&rt, alloc, &marked, &accepted)
+    expect(&rt, alloc, &marked, &answers, &[accepted(1, 1)])
 }
 
 #[test]
@@ -253,10 +279,6 @@ fn a_conflict_is_not_made_alone(rt: HostRuntime) -> Result<(), Fail> {
         "T0345246801",
         ["05000", "05000"],
     )?;
-    expect(
-        &rt,
-        alloc,
-        &input,
-        &[decision(0, "REV", "W1", "00000001", "AS", &[])],
-    )
+    let answers = [decision(0, "REV", "W1", "00000001", "AS", &[])];
+    expect(&rt, alloc, &input, &answers, &[accepted(1, 1)])
 }

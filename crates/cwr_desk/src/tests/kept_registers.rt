@@ -1,7 +1,7 @@
 //! Registers that runs begin with and leave, and their audits.
 
-use super::runs::{answer, expect, expect_held, keeping, run_with};
-use super::sheets::plain_file;
+use super::runs::{expect, expect_held, keeping, run_with};
+use super::sheets::{one_answer, plain_file};
 use crate::fake_files::FakeFile;
 use std::alloc::Global;
 use std::process::{Abort, ExitCode};
@@ -59,7 +59,7 @@ fn runs_follow_one_another(rt: HostRuntime) -> Result<(), Fail> {
     expect(&rt, &words, &files, &kept, done, told, "")?;
     expect(&rt, &audit, &files, &kept, done, "2 entries\n", "")?;
     expect_held(&rt, &kept[1], register(alloc, 2)?.as_bytes())?;
-    expect_held(&rt, &kept[0], &answer(alloc, "DU")?)
+    expect_held(&rt, &kept[0], &one_answer(alloc, "DU")?)
 }
 
 /// Runs the file `a` from a register of this name, where `wrong` is this text: it must be refused, and nothing written.

@@ -1,8 +1,8 @@
 //! Many jobs at one desk, and jobs that end in different ways beside one another.
 ghost use Rattle.std.specs.Prelude.{◌≡◌, ◌≤◌, All, IfOk, false, length, vec_len};
 
-use super::sheets::{ALL, acknowledgement, decision, file, plain_file, stamp, work, writer};
-use super::turns::{self, ACKED, MemoryJob, accepted, expect_history, job, miscounted};
+use super::sheets::{ALL, file, miscounted, one_answer, plain_file, stamp, work, writer};
+use super::turns::{self, ACKED, MemoryJob, accepted, expect_history, job};
 use crate::{Book, Entry, FileOutcome, OpenGate, Run, Why, serve};
 use cwr_file::{Feed, Room};
 use std::alloc::Global;
@@ -131,6 +131,6 @@ fn a_refused_file_and_a_failed_read_beside_a_good_one(rt: HostRuntime) -> Result
     let ends = [FileOutcome::Refused { number: 9, line: 5 }, unread, ACKED];
     assert_eq!(rt; run.outcomes.as_slice(), ends.as_slice());
     expect_history(&rt, &run.book, &[(3, accepted(1, 1))])?;
-    let wanted = acknowledgement(alloc, &[decision(0, "NWR", "W1", "00000001", "AS", &[])])?;
+    let wanted = one_answer(alloc, "AS")?;
     expect_written(&rt, &run.jobs, [b"", b"", &wanted])
 }

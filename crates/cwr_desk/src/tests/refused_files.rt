@@ -1,7 +1,7 @@
 //! Files with a fault: none of their transactions is decided, and no byte is written.
-use super::checks;
-use super::sheets::{ALL, SENDER, file, stamp, work, writer};
+use super::sheets::{ALL, SENDER, file, file_of_lines, miscounted, stamp, work, writer};
 use super::threads::expect_served;
+use super::turns::expect_in_turn;
 use crate::{FileOutcome, acknowledge};
 use cwr_file::{Feed, Room};
 use std::alloc::Global;
@@ -16,7 +16,7 @@ const GROUP_END: &str = "GRT000010000000100000004";
 
 const END: &str = "TRL000010000000100000006";
 
-/// A file that must be refused for this fault at this line, alone and at the desk.
+/// A file that must be refused for this fault at this line, alone, as a job in turn, and at the desk.
 fn expect_fault<T: Threads + Wait + Sync + Abort>(
     rt: &T,
     alloc: Global,
@@ -29,7 +29,8 @@ fn expect_fault<T: Threads + Wait + Sync + Abort>(
     let outcome = acknowledge(alloc, &mut reader, &mut sink, &stamp()?);
     assert_eq!(rt; outcome, FileOutcome::Refused { number, line });
     assert_eq!(rt; sink.bytes(), b"".as_slice());
-    expect_served(rt, alloc, input, outcome, b"")
+    expect_in_turn(rt, alloc, input, outcome, b"", &[])?;
+    expect_served(rt, alloc, input, outcome, b"", &[])
 }
 
 #[test]
@@ -45,7 +46,7 @@ fn expect_lines<T: Threads + Wait + Sync + Abort>(
     number: u8,
     line: u64,
 ) -> Result<(), Fail> {
-    let input = checks::file(alloc, lines)?;
+    let input = file_of_lines(alloc, lines)?;
     expect_fault(rt, alloc, &input, number, line)
 }
 
@@ -85,8 +86,7 @@ fn a_wrong_group(rt: HostRuntime) -> Result<(), Fail> {
         5,
         2,
     )?;
-    let miscounted = "GRT000010000000100000002";
-    expect_lines(&rt, alloc, &[GROUP, &head, &detail, miscounted, END], 9, 5)
+    expect_fault(&rt, alloc, &miscounted(alloc)?, 9, 5)
 }
 
 #[test]
@@ -102,6 +102,30 @@ fn a_wrong_end(rt: HostRuntime) -> Result<(), Fail> {
         11,
         7,
     )
+}
+
+#[test]
+fn a_wrong_count_at_the_end(rt: HostRuntime) -> Result<(), Fail> {
+    let alloc = rt.alloc();
+    let head = work(alloc, "NWR", 0, "W1", "")?;
+    let detail = writer(alloc, "SWR", 0, 1, ALL)?;
+    let miscounted = "TRL000010000000100000007";
+    expect_lines(
+        &rt,
+        alloc,
+        &[GROUP, &head, &detail, GROUP_END, miscounted],
+        10,
+        6,
+    )
+}
+
+#[test]
+fn lines_out_of_place(rt: HostRuntime) -> Result<(), Fail> {
+    let alloc = rt.alloc();
+    let head = work(alloc, "NWR", 0, "W1", "")?;
+    let detail = writer(alloc, "SWR", 0, 1, ALL)?;
+    expect_lines(&rt, alloc, &[GROUP, &detail, &head, GROUP_END, END], 4, 3)?;
+    expect_lines(&rt, alloc, &[&head, &detail, GROUP_END, END], 4, 2)
 }
 
 #[test]

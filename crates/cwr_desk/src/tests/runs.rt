@@ -1,9 +1,6 @@
 //! The program's runs, over a runtime of the tests' own.
 
-use super::checks;
-use super::sheets::{
-    ALL, OTHER_SENDER, SENDER, acknowledgement, decision, one_work, plain_file, work, writer,
-};
+use super::sheets::{miscounted, one_answer, plain_file, rival_claims};
 use crate::fake::Fake;
 use crate::fake_files::{FakeFile, KeptFile};
 use crate::run_program;
@@ -82,16 +79,11 @@ fn text_in(alloc: Global, file: &KeptFile) -> Result<Vec<u8>, Fail> {
     Ok(Vec::from_slice(alloc, held.as_slice())?)
 }
 
-/// The acknowledgement of one work that gets this status.
-pub(super) fn answer(alloc: Global, status: &str) -> Result<Vec<u8>, Fail> {
-    acknowledgement(alloc, &[decision(0, "NWR", "W1", "00000001", status, &[])])
-}
-
 #[test]
 fn acknowledges_a_file_beside_it(rt: HostRuntime) -> Result<(), Fail> {
     let alloc = rt.alloc();
     let input = plain_file(alloc)?;
-    let wanted = answer(alloc, "AS")?;
+    let wanted = one_answer(alloc, "AS")?;
     assert_eq!(rt; wanted.len(), 425);
     let kept = [keeping(alloc, "a.v22.ack", b"an older acknowledgement", 425)?];
     let files = [("a.v22", FakeFile::Holds(&input))];
@@ -117,17 +109,15 @@ fn run_two<'a, T: AllocGlobal + Abort + Threads + Wait + Sync>(
 #[test]
 fn one_of_two_claims_conflicts(rt: HostRuntime) -> Result<(), Fail> {
     let alloc = rt.alloc();
-    let iswc = "T0345246801";
-    let shares = ["06000", "04000"];
-    let first = one_work(alloc, SENDER, "NWR", "W1", iswc, shares)?;
-    let second = one_work(alloc, OTHER_SENDER, "NWR", "W1", iswc, shares)?;
+    let claims = rival_claims(alloc)?;
+    let [first, second] = &claims;
     let kept = [
         keeping(alloc, "a.ack", b"", 1000)?,
         keeping(alloc, "b.ack", b"", 1000)?,
     ];
-    run_two(&rt, &first, &second, &kept)?;
-    let accepted = answer(alloc, "AS")?;
-    let conflict = answer(alloc, "CO")?;
+    run_two(&rt, first, second, &kept)?;
+    let accepted = one_answer(alloc, "AS")?;
+    let conflict = one_answer(alloc, "CO")?;
     let one = text_in(alloc, &kept[0])?;
     let first_came = one.as_slice() == accepted.as_slice();
     let (wanted_one, wanted_other) = if first_came {
@@ -137,22 +127,6 @@ fn one_of_two_claims_conflicts(rt: HostRuntime) -> Result<(), Fail> {
     };
     expect_held(&rt, &kept[0], &wanted_one)?;
     expect_held(&rt, &kept[1], &wanted_other)
-}
-
-/// The plain file, with a group trailer that counts two records.
-fn miscounted(alloc: Global) -> Result<Vec<u8>, Fail> {
-    let head = work(alloc, "NWR", 0, "W1", "")?;
-    let detail = writer(alloc, "SWR", 0, 1, ALL)?;
-    checks::file(
-        alloc,
-        &[
-            "GRHNWR0000102.200000000001",
-            &head,
-            &detail,
-            "GRT000010000000100000002",
-            "TRL000010000000100000006",
-        ],
-    )
 }
 
 /// Runs files of which all but the last fail, each in another way.
@@ -189,11 +163,13 @@ fn goes_on_after_files_that_fail(rt: HostRuntime) -> Result<(), Fail> {
         keeping(alloc, "whole.ack", b"", 1000)?,
     ];
     run_failing(&rt, &input, &wrong, &kept)?;
-    let wanted = answer(alloc, "AS")?;
+    let wanted = one_answer(alloc, "AS")?;
     expect_held(&rt, &kept[0], b"older")?;
     expect_held(&rt, &kept[1], wanted.get(..100).ok_or("100 bytes")?)?;
-    assert_eq!(rt; text_in(alloc, &kept[2])?.len(), 425);
-    Ok(())
+    let whole = text_in(alloc, &kept[2])?;
+    let first_came = whole.as_slice() == wanted.as_slice();
+    let status = if first_came { "AS" } else { "DU" };
+    expect_held(&rt, &kept[2], &one_answer(alloc, status)?)
 }
 
 /// Runs files of these names, none of which is there.

@@ -74,6 +74,30 @@ pub(crate) fn file(
     Ok(Vec::from_slice(alloc, text.as_bytes())?)
 }
 
+/// A file with these lines after its HDR, each with CR LF.
+pub(crate) fn file_of_lines(alloc: Global, lines: &[&str]) -> Result<Vec<u8>, Fail> {
+    let mut text = format!(in alloc;
+        "HDRPB{SENDER}PUBLISHER A{:34}01.102024050112000020240501\r\n",
+        ""
+    )?;
+    for line in lines {
+        text.push_str(line)?;
+        text.push_str("\r\n")?;
+    }
+    Ok(text.into_bytes())
+}
+
+/// The same text with LF alone at the end of each line.
+pub(crate) fn with_newlines(alloc: Global, text: &[u8]) -> Result<Vec<u8>, Fail> {
+    let mut newlines = Vec::new(alloc);
+    for byte in text {
+        if *byte != b'\r' {
+            newlines.push(*byte)?;
+        }
+    }
+    Ok(newlines)
+}
+
 /// A file of one work, of a writer of the submitter and another one with these shares of each right.
 pub(crate) fn one_work(
     alloc: Global,
@@ -97,6 +121,16 @@ pub(crate) fn one_work(
     )
 }
 
+/// The files of two submitters who each claim 60 per cent of one work.
+pub(crate) fn rival_claims(alloc: Global) -> Result<[Vec<u8>; 2], Fail> {
+    let iswc = "T0345246801";
+    let shares = ["06000", "04000"];
+    Ok([
+        one_work(alloc, SENDER, "NWR", "W1", iswc, shares)?,
+        one_work(alloc, OTHER_SENDER, "NWR", "W1", iswc, shares)?,
+    ])
+}
+
 /// The file of one new work, W1, all of which is its one writer's.
 pub(crate) fn plain_file(alloc: Global) -> Result<Vec<u8>, Fail> {
     file(
@@ -107,6 +141,56 @@ pub(crate) fn plain_file(alloc: Global) -> Result<Vec<u8>, Fail> {
         &[
             work(alloc, "NWR", 0, "W1", "")?,
             writer(alloc, "SWR", 0, 1, ALL)?,
+        ],
+    )
+}
+
+/// The plain file, with a group trailer that counts two records.
+pub(crate) fn miscounted(alloc: Global) -> Result<Vec<u8>, Fail> {
+    let head = work(alloc, "NWR", 0, "W1", "")?;
+    let detail = writer(alloc, "SWR", 0, 1, ALL)?;
+    file_of_lines(
+        alloc,
+        &[
+            "GRHNWR0000102.200000000001",
+            &head,
+            &detail,
+            "GRT000010000000100000002",
+            "TRL000010000000100000006",
+        ],
+    )
+}
+
+/// The file of a new work, W1, that it holds twice.
+pub(crate) fn work_twice(alloc: Global, sender: &str) -> Result<Vec<u8>, Fail> {
+    file(
+        alloc,
+        sender,
+        "NWR",
+        2,
+        &[
+            work(alloc, "NWR", 0, "W1", "")?,
+            writer(alloc, "SWR", 0, 1, ALL)?,
+            work(alloc, "NWR", 1, "W1", "")?,
+            writer(alloc, "SWR", 1, 1, ALL)?,
+        ],
+    )
+}
+
+/// The file of three new works, W1 to W3.
+pub(crate) fn three_works(alloc: Global) -> Result<Vec<u8>, Fail> {
+    file(
+        alloc,
+        SENDER,
+        "NWR",
+        3,
+        &[
+            work(alloc, "NWR", 0, "W1", "")?,
+            writer(alloc, "SWR", 0, 1, ALL)?,
+            work(alloc, "NWR", 1, "W2", "")?,
+            writer(alloc, "SWR", 1, 1, ALL)?,
+            work(alloc, "NWR", 2, "W3", "")?,
+            writer(alloc, "SWR", 2, 1, ALL)?,
         ],
     )
 }
@@ -181,6 +265,11 @@ pub(crate) fn acknowledgement(alloc: Global, answers: &[Answer]) -> Result<Vec<u
     )?;
     text.push_str(end.as_str())?;
     Ok(Vec::from_slice(alloc, text.as_bytes())?)
+}
+
+/// The acknowledgement of one new work, W1, which is work 1 of the registry, with this status.
+pub(crate) fn one_answer(alloc: Global, status: &str) -> Result<Vec<u8>, Fail> {
+    acknowledgement(alloc, &[decision(0, "NWR", "W1", "00000001", status, &[])])
 }
 
 /// The MSG lines of a transaction.

@@ -1,11 +1,9 @@
 //! Jobs on threads of their own at one desk.
-ghost use Rattle.std.specs.Prelude.{true};
+ghost use Rattle.std.specs.Prelude.{◌≡◌, true};
+ghost use Rattle.work_registry.specs.Replay.{is_opening};
 
-use super::sheets::{
-    ALL, OTHER_SENDER, SENDER, acknowledgement, decision, file, one_work, plain_file, stamp, work,
-    writer,
-};
-use super::turns::{ACKED, MemoryJob, accepted, expect_history, job};
+use super::sheets::{one_answer, plain_file, rival_claims, stamp};
+use super::turns::{ACKED, MemoryJob, accepted, expect_history, expect_run, job};
 use crate::{Book, FileOutcome, Gate, OpenGate, Reply, Run, Shut, Why, serve};
 use cwr_file::{Feed, Room};
 use std::alloc::Global;
@@ -17,13 +15,13 @@ use std::thread::{Threads, yield_now};
 
 /// Holds each worker until two have come, and then worker 1 until worker 2 has its reply. It gives up after some time.
 #[derive(Drop)]
-struct SecondFirst {
+pub(crate) struct SecondFirst {
     come: AtomicU64,
     answered: AtomicU64,
 }
 
 impl SecondFirst {
-    fn new() -> SecondFirst {
+    pub(crate) fn new() -> SecondFirst {
         SecondFirst {
             come: AtomicU64::new(0),
             answered: AtomicU64::new(0),
@@ -53,22 +51,8 @@ impl Gate for SecondFirst {
     }
 }
 
-/// Is shut for the second transaction of each file.
-#[derive(Drop)]
-struct OneOnly;
-
-impl Gate for OneOnly {
-    ghost may_shut = { λ _. true };
-
-    fn before(&self, _worker: u32, index: u32) -> Result<(), Shut> {
-        if index == 0 { Ok(()) } else { Err(Shut) }
-    }
-
-    fn after(&self, _worker: u32, _index: u32) {}
-}
-
 /// Works two files at once, at an empty book of 100 entries.
-fn serve_two<'a, T: Threads + Wait + Sync, G: Gate + Sync>(
+pub(crate) fn serve_two<'a, T: Threads + Wait + Sync, G: Gate + Sync>(
     rt: &T,
     alloc: Global,
     first: &'a [u8],
@@ -85,48 +69,44 @@ fn serve_two<'a, T: Threads + Wait + Sync, G: Gate + Sync>(
     )
 }
 
-/// Works one file, at an empty book of 100 entries.
-fn serve_one<'a, T: Threads + Wait + Sync, G: Gate + Sync>(
+/// Works one file at the desk, with a book.
+pub(crate) fn serve_one<'a, T: Threads + Wait + Sync, G: Gate + Sync>(
     rt: &T,
     alloc: Global,
+    book: Book,
     only: &'a [u8],
     gate: &G,
-) -> Result<Run<Feed<'a>, Room>, Fail> {
+) -> Result<Run<Feed<'a>, Room>, Fail>
+    requires opening { is_opening book.history ≡ true }
+{
     let mut jobs = Vec::new(alloc);
     jobs.push(job(alloc, only, None, 1000)?)?;
     Ok(
-        serve(rt, alloc, jobs, Book::new(alloc, 100), &stamp()?, gate)
+        serve(rt, alloc, jobs, book, &stamp()?, gate)
             .ok()
             .ok_or("memory")?,
     )
 }
 
-/// Works one file at the desk, at an empty book: how its job must end, and what must be written.
+/// Works one file at the desk, with an empty book: how its job must end, what must be written, and the replies.
 pub(crate) fn expect_served<T: Threads + Wait + Sync + Abort>(
     rt: &T,
     alloc: Global,
     input: &[u8],
     end: FileOutcome,
     written: &[u8],
+    replies: &[Reply],
 ) -> Result<(), Fail> {
-    let run = serve_one(rt, alloc, input, &OpenGate)?;
-    let ends = [end];
-    assert_eq!(rt; run.outcomes.as_slice(), ends.as_slice());
-    let [only] = run.jobs.as_slice() else {
-        return Err(Fail::from("not one job"));
-    };
-    assert_eq!(rt; only.writer.bytes(), written);
-    Ok(())
+    let run = serve_one(rt, alloc, Book::new(alloc, 100), input, &OpenGate)?;
+    expect_run(rt, &run, end, written, replies)
 }
 
 #[test]
 fn two_workers_meet_at_the_gate(rt: HostRuntime) -> Result<(), Fail> {
     let alloc = rt.alloc();
-    let iswc = "T0345246801";
-    let shares = ["06000", "04000"];
-    let one = one_work(alloc, SENDER, "NWR", "W1", iswc, shares)?;
-    let other = one_work(alloc, OTHER_SENDER, "NWR", "W1", iswc, shares)?;
-    let run = serve_two(&rt, alloc, &one, &other, &SecondFirst::new())?;
+    let claims = rival_claims(alloc)?;
+    let [one, other] = &claims;
+    let run = serve_two(&rt, alloc, one, other, &SecondFirst::new())?;
     let ends = [ACKED, ACKED];
     assert_eq!(rt; run.outcomes.as_slice(), ends.as_slice());
     expect_history(
@@ -137,9 +117,9 @@ fn two_workers_meet_at_the_gate(rt: HostRuntime) -> Result<(), Fail> {
     let [first, second] = run.jobs.as_slice() else {
         return Err(Fail::from("not two jobs"));
     };
-    let conflict = acknowledgement(alloc, &[decision(0, "NWR", "W1", "00000001", "CO", &[])])?;
+    let conflict = one_answer(alloc, "CO")?;
     assert_eq!(rt; first.writer.bytes(), conflict.as_slice());
-    let registered = acknowledgement(alloc, &[decision(0, "NWR", "W1", "00000001", "AS", &[])])?;
+    let registered = one_answer(alloc, "AS")?;
     assert_eq!(rt; second.writer.bytes(), registered.as_slice());
     Ok(())
 }
@@ -148,7 +128,13 @@ fn two_workers_meet_at_the_gate(rt: HostRuntime) -> Result<(), Fail> {
 fn one_worker_waits_in_vain(rt: HostRuntime) -> Result<(), Fail> {
     let alloc = rt.alloc();
     let input = plain_file(alloc)?;
-    let run = serve_one(&rt, alloc, &input, &SecondFirst::new())?;
+    let run = serve_one(
+        &rt,
+        alloc,
+        Book::new(alloc, 100),
+        &input,
+        &SecondFirst::new(),
+    )?;
     let ends = [FileOutcome::Stopped {
         handed: 0,
         why: Why::Gate,
@@ -158,27 +144,24 @@ fn one_worker_waits_in_vain(rt: HostRuntime) -> Result<(), Fail> {
     Ok(())
 }
 
-#[test]
-fn a_gate_that_shuts(rt: HostRuntime) -> Result<(), Fail> {
-    let alloc = rt.alloc();
-    let lines = [
-        work(alloc, "NWR", 0, "W1", "")?,
-        writer(alloc, "SWR", 0, 1, ALL)?,
-        work(alloc, "NWR", 1, "W1", "")?,
-        writer(alloc, "SWR", 1, 1, ALL)?,
+/// The plain file was worked twice, first by this session and then by that one.
+fn expect_twice(
+    rt: &impl Abort,
+    alloc: Global,
+    run: &Run<Feed, Room>,
+    sessions: [u32; 2],
+) -> Result<(), Fail> {
+    let [earlier, later] = sessions;
+    let history = [
+        (earlier, accepted(1, 1)),
+        (later, Reply::Duplicate { work: 1 }),
     ];
-    let input = file(alloc, SENDER, "NWR", 2, &lines)?;
-    let run = serve_one(&rt, alloc, &input, &OneOnly)?;
-    let ends = [FileOutcome::Stopped {
-        handed: 1,
-        why: Why::Gate,
-    }];
-    assert_eq!(rt; run.outcomes.as_slice(), ends.as_slice());
-    expect_history(&rt, &run.book, &[(1, accepted(1, 1))])?;
-    let [only] = run.jobs.as_slice() else {
-        return Err(Fail::from("not one job"));
-    };
-    assert_eq!(rt; only.writer.bytes(), b"".as_slice());
+    expect_history(rt, &run.book, &history)?;
+    for (job, session) in run.jobs.iter().zip(1..3u32) {
+        let status = if session == earlier { "AS" } else { "DU" };
+        let wanted = one_answer(alloc, status)?;
+        assert_eq!(rt; job.writer.bytes(), wanted.as_slice());
+    }
     Ok(())
 }
 
@@ -189,18 +172,21 @@ fn one_file_twice_at_once(rt: HostRuntime) -> Result<(), Fail> {
     let run = serve_two(&rt, alloc, &input, &input, &OpenGate)?;
     let ends = [ACKED, ACKED];
     assert_eq!(rt; run.outcomes.as_slice(), ends.as_slice());
-    assert_eq!(rt; run.book.len(), 2);
-    let [first, second] = run.jobs.as_slice() else {
-        return Err(Fail::from("not two jobs"));
-    };
-    let registered = acknowledgement(alloc, &[decision(0, "NWR", "W1", "00000001", "AS", &[])])?;
-    let duplicate = acknowledgement(alloc, &[decision(0, "NWR", "W1", "00000001", "DU", &[])])?;
-    let one = first.writer.bytes();
-    let two = second.writer.bytes();
-    let forth = one == registered.as_slice() && two == duplicate.as_slice();
-    let back = one == duplicate.as_slice() && two == registered.as_slice();
-    assert!(rt; forth || back);
-    Ok(())
+    assert_eq!(rt; run.jobs.len(), 2);
+    let first = run.book.history().first().ok_or("an entry")?;
+    let sessions = if first.session() == 1 { [1, 2] } else { [2, 1] };
+    expect_twice(&rt, alloc, &run, sessions)
+}
+
+#[test]
+fn one_file_twice_and_the_second_job_first(rt: HostRuntime) -> Result<(), Fail> {
+    let alloc = rt.alloc();
+    let input = plain_file(alloc)?;
+    let run = serve_two(&rt, alloc, &input, &input, &SecondFirst::new())?;
+    let ends = [ACKED, ACKED];
+    assert_eq!(rt; run.outcomes.as_slice(), ends.as_slice());
+    assert_eq!(rt; run.jobs.len(), 2);
+    expect_twice(&rt, alloc, &run, [2, 1])
 }
 
 #[test]
@@ -218,6 +204,7 @@ fn no_jobs_at_the_desk(rt: HostRuntime) -> Result<(), Fail> {
     .ok()
     .ok_or("memory")?;
     assert_eq!(rt; run.outcomes.len(), 0);
+    assert_eq!(rt; run.jobs.len(), 0);
     assert_eq!(rt; (run.book.len(), run.book.limit()), (0, 100));
     Ok(())
 }
