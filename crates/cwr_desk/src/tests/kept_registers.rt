@@ -62,6 +62,39 @@ fn runs_follow_one_another(rt: HostRuntime) -> Result<(), Fail> {
     expect_held(&rt, &kept[0], &one_answer(alloc, "DU")?)
 }
 
+#[test]
+fn leaves_the_register_that_it_begins_with(rt: HostRuntime) -> Result<(), Fail> {
+    let alloc = rt.alloc();
+    let input = plain_file(alloc)?;
+    let book = register(alloc, 1)?;
+    let kept = [
+        keeping(alloc, "a.ack", b"", 1000)?,
+        keeping(alloc, "book", book.as_bytes(), 1000)?,
+    ];
+    let files = [("a", FakeFile::Holds(&input))];
+    let words = run_with(alloc, &["--from", "book", "a"])?;
+    let told = "a: acknowledged 1\n";
+    expect(&rt, &words, &files, &kept, ExitCode::SUCCESS, told, "")?;
+    expect_held(&rt, &kept[0], &one_answer(alloc, "DU")?)?;
+    expect_held(&rt, &kept[1], book.as_bytes())
+}
+
+#[test]
+fn keeps_a_register_beside_a_file_that_fails(rt: HostRuntime) -> Result<(), Fail> {
+    let alloc = rt.alloc();
+    let input = plain_file(alloc)?;
+    let kept = [
+        keeping(alloc, "a.ack", b"", 1000)?,
+        keeping(alloc, "book", b"what lay there before", 1000)?,
+    ];
+    let files = [("a", FakeFile::Holds(&input))];
+    let words = run_with(alloc, &["--to", "book", "absent", "a"])?;
+    let told = "absent: stopped after 0: read\na: acknowledged 1\n";
+    expect(&rt, &words, &files, &kept, ExitCode::FAILURE, told, "")?;
+    expect_held(&rt, &kept[0], &one_answer(alloc, "AS")?)?;
+    expect_held(&rt, &kept[1], register(alloc, 1)?.as_bytes())
+}
+
 /// Runs the file `a` from a register of this name, where `wrong` is this text: it must be refused, and nothing written.
 fn refuses_register<'a, T: AllocGlobal + Abort + Threads + Wait + Sync>(
     rt: &T,
