@@ -50,6 +50,7 @@ pub use registry_desk::{Desk, Seat};
 pub use serving::serve;
 pub use words::{RunFault, run_fault};
 pub use work_registry::{
-    Book, Call, Claim, Entry, Fault, Faults, Refused, Reply, WhyRefused, WorkKind,
+    Book, Call, Claim, Entry, Fault, Faults, Refused, RegisterRefusal, Reply, WhyRefused, WorkKind,
+    audit, read_register,
 };
 pub use working::work;

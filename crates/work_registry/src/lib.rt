@@ -18,6 +18,7 @@ mod tests;
 
 pub use book::Book;
 pub use claim::Claim;
+pub use cwr_file::Status;
 pub use cwr_rules::{Call, Fault, Faults, Memory, WorkKind};
 pub use entry::Entry;
 pub use refused::{Refused, WhyRefused};

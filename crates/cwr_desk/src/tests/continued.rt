@@ -5,14 +5,13 @@ ghost use Rattle.work_registry.specs.Replay.{is_opening};
 use super::sheets::{acknowledgement, decision, three_works};
 use super::threads::serve_one;
 use super::turns::{accepted, expect_history, expect_run, run_one};
-use crate::{Book, FileOutcome, OpenGate, Reply, Run, Why};
+use crate::{Book, FileOutcome, OpenGate, RegisterRefusal, Reply, Run, Why, audit, read_register};
 use cwr_file::{Feed, Room};
 use std::alloc::Global;
 use std::process::Abort;
 use std::sync::Wait;
 use std::test::Fail;
 use std::thread::Threads;
-use work_registry::{RegisterRefusal, audit, read_register};
 
 /// How a file is worked: in turn, or at the desk.
 #[derive(Clone, Copy)]
