@@ -18,8 +18,8 @@ use std::alloc::Allocator;
 use std::sync::Wait;
 use work_registry::{Book, Call, Refused, Reply, WhyRefused};
 
-/// How often the next seat looks before it sleeps: longer each time, some microseconds in all.
-const FEW_LOOKS: u32 = 8;
+/// How often the next seat looks before it sleeps: some ten microseconds in all, longer than most turns take.
+const FEW_LOOKS: u32 = 20;
 
 impl<A: Allocator + Copy + Drop> Inside<A> {
     /// Hands a call in, as [`Book::apply`] does by the seat's session.
