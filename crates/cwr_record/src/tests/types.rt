@@ -35,3 +35,9 @@ fn types(rt: HostRuntime) {
         assert_eq!(rt; type_of(line), *wanted);
     }
 }
+
+#[test]
+fn kinds_have_their_record_types(rt: HostRuntime) {
+    assert_eq!(rt; *WorkKind::Nwr.code(), *b"NWR");
+    assert_eq!(rt; *WorkKind::Rev.code(), *b"REV");
+}
