@@ -16,8 +16,7 @@ struct Worked {
 }
 
 /// Works two files at two seats of one desk, with a gate that lets worker 1 pass after worker 2 alone.
-fn work_two<T: Wait>(rt: &T, alloc: Global, files: &[Vec<u8>; 2]) -> Result<Worked, Fail> {
-    let [one, other] = files;
+fn work_two<T: Wait>(rt: &T, alloc: Global, one: &[u8], other: &[u8]) -> Result<Worked, Fail> {
     let mut first_writer = Room::new(alloc, 425, true)?;
     let mut second_writer = Room::new(alloc, 425, true)?;
     let stamp = stamp()?;
@@ -64,11 +63,12 @@ fn work_two<T: Wait>(rt: &T, alloc: Global, files: &[Vec<u8>; 2]) -> Result<Work
 fn the_first_seat_waits_in_vain(rt: HostRuntime) -> Result<(), Fail> {
     let alloc = rt.alloc();
     let files = rival_claims(alloc)?;
+    let [one, other] = &files;
     let Worked {
         book,
         ends,
         writers,
-    } = work_two(&rt, alloc, &files)?;
+    } = work_two(&rt, alloc, one, other)?;
     let stopped = FileOutcome::Stopped {
         handed: 0,
         why: Why::Gate,
