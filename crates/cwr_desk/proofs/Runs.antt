@@ -11,8 +11,9 @@ use Rattle.registry_desk.specs.declared.view.Met.{Met}
 use Rattle.registry_desk.specs.declared.view.View.{View}
 use Rattle.registry_desk.specs.Closing.{Closes}
 use Rattle.registry_desk.specs.Rule.{MetFits}
-use Rattle.cwr_desk.specs.declared.outcome.FileOutcome.{FileOutcome}
-use Rattle.cwr_desk.specs.Whole.{Ran, Accounts, is_full, IsRun}
+use Rattle.cwr_engine.specs.declared.outcome.FileOutcome.{FileOutcome}
+use Rattle.cwr_engine.specs.Whole.{Accounts, is_full, IsRun}
+use Rattle.cwr_desk.specs.Ran.{Ran}
 
 -- as many seats were met as there are jobs
 pub Ran-length : {J : Type 0} (P : J → J → FileOutcome → Bool → List EntryValue → Type 0) (session : ℕ) (js ks : List J) (os : List FileOutcome) (before after : List Met)

@@ -1,8 +1,1 @@
-pub mod OutcomeText
-pub mod Items
-pub mod Account
-pub mod Causes
-pub mod CheckText
-pub mod RunFault
-pub mod Handing
-pub mod Whole
+pub mod Ran

@@ -1,11 +1,12 @@
 //! A window at the running desk.
-ghost use Rattle.std.specs.Prelude.{◌≡◌, ◌≢◌, ◌≤◌, ◌+◌, ◌-◌, ◌++◌, ◌∷◌, [], None, Some, true, IfOk, IfErr, OnErr};
+ghost use Rattle.std.specs.Prelude.{◌≡◌, ◌≢◌, ◌≤◌, ◌+◌, ◌-◌, ◌++◌, ◌∷◌, [], None, true, IfOk, IfErr, OnErr};
+ghost use Rattle.registry_desk.specs.Standing.{DeskId};
 ghost use Rattle.registry_desk.specs.Views.{most_turns};
 ghost use Rattle.work_registry.specs.Numbers.{IsNumbered};
 ghost use Rattle.work_registry.specs.declared.refused.WhyRefused.TheVariants.{Full};
-ghost use Rattle.cwr_desk.specs.Handing.{Follows, entry_with};
+ghost use Rattle.cwr_engine.specs.Handing.{Follows, entry_with};
 
-use crate::window::Window;
+use cwr_engine::Window;
 use registry_desk::{Desk, Seat};
 use std::alloc::Allocator;
 use std::sync::Wait;
@@ -34,7 +35,9 @@ impl<'a, T: Wait, A: Allocator + Copy + Drop> Window<Call<A>> for AtDesk<'a, T, 
 
     ghost limit = { λ _. None };
 
-    ghost home = { λ s. Some s.seat.desk };
+    ghost Home = { DeskId };
+
+    ghost home = { λ s. s.seat.desk };
 
     fn hand_in(self, call: Call<A>) -> (AtDesk<'a, T, A>, Result<Reply, WhyRefused>) {
         let AtDesk { rt, desk, seat } = self;

@@ -2,14 +2,14 @@
 ghost use Rattle.std.specs.Prelude.{All, IfOk, IfErr, reverse, ◌≡◌, ◌≢◌, ◌+◌, ◌<◌, ◌≤◌, [], false, true, vec_len, vec_capacity};
 ghost use Rattle.std.specs.Thread.{IsSync};
 ghost use Rattle.work_registry.specs.Replay.{is_opening};
-ghost use Rattle.cwr_desk.specs.Account.{JobAccount};
-ghost use Rattle.cwr_desk.specs.Whole.{Ran, IsRun};
+ghost use Rattle.cwr_engine.specs.Account.{JobAccount};
+ghost use Rattle.cwr_engine.specs.Whole.{IsRun};
+ghost use Rattle.cwr_desk.specs.Ran.{Ran};
 
-use crate::gates::Gate;
-use crate::jobs::{Job, Run, ServeRefused};
-use crate::outcome::FileOutcome;
 use crate::working::work_job;
-use cwr_file::{Sink, Source, Stamp};
+use byte_streams::{Sink, Source};
+use cwr_engine::{FileOutcome, Gate, Job, Run, ServeRefused};
+use cwr_record::Stamp;
 use registry_desk::{Desk, Seat};
 use std::alloc::Allocator;
 use std::sync::Wait;

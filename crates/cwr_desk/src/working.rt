@@ -1,15 +1,13 @@
 //! One job at a seat of the running desk.
 ghost use Rattle.std.specs.Prelude.{◌≡◌, ◌≢◌, ◌≤◌, ◌+◌, [], false, None};
 ghost use Rattle.registry_desk.specs.Views.{most_turns};
-ghost use Rattle.cwr_desk.specs.Account.{JobAccount};
-ghost use Rattle.cwr_desk.specs.Handing.{IsWorked};
+ghost use Rattle.cwr_engine.specs.Account.{JobAccount};
+ghost use Rattle.cwr_engine.specs.Handing.{IsWorked};
 
 use crate::at_desk::AtDesk;
-use crate::engine::work_file;
-use crate::gates::Gate;
-use crate::jobs::Job;
-use crate::outcome::FileOutcome;
-use cwr_file::{Sink, Source, Stamp};
+use byte_streams::{Sink, Source};
+use cwr_engine::{FileOutcome, Gate, Job, work_file};
+use cwr_record::Stamp;
 use registry_desk::{Desk, Seat};
 use std::alloc::Allocator;
 use std::sync::Wait;

@@ -1,34 +1,4 @@
-//! Laws of the definitions alone.
-//!
-//! A law is a function that does nothing. Its contract is what is proved.
+//! The laws of the grammar and of the acknowledgement.
 
-ghost use Rattle.std.specs.Prelude.{◌≡◌, ◌⊎◌, ℕ, List, Some};
-ghost use Rattle.std.specs.List.{AllByRecursion};
-ghost use Rattle.cwr_record.specs.Stamp.{StampParts};
-ghost use Rattle.cwr_record.specs.declared.control.Header.{Header};
-ghost use Rattle.cwr_file.specs.AckItem.{Item};
-ghost use Rattle.cwr_file.specs.Acknowledgement.{ack_text, IsWholeItem};
-ghost use Rattle.cwr_file.specs.Faults.{IsFault, IsLeastFault};
-ghost use Rattle.cwr_file.specs.File.{File, IsFile};
-ghost use Rattle.cwr_file.specs.FirstFault.{first_fault};
-
-/// One fault or one reading, never both: lines have a first fault, or stand for exactly one file, which has a header
-/// line and groups, and then there is no fault at all.
-pub fn one_fault_or_one_reading()
-    ensures some { (text : List (List ℕ)) → ((line : ℕ) × (number : ℕ) × IsLeastFault text line number) ⊎ ((f : File) × IsFile text f) }
-    ensures one_fault { (text : List (List ℕ)) (k n j m : ℕ) → IsLeastFault text k n → IsLeastFault text j m → (k ≡ j) × (n ≡ m) }
-    ensures one_reading { (text : List (List ℕ)) (f g : File) → IsFile text f → IsFile text g → f ≡ g }
-    ensures never_both { (text : List (List ℕ)) (f : File) (line number : ℕ) → IsFile text f → IsFault text line number → ⊥ }
-{}
-
-/// The first fault that is computed line by line is the least of all faults.
-pub fn first_fault_is_least()
-    ensures { (text : List (List ℕ)) (line number : ℕ) → first_fault text ≡ Some (line, number) → IsLeastFault text line number }
-{}
-
-/// One acknowledgement text, one list of items.
-pub fn one_text_one_list_of_items()
-    ensures { (stamp : StampParts) (header : Header) (items others : List Item)
-        → AllByRecursion IsWholeItem items → AllByRecursion IsWholeItem others
-        → ack_text stamp header items ≡ ack_text stamp header others → items ≡ others }
-{}
+pub use cwr_acknowledgement::laws::one_text_one_list_of_items;
+pub use cwr_grammar::laws::{first_fault_is_least, one_fault_or_one_reading};

@@ -9,46 +9,15 @@
 //! acknowledgement file that answers it.
 #![tactic(auto)]
 
-mod ack_item;
-mod ack_records;
-#[cfg(test)]
-mod ack_tests;
-mod acknowledgement;
-mod control;
-mod counts;
-mod failed;
-mod fault;
-mod feed;
 pub mod laws;
-mod lines;
-mod messages;
-mod place;
-mod reads;
-mod refusal;
-mod role;
-mod room;
-mod sink;
-mod source;
-mod submission;
-#[cfg(test)]
-mod tests;
-mod through;
-mod transaction_fault;
-mod transactions;
 
-pub use ack_item::{AckItem, Status};
-pub use acknowledgement::ack_file;
+pub use byte_streams::{
+    Failed, Feed, ReadCount, Room, Sink, Source, Through, WriteStopped, write_out,
+};
+pub use cwr_acknowledgement::{AckItem, ack_file};
+pub use cwr_call::{Fault, Faults};
 pub use cwr_field::Memory;
-pub use cwr_record::{Header, Stamp, WorkKind};
-pub use failed::Failed;
-pub use feed::Feed;
-pub use lines::Lines;
-pub use reads::ReadCount;
-pub use refusal::FileRefusal;
-pub use room::Room;
-pub use sink::{Sink, WriteStopped, write_out};
-pub use source::Source;
-pub use submission::{Submission, parse_file};
-pub use through::Through;
-pub use transaction_fault::{Fault, Faults};
-pub use transactions::{RawTransaction, TransactionIter, Transactions};
+pub use cwr_grammar::{
+    FileRefusal, Lines, RawTransaction, Submission, TransactionIter, Transactions, parse_file,
+};
+pub use cwr_record::{Header, Stamp, Status, WorkKind};

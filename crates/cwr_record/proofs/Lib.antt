@@ -4,3 +4,4 @@ pub mod RoundTrip
 pub mod SameRecords
 pub mod Names
 pub mod TrailingBlanks
+pub mod Codes

@@ -1,7 +1,9 @@
--- The record types that two kinds of a record have.
+-- The codes of kinds: the record types that two kinds of a record have, and the status of a transaction.
 use Rattle.std.specs.Prelude.{ℕ, List, codes}
 use Rattle.cwr_record.specs.declared.works.WorkKind.{WorkKind}
 use Rattle.cwr_record.specs.declared.works.WorkKind.TheVariants.{Nwr, Rev}
+use Rattle.cwr_record.specs.declared.status.Status.{Status}
+use Rattle.cwr_record.specs.declared.status.Status.TheVariants.{Accepted, Duplicate, Conflict, Rejected}
 use Rattle.cwr_record.specs.declared.publishers.PublisherKind.{PublisherKind}
 use Rattle.cwr_record.specs.declared.publishers.PublisherKind.TheVariants.{Spu, Opu}
 use Rattle.cwr_record.specs.declared.writers.WriterKind.{WriterKind}
@@ -21,3 +23,10 @@ publisher_kind_code Opu = codes "OPU"
 abbrev pub writer_kind_code : WriterKind → List ℕ
 writer_kind_code Swr = codes "SWR"
 writer_kind_code Owr = codes "OWR"
+
+-- Transaction Status of an acknowledged transaction
+abbrev pub status_text : Status → List ℕ
+status_text Accepted = codes "AS"
+status_text Duplicate = codes "DU"
+status_text Conflict = codes "CO"
+status_text Rejected = codes "RJ"

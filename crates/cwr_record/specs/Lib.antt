@@ -15,3 +15,4 @@ pub mod Stamp
 pub mod Readable
 pub mod Ranges
 pub mod Pieces
+pub mod FaultOrder

@@ -33,6 +33,7 @@ mod publishers;
 mod record_type;
 mod slot;
 mod stamp;
+mod status;
 mod values;
 mod works;
 mod writers;
@@ -54,6 +55,7 @@ pub use publishers::{
 pub use record_type::{RecordType, type_of};
 pub use slot::FieldFault;
 pub use stamp::Stamp;
+pub use status::Status;
 pub use works::{
     AltTitle, CrossRef, WorkHead, WorkKind, read_alt_title, read_cross_ref, read_work_head,
     write_alt_title, write_cross_ref, write_work_head,
@@ -62,6 +64,3 @@ pub use writers::{
     Link, Writer, WriterKind, WriterTerritory, read_link, read_writer, read_writer_territory,
     write_link, write_writer, write_writer_territory,
 };
-
-#[cfg(test)]
-mod tests;

@@ -4,27 +4,18 @@ use Rattle.std.specs.Prelude.{◌&&◌, is_some, is_none, option_and_then}
 use Rattle.std.specs.List.{list_all}
 use Rattle.std.specs.Char.{is_ascii_uppercase}
 use Rattle.std.proofs.lemmas.Bool.Decides.{nat_tests}
-use Rattle.cwr_file.specs.declared.transaction_fault.Fault.{Fault}
+use Rattle.cwr_call.specs.declared.transaction_fault.Fault.{Fault}
 use Rattle.cwr_record.specs.declared.works.WorkKind.{WorkKind}
 use Rattle.cwr_record.specs.declared.works.WorkKind.TheVariants.{Nwr, Rev}
 use Rattle.cwr_record.specs.Kinds.{work_kind_code}
 use Rattle.cwr_rules.specs.declared.place.Place.{Place}
 use Rattle.cwr_rules.specs.declared.record.Record.{Record}
 use Rattle.cwr_rules.specs.declared.record.Record.TheVariants.{Spu, Opu, Spt, Swr, Owr, Swt, Pwr, Alt, Xrf, Carried}
-use Rattle.cwr_rules.specs.Lawful.{is_fault}
+use Rattle.cwr_call.specs.Lawful.{is_fault}
+use Rattle.cwr_call.proofs.Tests.{both, parts}
 use Rattle.cwr_rules.specs.Place.{place_of}
 use Rattle.cwr_rules.specs.Rules.{name_of, publishers}
 use Rattle.cwr_rules.specs.Faults.{found, all_found, record_rules, head_rules, faults_after, faults_of}
-
-pub both : (a b : Bool) → a ≡ true → b ≡ true → (a && b) ≡ true
-both true true p q = refl
-both true false p q = absurd cc
-both false b p q = absurd cc
-
-pub parts : (a b : Bool) → (a && b) ≡ true → (a ≡ true) × (b ≡ true)
-parts true true e = (refl, refl)
-parts true false e = absurd cc
-parts false b e = absurd cc
 
 pub le_test : (a b : ℕ) → a ≤ b → leb a b ≡ true
 le_test a b h = grind (arith, nat_tests)

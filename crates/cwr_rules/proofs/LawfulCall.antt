@@ -5,14 +5,14 @@ use Rattle.std.specs.List.{list_all}
 use Rattle.std.proofs.lemmas.Bool.Decides.{nat_tests}
 use Rattle.cwr_field.specs.Layout.{field}
 use Rattle.cwr_field.specs.Iswc.{iswc_of}
-use Rattle.cwr_file.specs.declared.transaction_fault.Fault.{Fault}
+use Rattle.cwr_call.specs.declared.transaction_fault.Fault.{Fault}
 use Rattle.cwr_record.specs.declared.works.WorkKind.{WorkKind}
 use Rattle.cwr_record.specs.Kinds.{work_kind_code}
 use Rattle.cwr_rules.specs.declared.record.Record.{Record}
 use Rattle.cwr_rules.specs.declared.record.Record.TheVariants.{Spu, Opu, Spt, Swr, Owr, Swt, Pwr, Alt, Xrf, Carried}
 use Rattle.cwr_rules.specs.declared.record.Shares.{Shares}
 use Rattle.cwr_rules.specs.declared.totals.Totals.{Totals}
-use Rattle.cwr_rules.specs.Lawful.{is_clean, is_iswc, is_lawful, is_none_found, is_whole, are_at_most, are_faults}
+use Rattle.cwr_call.specs.Lawful.{is_clean, is_iswc, is_lawful, is_none_found, is_whole, are_at_most, are_faults}
 use Rattle.cwr_rules.specs.Totals.{total, performing_share, mechanical_share, synchronization_share, owns, controls, ownership, control}
 use Rattle.cwr_rules.specs.Calls.{three, call_from}
 use Rattle.cwr_rules.specs.Rules.{publishers}
@@ -21,7 +21,8 @@ use Rattle.cwr_rules.specs.Faults.{found, all_found, faults_after, faults_of, he
 use Rattle.cwr_rules.specs.Collected.{AreCapped}
 use Rattle.cwr_rules.proofs.SmallShares.{TotalsLe, totals_le}
 use Rattle.cwr_rules.proofs.Rising.{faults_rise}
-use Rattle.cwr_rules.proofs.FaultForms.{both, parts, le_test, faults_are, faults_few}
+use Rattle.cwr_call.proofs.Tests.{both, parts}
+use Rattle.cwr_rules.proofs.FaultForms.{le_test, faults_are, faults_few}
 
 abbrev is_clear : ℕ → Bool
 is_clear b = leb 32 b

@@ -2,9 +2,9 @@
 use Rattle.std.proofs.Common.{◌≡◌, ℕ, ◌+◌, Bool, true, false, ltb, List, [], ◌∷◌, ◌++◌, length, refl, sym, subst, arith, append_assoc}
 use Rattle.std.specs.Prelude.{◌&&◌}
 use Rattle.std.proofs.lemmas.Bool.Decides.{nat_tests}
-use Rattle.cwr_file.specs.declared.transaction_fault.Fault.{Fault}
+use Rattle.cwr_call.specs.declared.transaction_fault.Fault.{Fault}
 use Rattle.cwr_rules.specs.declared.record.Record.{Record}
-use Rattle.cwr_rules.specs.Lawful.{is_before, rises_from, rises}
+use Rattle.cwr_call.specs.Lawful.{is_before, rises_from, rises}
 use Rattle.cwr_record.specs.declared.works.WorkKind.{WorkKind}
 use Rattle.cwr_record.specs.Kinds.{work_kind_code}
 use Rattle.cwr_rules.specs.Rules.{name_of, publishers}

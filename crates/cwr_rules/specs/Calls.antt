@@ -3,10 +3,10 @@ use Rattle.std.specs.Prelude.{ℕ, List, [], ◌∷◌}
 use Rattle.cwr_field.specs.Layout.{field}
 use Rattle.cwr_field.specs.Iswc.{iswc_of}
 use Rattle.cwr_record.specs.declared.works.WorkKind.{WorkKind}
-use Rattle.cwr_file.specs.RawParts.{RawParts}
+use Rattle.cwr_grammar.specs.RawParts.{RawParts}
 use Rattle.cwr_rules.specs.declared.record.Record.{Record}
 use Rattle.cwr_rules.specs.declared.totals.Totals.{Totals}
-use Rattle.cwr_rules.specs.CallValue.{CallValue}
+use Rattle.cwr_call.specs.CallValue.{CallValue}
 use Rattle.cwr_rules.specs.Records.{records_of}
 use Rattle.cwr_rules.specs.Totals.{control}
 use Rattle.cwr_rules.specs.Head.{number_in}

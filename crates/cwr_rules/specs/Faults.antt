@@ -1,7 +1,7 @@
 -- The faults of a transaction: every rule that holds, at each place where it holds, in rising order.
 use Rattle.std.specs.Prelude.{ℕ, ◌+◌, Bool, List, [], ◌∷◌, ◌++◌, length, if◌then◌else◌}
 use Rattle.std.specs.List.{flat_map}
-use Rattle.cwr_file.specs.declared.transaction_fault.Fault.{Fault}
+use Rattle.cwr_call.specs.declared.transaction_fault.Fault.{Fault}
 use Rattle.cwr_record.specs.declared.works.WorkKind.{WorkKind}
 use Rattle.cwr_record.specs.Kinds.{work_kind_code}
 use Rattle.cwr_rules.specs.declared.record.Record.{Record}

@@ -6,8 +6,6 @@ pub mod Rules
 pub mod Head
 pub mod Faults
 pub mod Holds
-pub mod CallValue
-pub mod Lawful
 pub mod Calls
 pub mod Position
 pub mod Parties

@@ -2,20 +2,20 @@ ghost use Rattle.std.specs.Prelude.{◌≡◌, ◌<◌, IsTrue, IfOk, length, na
 ghost use Rattle.std.specs.HashMap.{get};
 ghost use Rattle.cwr_field.specs.Layout.{field};
 ghost use Rattle.cwr_field.specs.Iswc.{iswc_of};
-ghost use Rattle.cwr_rules.specs.Lawful.{is_clean, is_iswc};
+ghost use Rattle.cwr_call.specs.Lawful.{is_clean, is_iswc};
 ghost use Rattle.cwr_rules.specs.Calls.{call_of};
 ghost use Rattle.cwr_rules.specs.Head.{number_in};
 ghost use Rattle.cwr_rules.specs.Faults.{faults_of};
 ghost use Rattle.cwr_rules.specs.Summary.{IsSummary};
 
-use crate::call::Call;
 use crate::reading::{parts, read_records};
 use crate::record::Record;
 use crate::record_faults::push_faults_of_records;
 use crate::summary::{Summary, summary_of};
 use crate::whole_faults::push_faults_of_whole;
+use cwr_call::{Call, Fault, Faults};
 use cwr_field::{Iswc, Memory, cut, iswc};
-use cwr_file::{Fault, Faults, RawTransaction};
+use cwr_grammar::RawTransaction;
 use cwr_record::WorkKind;
 use std::alloc::Allocator;
 

@@ -3,11 +3,11 @@
 //! A law is a function that does nothing. Its contract is what is proved.
 
 ghost use Rattle.std.specs.Prelude.{◌≡◌, ◌↔◌, ◌∷◌, ℕ, true, List, reverse, IsSome, IsTrue};
-ghost use Rattle.cwr_file.specs.declared.transaction_fault.Fault.{Fault};
+ghost use Rattle.cwr_call.specs.declared.transaction_fault.Fault.{Fault};
 ghost use Rattle.cwr_record.specs.declared.works.WorkKind.{WorkKind};
 ghost use Rattle.cwr_rules.specs.declared.record.Record.{Record};
 ghost use Rattle.cwr_rules.specs.Holds.{Holds, IsIn};
-ghost use Rattle.cwr_rules.specs.Lawful.{rises};
+ghost use Rattle.cwr_call.specs.Lawful.{rises};
 ghost use Rattle.cwr_rules.specs.Place.{place_of};
 ghost use Rattle.cwr_rules.specs.Order.{IsPrefix, types};
 ghost use Rattle.cwr_field.specs.Layout.{field};

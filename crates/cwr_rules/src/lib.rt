@@ -5,10 +5,8 @@
 //! definitions what they mean.
 #![tactic(auto)]
 
-mod call;
 mod collected;
 mod judging;
-mod lawful;
 pub mod laws;
 mod parties;
 mod place;
@@ -19,13 +17,11 @@ mod record_faults;
 mod record_tests;
 mod summary;
 mod sums;
-#[cfg(test)]
-mod tests;
 mod totals;
 mod whole_faults;
 
-pub use call::Call;
+pub use cwr_call::{Call, Fault, Faults};
 pub use cwr_field::Memory;
-pub use cwr_file::{Fault, Faults, RawTransaction};
+pub use cwr_grammar::RawTransaction;
 pub use cwr_record::WorkKind;
 pub use judging::judge;

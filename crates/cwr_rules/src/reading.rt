@@ -1,11 +1,11 @@
 ghost use Rattle.std.specs.Prelude.{◌≡◌, ◌<◌, ◌∷◌, [], IsTrue, IfOk, length};
 ghost use Rattle.cwr_record.specs.Parties.{has_collection};
 ghost use Rattle.cwr_rules.specs.Records.{record_of, records_of, territory_at};
-ghost use Rattle.cwr_rules.specs.Lawful.{is_clean};
+ghost use Rattle.cwr_call.specs.Lawful.{is_clean};
 
 use crate::record::{Record, Shares, Territory};
 use cwr_field::{Memory, cut};
-use cwr_file::{Lines, RawTransaction};
+use cwr_grammar::{Lines, RawTransaction};
 use cwr_record::{
     RecordType, collection_of, indicator_of, ownership_of, party_of, publisher_of, territory_of,
     type_of,

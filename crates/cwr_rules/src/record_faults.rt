@@ -8,8 +8,8 @@ ghost use Rattle.cwr_rules.specs.Parties.{HoldsParties};
 use crate::parties::Parties;
 use crate::position::Position;
 use crate::record::Record;
+use cwr_call::Fault;
 use cwr_field::Memory;
-use cwr_file::Fault;
 use std::alloc::Allocator;
 
 /// Appends a fault, where its rule holds.

@@ -9,8 +9,8 @@ ghost use Rattle.cwr_rules.specs.Summary.{IsSummary};
 
 use crate::record_faults::push_found;
 use crate::summary::Summary;
+use cwr_call::Fault;
 use cwr_field::{Iswc, Memory, cut, date, is_blank, iswc, time};
-use cwr_file::Fault;
 use cwr_record::WorkKind;
 use std::alloc::Allocator;
 

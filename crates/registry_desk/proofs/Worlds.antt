@@ -5,7 +5,7 @@ use Rattle.std.proofs.lemmas.List.Elements.{filter-append}
 use Rattle.ticket_core.specs.declared.array_lock.ArrayPhase.{ArrayPhase}
 use Rattle.ticket_core.specs.declared.array_lock.ArrayPhase.TheVariants.{Away, Waiting, Inside, Leaving}
 use Rattle.ticket_core.specs.ArrayLock.{array_phase_at}
-use Rattle.cwr_rules.specs.CallValue.{CallValue}
+use Rattle.cwr_call.specs.CallValue.{CallValue}
 use Rattle.work_registry.specs.EntryValue.{EntryValue}
 use Rattle.work_registry.specs.History.{IsHistory}
 use Rattle.work_registry.specs.Replay.{made, entry_for}

@@ -8,7 +8,7 @@ use Rattle.ticket_core.specs.declared.array_lock.ArrayOutcome.{ArrayOutcome}
 use Rattle.ticket_core.specs.declared.array_lock.ArrayOutcome.TheVariants.{Enters}
 use Rattle.ticket_core.specs.ArrayLock.{ArrayState, array_phase_at}
 use Rattle.ticket_core.specs.ArraySteps.{array_answer}
-use Rattle.cwr_rules.specs.CallValue.{CallValue}
+use Rattle.cwr_call.specs.CallValue.{CallValue}
 use Rattle.work_registry.specs.EntryValue.{EntryValue}
 use Rattle.work_registry.specs.Replay.{entry_for}
 

@@ -15,8 +15,6 @@ mod door;
 pub mod laws;
 mod rule;
 mod seat;
-#[cfg(test)]
-mod tests;
 mod turn;
 mod view;
 mod words;

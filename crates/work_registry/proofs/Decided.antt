@@ -1,7 +1,7 @@
 -- the reply and the change, from what a book finds of a call's key, work and ISWC
 use Rattle.std.proofs.Common.{◌≡◌, ◌≤◌, ◌<◌, ℕ, ◌+◌, ◌==◌, Bool, true, false, List, [], ◌∷◌, refl, sym, ap, ◌∙◌, arith, Option, Some, None, if◌then◌else◌, slice_index, length, zero, suc}
 use Rattle.cwr_record.specs.declared.works.WorkKind.TheVariants.{Rev}
-use Rattle.cwr_rules.specs.CallValue.{CallValue}
+use Rattle.cwr_call.specs.CallValue.{CallValue}
 use Rattle.work_registry.specs.declared.key.Key.{Key}
 use Rattle.work_registry.specs.declared.claim.Claim.{Claim}
 use Rattle.work_registry.specs.declared.reply.Reply.{Reply}

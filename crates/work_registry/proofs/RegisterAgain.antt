@@ -12,13 +12,13 @@ use Rattle.cwr_field.proofs.DigitText.{all_digits}
 use Rattle.cwr_record.specs.declared.works.WorkKind.{WorkKind}
 use Rattle.cwr_record.specs.declared.works.WorkKind.TheVariants.{Nwr, Rev}
 use Rattle.cwr_record.specs.Kinds.{work_kind_code}
-use Rattle.cwr_file.specs.AckItem.{status_text}
-use Rattle.cwr_file.specs.declared.ack_item.Status.{Status}
-use Rattle.cwr_file.specs.declared.ack_item.Status.TheVariants as status
-use Rattle.cwr_file.specs.declared.transaction_fault.Fault.{Fault}
-use Rattle.cwr_file.proofs.AckTexts.{same_fronts}
-use Rattle.cwr_rules.proofs.FaultForms.{both, parts}
-use Rattle.cwr_rules.specs.Lawful.{is_clean, is_fault, is_lawful, rises}
+use Rattle.cwr_record.specs.Kinds.{status_text}
+use Rattle.cwr_record.specs.declared.status.Status.{Status}
+use Rattle.cwr_record.specs.declared.status.Status.TheVariants as status
+use Rattle.cwr_call.specs.declared.transaction_fault.Fault.{Fault}
+use Rattle.cwr_field.proofs.SameFronts.{same_fronts}
+use Rattle.cwr_call.proofs.Tests.{both, parts}
+use Rattle.cwr_call.specs.Lawful.{is_clean, is_fault, is_lawful, rises}
 use Rattle.work_registry.specs.declared.register.head.Head.{Head}
 use Rattle.work_registry.specs.RegisterLine.{Column, line_of, head, fault, head_of, code_text, line_from, EntryLine, IsEntryLine}
 use Rattle.work_registry.specs.RegisterPieces.{IsWholeFault}

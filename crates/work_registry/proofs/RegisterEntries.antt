@@ -4,10 +4,10 @@ use Rattle.std.specs.Prelude.{slice_index, IfSome}
 use Rattle.std.specs.List.{AllByRecursion}
 use Rattle.std.proofs.lemmas.List.{length-append, length-take, take_at, drop_at, take_all, take-append-drop, append_cancel_right}
 use Rattle.cwr_record.specs.declared.works.WorkKind.{WorkKind}
-use Rattle.cwr_file.specs.declared.ack_item.Status.{Status}
-use Rattle.cwr_file.specs.declared.transaction_fault.Fault.{Fault}
-use Rattle.cwr_file.proofs.AckValues.{same_kind, same_status, length-work_kind_code, length-status_text}
-use Rattle.cwr_rules.specs.Lawful.{is_lawful}
+use Rattle.cwr_record.specs.declared.status.Status.{Status}
+use Rattle.cwr_call.specs.declared.transaction_fault.Fault.{Fault}
+use Rattle.cwr_record.proofs.Codes.{same_kind, same_status, length-work_kind_code, length-status_text}
+use Rattle.cwr_call.specs.Lawful.{is_lawful}
 use Rattle.work_registry.specs.declared.register.head.Head.{Head}
 use Rattle.work_registry.specs.RegisterLine.{line_of, StandsFor, head, head_of, line_from, code_text, EntryLine, IsEntryLine, IsTyped}
 use Rattle.work_registry.specs.RegisterPieces.{FitsCode, FitsHead, IsWholeFault}

@@ -3,8 +3,8 @@ use Rattle.std.proofs.Common.{◌≡◌, ◌∙◌, ℕ, ◌*◌, ◌<◌, List,
 use Rattle.std.specs.List.{flat_map, AllByRecursion}
 use Rattle.std.proofs.lemmas.List.{append-nil, length-append, take_all, take-append-drop}
 use Rattle.std.proofs.lemmas.Grind.{flat_map-append}
-use Rattle.cwr_file.specs.declared.transaction_fault.Fault.{Fault}
-use Rattle.cwr_file.proofs.AckTexts.{same_fronts}
+use Rattle.cwr_call.specs.declared.transaction_fault.Fault.{Fault}
+use Rattle.cwr_field.proofs.SameFronts.{same_fronts}
 use Rattle.work_registry.specs.RegisterLine.{line_of, StandsFor, fault, IsTyped}
 use Rattle.work_registry.specs.RegisterPieces.{FitsFault, IsWholeFault}
 use Rattle.work_registry.proofs.RegisterFields.{same_number}

@@ -16,7 +16,7 @@ use Rattle.cwr_field.specs.declared.codes.Iswc.TheVariants.{Blank, Valid, Wrong}
 use Rattle.cwr_field.proofs.DigitSteps.{is_digit}
 use Rattle.cwr_field.proofs.DigitText.{number_of-number_text, all_digits}
 use Rattle.cwr_field.proofs.CodeText.{iswc_of-iswc_text}
-use Rattle.cwr_rules.proofs.FaultForms.{parts}
+use Rattle.cwr_call.proofs.Tests.{parts}
 use Rattle.work_registry.specs.RegisterLine.{code_text}
 use Rattle.work_registry.specs.RegisterPieces.{FitsCode}
 

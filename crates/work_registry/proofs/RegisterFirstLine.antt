@@ -3,7 +3,7 @@ use Rattle.std.proofs.Common.{◌≡◌, ◌∙◌, ℕ, ◌+◌, ◌<◌, ◌�
 use Rattle.std.specs.Prelude.{◌⊎◌, ◌||◌, ◌==◌, codes}
 use Rattle.cwr_field.specs.Number.{number_text}
 use Rattle.std.proofs.lemmas.List.{length_push}
-use Rattle.cwr_file.specs.Faults.{IsNoLater}
+use Rattle.cwr_record.specs.FaultOrder.{IsNoLater}
 use Rattle.work_registry.specs.EntryValue.{EntryValue}
 use Rattle.work_registry.specs.Register.{count_line}
 use Rattle.work_registry.specs.RegisterFaults.{lines, has_end, IsNoCount, HasFaultAfter, HasFault, IsLeastFault}

@@ -4,10 +4,10 @@ use Rattle.std.specs.Prelude.{◌&&◌, slice_index}
 use Rattle.std.specs.List.{list_all, AllByRecursion}
 use Rattle.std.specs.Char.{is_ascii_uppercase}
 use Rattle.std.proofs.lemmas.Bool.Decides.{nat_tests}
-use Rattle.cwr_file.specs.declared.transaction_fault.Fault.{Fault}
-use Rattle.cwr_rules.specs.CallValue.{CallValue}
-use Rattle.cwr_rules.specs.Lawful.{is_lawful, is_clean, is_iswc, are_at_most, is_whole, is_fault, are_faults, rises}
-use Rattle.cwr_rules.proofs.FaultForms.{parts}
+use Rattle.cwr_call.specs.declared.transaction_fault.Fault.{Fault}
+use Rattle.cwr_call.specs.CallValue.{CallValue}
+use Rattle.cwr_call.specs.Lawful.{is_lawful, is_clean, is_iswc, are_at_most, is_whole, is_fault, are_faults, rises}
+use Rattle.cwr_call.proofs.Tests.{parts}
 use Rattle.work_registry.specs.declared.reply.Reply.{Reply}
 use Rattle.work_registry.specs.declared.reply.Reply.TheVariants.{Accepted, Duplicate, Conflict, Rejected}
 use Rattle.work_registry.specs.EntryValue.{EntryValue}

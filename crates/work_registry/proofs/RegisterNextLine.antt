@@ -1,13 +1,13 @@
 -- The line after those that were read: its faults, and what follows where it has none.
 use Rattle.std.proofs.Common.{◌≡◌, ◌∙◌, ℕ, ◌+◌, ◌<◌, ◌≤◌, Bool, true, false, List, [], ◌∷◌, ◌++◌, length, Option, Some, None, arith, ap, sym, subst, refl, append_assoc, inl, inr, eq-eqb}
 use Rattle.std.specs.Prelude.{◌⊎◌, ◌==◌, ◌&&◌, if◌then◌else◌}
-use Rattle.cwr_rules.specs.CallValue.{CallValue}
+use Rattle.cwr_call.specs.CallValue.{CallValue}
 use Rattle.std.specs.List.{flat_map, AllByRecursion}
 use Rattle.std.proofs.lemmas.List.{length_push, append-nil}
 use Rattle.std.proofs.lemmas.List.Folds.{list_all-append}
-use Rattle.cwr_file.specs.Faults.{IsNoLater}
-use Rattle.cwr_file.specs.declared.ack_item.Status.{Status}
-use Rattle.cwr_file.specs.declared.ack_item.Status.TheVariants as status
+use Rattle.cwr_record.specs.FaultOrder.{IsNoLater}
+use Rattle.cwr_record.specs.declared.status.Status.{Status}
+use Rattle.cwr_record.specs.declared.status.Status.TheVariants as status
 use Rattle.work_registry.specs.declared.reply.Reply.{Reply}
 use Rattle.work_registry.specs.declared.reply.Reply.TheVariants.{Accepted, Duplicate, Conflict, Rejected}
 use Rattle.work_registry.specs.EntryValue.{EntryValue}
@@ -19,7 +19,7 @@ use Rattle.work_registry.specs.Told.{status_in}
 use Rattle.work_registry.specs.Register.{work_of, version_of, line_for, entry_line, entry_lines, count_line, register_text, IsWholeEntry}
 use Rattle.work_registry.specs.RegisterFaults.{in_front, lines, has_end, IsNoEntry, Tells, HasNumber, HasFaultAfter, IsFault, IsLeastFault}
 use Rattle.work_registry.specs.RegisterReading.{IsReadTo}
-use Rattle.cwr_rules.proofs.FaultForms.{both}
+use Rattle.cwr_call.proofs.Tests.{both}
 use Rattle.work_registry.proofs.RegisterFirstLine.{later, has_last}
 
 -- a line without LF says nothing

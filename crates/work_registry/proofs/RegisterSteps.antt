@@ -2,7 +2,7 @@
 use Rattle.std.proofs.Common.{◌≡◌, ◌∙◌, ℕ, ◌+◌, ◌<◌, List, [], ◌∷◌, ◌++◌, length, take, drop, get_or, ap, sym, subst, append_assoc}
 use Rattle.std.specs.List.{flat_map, AllByRecursion}
 use Rattle.std.proofs.lemmas.List.{drop_more, take_more}
-use Rattle.cwr_file.specs.declared.transaction_fault.Fault.{Fault}
+use Rattle.cwr_call.specs.declared.transaction_fault.Fault.{Fault}
 use Rattle.work_registry.specs.declared.register.head.Head.{Head}
 use Rattle.work_registry.specs.EntryValue.{EntryValue}
 use Rattle.work_registry.specs.RegisterLine.{EntryLine, line_of, head, fault, head_of, line_text}

@@ -1,6 +1,6 @@
 -- A call that the registry answered: who handed it in (session 0 is the opening), what it was, and the reply.
 use Rattle.std.specs.Prelude.{ℕ}
-use Rattle.cwr_rules.specs.CallValue.{CallValue}
+use Rattle.cwr_call.specs.CallValue.{CallValue}
 use Rattle.work_registry.specs.declared.reply.Reply.{Reply}
 
 pub record EntryValue : Type 0 where

@@ -1,6 +1,6 @@
 -- What a book keeps beside its history, so that it answers without going through it.
 use Rattle.std.specs.Prelude.{◌≡◌, ℕ, ◌≤◌, ◌+◌, ◌-◌, ◌<◌, List, [], ◌∷◌, ◌++◌, length, Option, Some, None, slice_index_or, slice_set, if◌then◌else◌, nat_lt}
-use Rattle.cwr_rules.specs.CallValue.{CallValue}
+use Rattle.cwr_call.specs.CallValue.{CallValue}
 use Rattle.work_registry.specs.declared.key.Key.{Key}
 use Rattle.work_registry.specs.declared.claim.Claim.{Claim}
 use Rattle.work_registry.specs.declared.reply.Reply.{Reply}

@@ -2,7 +2,7 @@
 use Rattle.std.specs.Prelude.{Bool, true, false}
 use Rattle.std.specs.declared.result.Result.{Result}
 use Rattle.std.specs.declared.result.Result.TheVariants.{Ok, Err}
-use Rattle.cwr_rules.specs.CallValue.{CallValue}
+use Rattle.cwr_call.specs.CallValue.{CallValue}
 use Rattle.work_registry.specs.declared.reply.Reply.{Reply}
 use Rattle.work_registry.specs.declared.refused.WhyRefused.{WhyRefused}
 use Rattle.work_registry.specs.declared.refused.WhyRefused.TheVariants.{Full, Memory}

@@ -2,7 +2,7 @@
 -- number.
 use Rattle.std.specs.Prelude.{◌≡◌, ℕ, ◌+◌, ◌<◌, ◌≤◌, ◌^◌, ◌==◌, ◌⊎◌, Bool, List, [], ◌∷◌, ◌++◌, length, if◌then◌else◌}
 use Rattle.std.specs.List.{list_any}
-use Rattle.cwr_file.specs.Faults.{IsNoLater}
+use Rattle.cwr_record.specs.FaultOrder.{IsNoLater}
 use Rattle.work_registry.specs.declared.reply.Reply.{Reply}
 use Rattle.work_registry.specs.declared.register.refusal.RegisterRefusal.{RegisterRefusal}
 use Rattle.work_registry.specs.declared.register.refusal.RegisterRefusal.TheVariants.{Memory, Fault}

@@ -5,11 +5,11 @@ use Rattle.cwr_field.specs.Layout.{field}
 use Rattle.cwr_field.specs.Number.{number_text}
 use Rattle.cwr_field.specs.Iswc.{iswc_text}
 use Rattle.cwr_record.specs.Kinds.{work_kind_code}
-use Rattle.cwr_file.specs.declared.ack_item.Status.{Status}
-use Rattle.cwr_file.specs.declared.transaction_fault.Fault.{Fault}
-use Rattle.cwr_file.specs.AckItem.{status_text}
-use Rattle.cwr_rules.specs.CallValue.{CallValue}
-use Rattle.cwr_rules.specs.Lawful.{is_lawful}
+use Rattle.cwr_record.specs.declared.status.Status.{Status}
+use Rattle.cwr_call.specs.declared.transaction_fault.Fault.{Fault}
+use Rattle.cwr_record.specs.Kinds.{status_text}
+use Rattle.cwr_call.specs.CallValue.{CallValue}
+use Rattle.cwr_call.specs.Lawful.{is_lawful}
 use Rattle.work_registry.specs.declared.register.head.Head.{Head}
 
 -- a field of a line that stands for a value: where it starts, its width, and its text

@@ -4,7 +4,7 @@ use Rattle.cwr_field.specs.Number.{number_text}
 use Rattle.work_registry.specs.declared.register.pieces.Piece.{Piece}
 use Rattle.work_registry.specs.declared.register.pieces.Piece.TheVariants.{Text, Digits, Code}
 use Rattle.work_registry.specs.declared.register.head.Head.{Head}
-use Rattle.cwr_file.specs.declared.transaction_fault.Fault.{Fault}
+use Rattle.cwr_call.specs.declared.transaction_fault.Fault.{Fault}
 use Rattle.work_registry.specs.RegisterLine.{code_text, IsTyped}
 
 abbrev pub piece_text : Piece → List ℕ

@@ -6,10 +6,10 @@
 --      under other keys and the call's are together more than the whole: conflict of that work.
 --   5. Accepted for that work, one version more.
 use Rattle.std.specs.Prelude.{ℕ, ◌+◌, ◌==◌, ◌||◌, Bool, false, not, List, [], ◌∷◌, if◌then◌else◌, Option, Some, None, nat_lt, unwrap_or, slice_index}
-use Rattle.cwr_file.specs.declared.transaction_fault.Fault.{Fault}
+use Rattle.cwr_call.specs.declared.transaction_fault.Fault.{Fault}
 use Rattle.cwr_record.specs.declared.works.WorkKind.{WorkKind}
 use Rattle.cwr_record.specs.declared.works.WorkKind.TheVariants.{Nwr, Rev}
-use Rattle.cwr_rules.specs.CallValue.{CallValue}
+use Rattle.cwr_call.specs.CallValue.{CallValue}
 use Rattle.work_registry.specs.declared.key.Key.{Key}
 use Rattle.work_registry.specs.declared.reply.Reply.{Reply}
 use Rattle.work_registry.specs.declared.reply.Reply.TheVariants.{Accepted, Duplicate, Conflict, Rejected}

@@ -1,7 +1,7 @@
 -- What a reply tells: a Transaction Status, a work and a version.
 use Rattle.std.specs.Prelude.{ℕ, Option, Some, None}
-use Rattle.cwr_file.specs.declared.ack_item.Status.{Status}
-use Rattle.cwr_file.specs.declared.ack_item.Status.TheVariants as status
+use Rattle.cwr_record.specs.declared.status.Status.{Status}
+use Rattle.cwr_record.specs.declared.status.Status.TheVariants as status
 use Rattle.work_registry.specs.declared.reply.Reply.{Reply}
 use Rattle.work_registry.specs.declared.reply.Reply.TheVariants.{Accepted, Duplicate, Conflict, Rejected}
 

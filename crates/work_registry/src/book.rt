@@ -17,7 +17,7 @@ use crate::indexes::{Decision, Indexes};
 use crate::key::Key;
 use crate::refused::{Refused, WhyRefused};
 use crate::reply::Reply;
-use cwr_rules::Call;
+use cwr_call::Call;
 use indexmap::IndexMap;
 use std::alloc::{Allocator, Global};
 use std::marker::Model;

@@ -1,7 +1,7 @@
 ghost use Rattle.std.specs.Prelude.{◌≡◌};
 
 use crate::reply::Reply;
-use cwr_rules::Call;
+use cwr_call::Call;
 use std::alloc::{Allocator, Global};
 use std::marker::Model;
 

@@ -7,7 +7,7 @@ ghost use Rattle.std.specs.List.{AllByRecursion};
 ghost use Rattle.work_registry.specs.Numbers.{most_entries};
 ghost use Rattle.work_registry.specs.Register.{register_text, opened, IsWholeEntry};
 ghost use Rattle.work_registry.specs.RegisterFaults.{IsFault};
-ghost use Rattle.cwr_rules.specs.CallValue.{CallValue};
+ghost use Rattle.cwr_call.specs.CallValue.{CallValue};
 ghost use Rattle.work_registry.specs.EntryValue.{EntryValue};
 ghost use Rattle.work_registry.specs.Rows.{rows_of};
 ghost use Rattle.work_registry.specs.History.{IsHistory, IsShared, IsNamedOnce, Agrees, KeepsNames};

@@ -13,13 +13,11 @@ pub mod laws;
 mod refused;
 mod register;
 mod reply;
-#[cfg(test)]
-mod tests;
 
 pub use book::Book;
 pub use claim::Claim;
-pub use cwr_file::Status;
-pub use cwr_rules::{Call, Fault, Faults, Memory, WorkKind};
+pub use cwr_call::{Call, Fault, Faults, Memory, WorkKind};
+pub use cwr_record::Status;
 pub use entry::Entry;
 pub use refused::{Refused, WhyRefused};
 pub use register::{RegisterRefusal, audit, read_register};

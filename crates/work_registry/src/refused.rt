@@ -1,4 +1,4 @@
-use cwr_rules::Call;
+use cwr_call::Call;
 use std::alloc::{Allocator, Global};
 use std::marker::Model;
 

@@ -22,8 +22,6 @@ mod lines;
 mod pieces;
 mod reading;
 mod refusal;
-#[cfg(test)]
-mod tests;
 mod writing;
 
 use crate::book::Book;

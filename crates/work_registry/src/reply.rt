@@ -1,7 +1,7 @@
 ghost use Rattle.std.specs.Prelude.{◌≡◌};
 ghost use Rattle.work_registry.specs.Told.{status_in, work_in, version_in};
 
-use cwr_file::Status;
+use cwr_record::Status;
 
 /// What the registry decided on a call.
 ///

@@ -11,7 +11,7 @@ use crate::claim::Claim;
 use crate::indexes::{Change, Decision, KeptWork};
 use crate::key::Key;
 use crate::reply::Reply;
-use cwr_rules::{Call, WorkKind};
+use cwr_call::{Call, WorkKind};
 use std::alloc::Allocator;
 
 /// The whole of a right, in hundredths of one per cent, with a tolerance of 0.06 per cent.

@@ -1,14 +1,14 @@
 //! The line of an entry.
 
 ghost use Rattle.std.specs.Prelude.{◌≡◌, [], ◌∷◌, ◌++◌, Some, is_some, IfSome, IfOk};
-ghost use Rattle.cwr_rules.specs.Lawful.{is_lawful};
+ghost use Rattle.cwr_call.specs.Lawful.{is_lawful};
 ghost use Rattle.work_registry.specs.RegisterLine.{EntryLine, IsEntryLine, line_from};
 
 use super::faults::{FAULT_WIDTH, read_faults};
 use super::head::{Head, read_head};
+use cwr_call::{Call, Faults};
 use cwr_field::Memory;
-use cwr_file::{Faults, Status};
-use cwr_rules::Call;
+use cwr_record::Status;
 use std::alloc::Allocator;
 use std::marker::Model;
 

@@ -4,11 +4,11 @@ ghost use Rattle.std.specs.Prelude.{◌≡◌, List, Some, length, IfSome, IfNon
 ghost use Rattle.std.specs.List.{flat_map, AllByRecursion};
 ghost use Rattle.work_registry.specs.RegisterLine.{StandsFor, line_of, fault, IsTyped};
 ghost use Rattle.work_registry.specs.RegisterPieces.{FitsFault, IsWholeFault};
-ghost use Rattle.cwr_file.specs.declared.transaction_fault.Fault.{Fault};
+ghost use Rattle.cwr_call.specs.declared.transaction_fault.Fault.{Fault};
 
 use super::fields::{number_at, text_at};
+use cwr_call::{Fault, Faults};
 use cwr_field::Memory;
-use cwr_file::{Fault, Faults};
 use std::alloc::Allocator;
 
 /// How many bytes a fault takes.

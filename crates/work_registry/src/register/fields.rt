@@ -5,14 +5,13 @@ ghost use Rattle.cwr_field.specs.Layout.{field};
 ghost use Rattle.cwr_field.specs.Number.{number_text};
 ghost use Rattle.cwr_record.specs.Kinds.{work_kind_code};
 ghost use Rattle.cwr_record.specs.declared.works.WorkKind.{WorkKind};
-ghost use Rattle.cwr_file.specs.AckItem.{status_text};
-ghost use Rattle.cwr_file.specs.declared.ack_item.Status.{Status};
+ghost use Rattle.cwr_record.specs.Kinds.{status_text};
+ghost use Rattle.cwr_record.specs.declared.status.Status.{Status};
 ghost use Rattle.work_registry.specs.RegisterLine.{code_text};
 ghost use Rattle.work_registry.specs.RegisterPieces.{FitsCode};
 
 use cwr_field::{Iswc, cut, digits, iswc};
-use cwr_file::Status;
-use cwr_record::WorkKind;
+use cwr_record::{Status, WorkKind};
 
 /// The number in a field of digits.
 pub(super) fn number_at(line: &[u8], start: usize, width: usize) -> Option<u64>

@@ -8,8 +8,7 @@ ghost use Rattle.work_registry.specs.RegisterPieces.{FitsCode, FitsHead};
 ghost use Rattle.work_registry.specs.declared.register.head.Head.{Head};
 
 use super::fields::{code_at, kind_at, number_at, status_at, text_at};
-use cwr_file::Status;
-use cwr_record::WorkKind;
+use cwr_record::{Status, WorkKind};
 
 /// What the fields of fixed place spell.
 #[derive(Clone, Copy)]

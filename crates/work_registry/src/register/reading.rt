@@ -20,7 +20,7 @@ use crate::book::Book;
 use crate::refused::WhyRefused;
 use crate::reply::Reply;
 use cwr_field::Memory;
-use cwr_file::Status;
+use cwr_record::Status;
 use std::alloc::Allocator;
 
 fn fault(number: u8, line: u64) -> RegisterRefusal

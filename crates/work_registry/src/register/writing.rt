@@ -2,7 +2,7 @@
 
 ghost use Rattle.std.specs.Prelude.{◌≡◌, ◌++◌, ◌∷◌, [], ◌<◌, ◌≤◌, ◌^◌, ◌*◌, ◌+◌, OnOk, IfOk, IsTrue, length, sum_by, codes};
 ghost use Rattle.std.specs.List.{flat_map, AllByRecursion};
-ghost use Rattle.cwr_rules.specs.Lawful.{is_lawful};
+ghost use Rattle.cwr_call.specs.Lawful.{is_lawful};
 ghost use Rattle.work_registry.specs.RegisterLine.{line_of, head, fault, head_of, IsTyped};
 ghost use Rattle.work_registry.specs.RegisterPieces.{FitsHead, FitsFault};
 ghost use Rattle.work_registry.specs.Register.{line_for, entry_line, entry_lines, count_line, register_text, FitsEntry, IsWholeEntry};
@@ -10,8 +10,8 @@ ghost use Rattle.work_registry.specs.Register.{line_for, entry_line, entry_lines
 use super::head::Head;
 use super::pieces::{Piece, put_pieces};
 use crate::entry::Entry;
+use cwr_call::Fault;
 use cwr_field::Memory;
-use cwr_file::Fault;
 use std::alloc::Allocator;
 
 fn head_for<A: Allocator>(index: u32, entry: &Entry<A>) -> Head

@@ -1,5 +1,5 @@
 use Rattle.std.proofs.Common.{rules, ◌≡◌, ◌<◌, length, ap, ◌∙◌, Some, List}
-use Rattle.cwr_file.specs.declared.transaction_fault.Fault.{Fault}
+use Rattle.cwr_call.specs.declared.transaction_fault.Fault.{Fault}
 use Rattle.work_registry.proofs.RegisterFaultTexts.{read_more, read_all, too_short, no_faults, split_is}
 use Rattle.work_registry.proofs.register.faults.read_faults.Goals as goal
 

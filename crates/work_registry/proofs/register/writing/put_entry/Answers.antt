@@ -1,8 +1,8 @@
 use Rattle.std.proofs.Common.{◌≡◌, ◌∙◌, List, ap, subst}
 use Rattle.std.specs.List.{AllByRecursion}
-use Rattle.cwr_file.specs.declared.transaction_fault.Fault.{Fault}
+use Rattle.cwr_call.specs.declared.transaction_fault.Fault.{Fault}
 use Rattle.work_registry.specs.RegisterLine.{IsTyped}
-use Rattle.cwr_rules.specs.CallValue.{CallValue}
+use Rattle.cwr_call.specs.CallValue.{CallValue}
 use Rattle.work_registry.specs.Register.{line_for}
 use Rattle.work_registry.proofs.RegisterFits.{head_fits, faults_fit}
 use Rattle.work_registry.proofs.RegisterSteps.{line_parts}

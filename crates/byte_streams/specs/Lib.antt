@@ -1,0 +1,5 @@
+pub mod Bytes
+pub mod Reads
+pub mod Feed
+pub mod Room
+pub mod Through

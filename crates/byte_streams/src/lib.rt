@@ -1,0 +1,25 @@
+//! Where the bytes of a file come from and go.
+//!
+//! A [`Source`] gives bytes and a [`Sink`] takes them, a few at a time. [`Through`] is both over a reader or a writer
+//! of std; [`Feed`] and [`Room`] lie in memory, and contracts see their bytes. [`read_file`] reads a source to its end,
+//! up to a limit, and [`write_out`] sends a whole text into a sink.
+#![tactic(auto)]
+
+mod failed;
+mod feed;
+mod reading;
+mod reads;
+mod room;
+mod sink;
+mod source;
+mod through;
+
+pub use cwr_field::Memory;
+pub use failed::Failed;
+pub use feed::Feed;
+pub use reading::{ReadRefused, read_file};
+pub use reads::ReadCount;
+pub use room::Room;
+pub use sink::{Sink, WriteStopped, write_out};
+pub use source::Source;
+pub use through::Through;

@@ -1,0 +1,4 @@
+pub mod AckTexts
+pub mod AckValues
+pub mod AckSteps
+pub mod AckLaw

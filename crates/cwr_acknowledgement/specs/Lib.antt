@@ -1,0 +1,3 @@
+pub mod AckItem
+pub mod Messages
+pub mod Acknowledgement

@@ -1,0 +1,158 @@
+//! The records of an acknowledgement.
+
+ghost use Rattle.std.specs.Prelude.{◌≡◌, ◌≤◌, ◌+◌, ◌%◌, ◌++◌, codes, length};
+ghost use Rattle.cwr_field.specs.Layout.{padded};
+ghost use Rattle.cwr_field.specs.Number.{number_text};
+ghost use Rattle.cwr_acknowledgement.specs.Acknowledgement.{file_start, group_start, group_end, file_end, ack_record, message_record, work_text};
+
+use crate::ack_item::AckItem;
+use crate::messages::message_text;
+use cwr_call::Fault;
+use cwr_record::{Ack, FileTrailer, GroupHead, GroupTrailer, Header, Message, Prefix, Stamp};
+use std::alloc::Allocator;
+
+pub(crate) fn file_start(stamp: &Stamp) -> Header
+    ensures { result ≡ file_start stamp.now }
+{
+    Header {
+        sender: sender(stamp.society()),
+        name: stamp.name(),
+        creation_date: stamp.date(),
+        creation_time: stamp.time(),
+        transmission_date: stamp.date(),
+        character_set: [b' '; 15],
+    }
+}
+
+/// A society as the sender of a file: `SO`, six zeros, and its number in three digits.
+fn sender(society: u16) -> [u8; 11]
+    ensures { result ≡ codes "SO000000" ++ number_text 3 society }
+{
+    let [hundreds, tens, ones] = [
+        digit(society / 10 / 10),
+        digit(society / 10),
+        digit(society),
+    ];
+    [
+        b'S', b'O', b'0', b'0', b'0', b'0', b'0', b'0', hundreds, tens, ones,
+    ]
+}
+
+/// The last digit of a number.
+fn digit(number: u16) -> u8
+    ensures { result ≡ 48 + number % 10 }
+{
+    b'0' + (number % 10) as u8
+}
+
+pub(crate) fn group_start() -> GroupHead
+    ensures { result ≡ group_start }
+{
+    GroupHead {
+        transaction_type: *b"ACK",
+        group: 1,
+        version: *b"02.20",
+        batch_request: *b"0000000000",
+        submission_type: [b' '; 2],
+    }
+}
+
+/// The acknowledgement of an item, as the transaction `index` of its file.
+pub(crate) fn ack_record<A: Allocator>(
+    stamp: &Stamp,
+    header: &Header,
+    index: u32,
+    item: &AckItem<A>,
+) -> Ack
+    ensures { result ≡ ack_record stamp.now header.now index item.now }
+{
+    Ack {
+        prefix: Prefix {
+            transaction: index,
+            detail: 0,
+        },
+        creation_date: header.creation_date,
+        creation_time: header.creation_time,
+        original_group: item.group,
+        original_transaction: item.sequence,
+        original_type: *item.kind.code(),
+        title: item.title,
+        submitter_number: filled(&item.number),
+        recipient_number: recipient_number(item.work),
+        processing_date: stamp.date(),
+        status: *item.status.code(),
+    }
+}
+
+/// The registry's number of a work in eight digits, or blanks where there is none.
+fn recipient_number(work: Option<u32>) -> [u8; 20]
+    ensures { result ≡ padded 20 (work_text work) }
+{
+    match work {
+        Some(work) => filled(&eight_digits(work)),
+        None => [b' '; 20],
+    }
+}
+
+fn eight_digits(number: u32) -> [u8; 8]
+    ensures { result ≡ number_text 8 number }
+{
+    let mut digits = [b'0'; 8];
+    let mut rest = number;
+    for index in (0..8).rev() {
+        digits[index] = b'0' + (rest % 10) as u8;
+        rest /= 10;
+    }
+    digits
+}
+
+/// The text, filled with blanks.
+fn filled<const N: usize>(text: &[u8]) -> [u8; N]
+    requires { length text.now ≤ N }
+    ensures { result ≡ padded N text.now }
+{
+    let mut bytes = [b' '; N];
+    bytes[..text.len()].copy_from_slice(text);
+    bytes
+}
+
+/// The message that tells a fault, as the record `detail` of the transaction `index`.
+pub(crate) fn message_record(index: u32, detail: u32, fault: &Fault) -> Message
+    requires { (1 ≤ fault.now.number) × (fault.now.number ≤ 15) }
+    ensures { result ≡ message_record index detail fault.now }
+{
+    Message {
+        prefix: Prefix {
+            transaction: index,
+            detail,
+        },
+        message_type: *b"T",
+        original_record: fault.sequence,
+        record_type: fault.rtype,
+        message_level: *b"T",
+        validation_number: fault.number as u16,
+        text: filled(message_text(fault.number)),
+    }
+}
+
+pub(crate) fn group_end(transactions: u32, told: u32) -> GroupTrailer
+    requires { transactions + told ≤ 99999995 }
+    ensures { result ≡ group_end transactions told }
+{
+    GroupTrailer {
+        group: 1,
+        transactions,
+        records: transactions + 2 + told,
+    }
+}
+
+pub(crate) fn file_end(transactions: u32, told: u32) -> FileTrailer
+    requires { transactions + told ≤ 99999995 }
+    ensures { result ≡ file_end transactions told }
+{
+    FileTrailer {
+        groups: 1,
+        transactions,
+        records: transactions + 4 + told,
+    }
+}

@@ -1,0 +1,13 @@
+-- Two tests that hold together.
+use Rattle.std.proofs.Common.{◌≡◌, Bool, true, false, refl}
+use Rattle.std.specs.Prelude.{◌&&◌}
+
+pub both : (a b : Bool) → a ≡ true → b ≡ true → (a && b) ≡ true
+both true true p q = refl
+both true false p q = absurd cc
+both false b p q = absurd cc
+
+pub parts : (a b : Bool) → (a && b) ≡ true → (a ≡ true) × (b ≡ true)
+parts true true e = (refl, refl)
+parts true false e = absurd cc
+parts false b e = absurd cc

@@ -1,0 +1,2 @@
+pub mod CallValue
+pub mod Lawful

@@ -1,0 +1,161 @@
+ghost use Rattle.std.specs.Prelude.{◌≡◌, IsTrue, IfSome, is_some};
+ghost use Rattle.cwr_call.specs.Lawful.{is_lawful, is_clean, is_iswc, are_at_most, is_whole, are_faults};
+
+use crate::lawful;
+use crate::transaction_fault::{Fault, Faults};
+use cwr_record::WorkKind;
+use std::alloc::{Allocator, Global};
+use std::marker::Model;
+
+/// What a transaction asks of the registry, and the faults that forbid it.
+///
+/// No byte of its texts is below 32, its ISWC has nine digits, and no control is above 999,999,990,000. Its faults
+/// rise strictly by sequence and number, at most 999,999,999 of them; without faults no control is above 10006. A
+/// contract sees the record of its parts.
+#[derive_where(Debug)]
+#[derive(Drop)]
+pub struct Call<A: Allocator = Global> {
+    submitter: [u8; 11],
+    kind: WorkKind,
+    title: [u8; 60],
+    number: [u8; 14],
+    iswc: Option<u64>,
+    control: [u64; 3],
+    faults: Faults<A>,
+}
+
+impl<A: Allocator> Model for Call<A> {
+    ghost use Rattle.std.specs.Prelude.{IsTrue};
+    ghost use Rattle.cwr_call.specs.CallValue.{CallValue};
+    ghost use Rattle.cwr_call.specs.Lawful.{is_lawful};
+
+    ghost Value = { CallValue };
+
+    ghost view = { λ c. record { submitter = c.submitter; kind = c.kind; title = c.title; number = c.number; iswc = c.iswc; control = c.control; faults = c.faults } };
+
+    ghost invariant = { λ c. IsTrue (is_lawful (record { submitter = c.submitter; kind = c.kind; title = c.title; number = c.number; iswc = c.iswc; control = c.control; faults = c.faults })) };
+}
+
+impl<A: Allocator> Call<A> {
+    /// The call of these parts, or `None` where they can be those of no call: the faults are then dropped. No memory is
+    /// asked for.
+    ///
+    /// They can where no byte of submitter, title and number is below 32; the ISWC is at most 999,999,999; no control
+    /// is above 999,999,990,000, and without faults none above 10006; and there are at most 999,999,999 faults,
+    /// strictly rising by sequence and number, each with a sequence of at most eight digits, a number from 1 to 15
+    /// and a record type of three capitals.
+    pub fn of(
+        submitter: [u8; 11],
+        kind: WorkKind,
+        title: [u8; 60],
+        number: [u8; 14],
+        iswc: Option<u64>,
+        control: [u64; 3],
+        faults: Faults<A>,
+    ) -> Option<Call<A>>
+        ensures when { is_some result ≡ is_lawful (record { submitter = submitter; kind = kind; title = title; number = number; iswc = iswc; control = control; faults = faults }) }
+        ensures value { IfSome result (λ c. c ≡ record { submitter = submitter; kind = kind; title = title; number = number; iswc = iswc; control = control; faults = faults }) }
+    {
+        let is_lawful = lawful::is_clean(&submitter)
+            && lawful::is_clean(&title)
+            && lawful::is_clean(&number)
+            && lawful::is_iswc(iswc)
+            && lawful::are_at_most(999999990000, &control)
+            && lawful::is_whole(faults.as_slice(), &control)
+            && lawful::are_faults(faults.as_slice());
+        if !is_lawful {
+            return None;
+        }
+        Some(Call {
+            submitter,
+            kind,
+            title,
+            number,
+            iswc,
+            control,
+            faults,
+        })
+    }
+
+    /// The call of parts that are known to be those of one, as [`Call::of`] tells. No memory is asked for.
+    pub fn of_lawful(
+        submitter: [u8; 11],
+        kind: WorkKind,
+        title: [u8; 60],
+        number: [u8; 14],
+        iswc: Option<u64>,
+        control: [u64; 3],
+        faults: Faults<A>,
+    ) -> Call<A>
+        requires { IsTrue (is_lawful (record { submitter = submitter; kind = kind; title = title; number = number; iswc = iswc; control = control; faults = faults })) }
+        ensures { result ≡ record { submitter = submitter; kind = kind; title = title; number = number; iswc = iswc; control = control; faults = faults } }
+    {
+        Call {
+            submitter,
+            kind,
+            title,
+            number,
+            iswc,
+            control,
+            faults,
+        }
+    }
+
+    /// Who submits it: sender type and sender id, bytes 4 to 14 of the file's HDR.
+    pub fn submitter(&self) -> [u8; 11]
+        ensures value { result ≡ self.now.submitter }
+        ensures clean { IsTrue (is_clean result) }
+    {
+        self.submitter
+    }
+
+    /// Whether it registers a work or revises a registration.
+    pub fn kind(&self) -> WorkKind
+        ensures { result ≡ self.now.kind }
+    {
+        self.kind
+    }
+
+    /// The work's title, bytes 20 to 79 of NWR or REV.
+    pub fn title(&self) -> [u8; 60]
+        ensures value { result ≡ self.now.title }
+        ensures clean { IsTrue (is_clean result) }
+    {
+        self.title
+    }
+
+    /// The submitter's number of the work, bytes 82 to 95 of NWR or REV.
+    pub fn number(&self) -> [u8; 14]
+        ensures value { result ≡ self.now.number }
+        ensures clean { IsTrue (is_clean result) }
+    {
+        self.number
+    }
+
+    /// The nine digits of the work's ISWC as a number; `None` where it is blank or wrong.
+    pub fn iswc(&self) -> Option<u64>
+        ensures value { result ≡ self.now.iswc }
+        ensures nine_digits { IsTrue (is_iswc result) }
+    {
+        self.iswc
+    }
+
+    /// What the submitter's publishers and writers own of the performing, the mechanical and the synchronization
+    /// right, in hundredths of one per cent.
+    pub fn control(&self) -> [u64; 3]
+        ensures value { result ≡ self.now.control }
+        ensures bound { IsTrue (are_at_most 999999990000 result) }
+        ensures whole { IsTrue (is_whole self.now.faults result) }
+    {
+        self.control
+    }
+
+    /// The rules that it breaks, in strictly rising order of sequence and number.
+    pub fn faults(&self) -> &[Fault]
+        ensures value { result.now ≡ self.now.faults }
+        ensures faults { IsTrue (are_faults result.now) }
+        ensures lawful { IsTrue (is_lawful self.now) }
+    {
+        self.faults.as_slice()
+    }
+}

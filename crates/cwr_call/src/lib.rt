@@ -1,0 +1,11 @@
+//! What a transaction of a submission asks of the registry: its [`Call`], and the [`Fault`]s that forbid it.
+#![tactic(auto)]
+
+mod call;
+mod lawful;
+mod transaction_fault;
+
+pub use call::Call;
+pub use cwr_field::Memory;
+pub use cwr_record::WorkKind;
+pub use transaction_fault::{Fault, Faults};

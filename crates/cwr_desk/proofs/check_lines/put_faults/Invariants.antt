@@ -1,8 +1,0 @@
-use Rattle.std.proofs.Common.{◌≡◌, ◌++◌, drop}
-use Rattle.std.specs.List.{flat_map}
-use Rattle.cwr_desk.specs.CheckText.{fault_text}
-use Rattle.cwr_desk.proofs.check_lines.put_faults.Given as goal
-
--- what is written and what is left make the whole
-abbrev pub invariant-loop-fault : goal.invariant-loop-fault
-invariant-loop-fault g l = l.out.items ++ flat_map fault_text (drop l.fault-index l.faults) ≡ l.fn.out.items ++ flat_map fault_text l.faults

@@ -1,0 +1,196 @@
+//! Files of the profile, and what becomes of each.
+
+ghost use Rattle.std.specs.Prelude.{◌≡◌, ◌<◌, None, false, IfOk};
+
+use byte_streams::{Failed, Feed, ReadCount, ReadRefused, Room, Source, read_file};
+use cwr_desk::{Book, FileOutcome, Job, Why, acknowledge, outcome_line, serve_in_turn};
+use cwr_sheets::{one_answer, plain_file, same, same_bytes, same_lists, stamp, with_newlines};
+use std::alloc::Global;
+use std::test::Fail;
+
+/// Acknowledges a file from a source into a writer with so much room, which fails when it is full, or else takes
+/// nothing more: how it must end, and what must be written.
+fn expect<R: Source>(
+    alloc: Global,
+    reader: &mut R,
+    room: usize,
+    fails: bool,
+    end: FileOutcome,
+    written: &[u8],
+) -> Result<(), Fail>
+    requires { R.has_failed reader.old ≡ false }
+{
+    let mut writer = Room::new(alloc, room, fails)?;
+    let outcome = acknowledge(alloc, reader, &mut writer, &stamp()?);
+    same("how the file ended", &outcome, &end)?;
+    same_bytes("what was written", writer.bytes(), written)
+}
+
+/// Acknowledges a file whose reader gives so many bytes at a time: it must be answered as the plain file is.
+fn expect_plain(alloc: Global, input: &[u8], piece: usize) -> Result<(), Fail>
+    requires { 0 < piece }
+{
+    let end = FileOutcome::Acked { transactions: 1 };
+    let mut reader = Feed::new(input, piece, None);
+    expect(
+        alloc,
+        &mut reader,
+        425,
+        true,
+        end,
+        &one_answer(alloc, "AS")?,
+    )
+}
+
+#[test]
+fn acknowledges_one_work(rt: HostRuntime) -> Result<(), Fail> {
+    let alloc = rt.alloc();
+    same("its length", &one_answer(alloc, "AS")?.len(), &425)?;
+    let input = plain_file(alloc)?;
+    expect_plain(alloc, &input, 4096)?;
+    expect_plain(alloc, &with_newlines(alloc, &input)?, 1)
+}
+
+#[test]
+fn takes_the_old_end_of_file_mark(rt: HostRuntime) -> Result<(), Fail> {
+    let alloc = rt.alloc();
+    let mut input = plain_file(alloc)?;
+    input.extend_from_slice(b"\r\n\x1a\r\n")?;
+    expect_plain(alloc, &input, 4096)
+}
+
+#[test]
+fn stops_where_a_write_fails(rt: HostRuntime) -> Result<(), Fail> {
+    let alloc = rt.alloc();
+    let wanted = one_answer(alloc, "AS")?;
+    let input = plain_file(alloc)?;
+    let sent = wanted.get(..100).ok_or("100 bytes")?;
+    let why = Why::Write { sent: 100 };
+    let end = FileOutcome::Stopped { handed: 1, why };
+    for fails in [true, false] {
+        let mut reader = Feed::new(&input, 4096, None);
+        expect(alloc, &mut reader, 100, fails, end, sent)?;
+    }
+    Ok(())
+}
+
+/// A source that gives the byte `A` for ever.
+#[derive(Drop)]
+struct Endless {
+    reads: ReadCount,
+}
+
+impl Source for Endless {
+    ghost left = { λ _. None };
+
+    ghost reads = { λ s. s.reads };
+
+    ghost has_failed = { λ _. false };
+
+    fn failed(&self) -> bool {
+        false
+    }
+
+    fn read_some(&mut self, room: &mut [u8]) -> Result<usize, Failed> {
+        self.reads.count();
+        for byte in room.iter_mut() {
+            *byte = b'A';
+        }
+        Ok(room.len())
+    }
+}
+
+const TOO_LONG: FileOutcome = FileOutcome::Stopped {
+    handed: 0,
+    why: Why::TooLong,
+};
+
+#[test]
+fn stops_where_the_file_has_no_end(rt: HostRuntime) -> Result<(), Fail> {
+    let alloc = rt.alloc();
+    let mut endless = Endless {
+        reads: ReadCount::zero(),
+    };
+    expect(alloc, &mut endless, 425, true, TOO_LONG, b"")
+}
+
+#[test]
+fn stops_a_job_whose_file_has_no_end(rt: HostRuntime) -> Result<(), Fail> {
+    let alloc = rt.alloc();
+    let mut jobs = Vec::new(alloc);
+    jobs.push(Job {
+        reader: Endless {
+            reads: ReadCount::zero(),
+        },
+        writer: Room::new(alloc, 425, true)?,
+    })?;
+    let run = serve_in_turn(alloc, jobs, Book::new(alloc, 100), &stamp()?)
+        .ok()
+        .ok_or("memory")?;
+    same_lists("how the job ended", &run.outcomes, &[TOO_LONG])?;
+    same("entries", &run.book.len(), &0)?;
+    let job = run.jobs.first().ok_or("a job")?;
+    same_bytes("what it wrote", job.writer.bytes(), b"")
+}
+
+#[test]
+fn stops_where_a_read_fails(rt: HostRuntime) -> Result<(), Fail> {
+    let alloc = rt.alloc();
+    let input = plain_file(alloc)?;
+    let mut failing = Feed::new(&input, 4096, Some(1));
+    let why = Why::Read;
+    let end = FileOutcome::Stopped { handed: 0, why };
+    expect(alloc, &mut failing, 425, true, end, b"")
+}
+
+#[test]
+fn reads_up_to_the_limit(rt: HostRuntime) -> Result<(), Fail> {
+    let alloc = rt.alloc();
+    let whole = read_file(alloc, &mut Feed::new(b"abc", 2, None), 3)?;
+    same_bytes("a whole file", &whole, b"abc")?;
+    for (text, fail, wanted) in [
+        ("abcd", None, ReadRefused::TooLong),
+        ("abc", Some(2), ReadRefused::Read),
+    ] {
+        let mut reader = Feed::new(text.as_bytes(), 2, fail);
+        let refused = read_file(alloc, &mut reader, 3).map(|text| text.len());
+        same(text, &refused, &Err(wanted))?;
+    }
+    Ok(())
+}
+
+#[test]
+fn tells_outcomes(rt: HostRuntime) -> Result<(), Fail> {
+    let alloc = rt.alloc();
+    let stopped = |handed, why| FileOutcome::Stopped { handed, why };
+    for (name, outcome, wanted) in [
+        (
+            "a.v22",
+            FileOutcome::Acked { transactions: 12 },
+            "a.v22: acknowledged 12\n",
+        ),
+        (
+            "a.v22",
+            FileOutcome::Refused { number: 9, line: 5 },
+            "a.v22: refused F9 at line 5\n",
+        ),
+        ("-", stopped(0, Why::Memory), "-: stopped after 0: memory\n"),
+        ("-", stopped(2, Why::Full), "-: stopped after 2: full\n"),
+        ("-", stopped(0, Why::Read), "-: stopped after 0: read\n"),
+        (
+            "-",
+            stopped(0, Why::TooLong),
+            "-: stopped after 0: too long\n",
+        ),
+        ("-", stopped(1, Why::Gate), "-: stopped after 1: gate\n"),
+        (
+            "-",
+            stopped(1, Why::Write { sent: 100 }),
+            "-: stopped after 1: write after 100 bytes\n",
+        ),
+    ] {
+        let line = outcome_line(alloc, name.as_bytes(), &outcome)?;
+        same_bytes("a line", &line, wanted.as_bytes())?;
+    }
+    Ok(())
+}

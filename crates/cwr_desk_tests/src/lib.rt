@@ -1,0 +1,14 @@
+//! Tests of one file at a time: how it is read and written, what it is refused for, what is decided on its
+//! transactions and told of them, alone, in turn and at the desk; and what a check tells of it.
+#![tactic(auto)]
+
+#[cfg(test)]
+mod checks;
+#[cfg(test)]
+mod decided;
+#[cfg(test)]
+mod files;
+#[cfg(test)]
+mod refused_files;
+#[cfg(test)]
+mod three_ways;

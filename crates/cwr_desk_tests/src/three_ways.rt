@@ -1,0 +1,44 @@
+//! One file alone, in turn, and at the desk.
+
+use byte_streams::{Feed, Room};
+use cwr_desk::{Book, FileOutcome, OpenGate, Reply, acknowledge};
+use cwr_sheets::{same, same_bytes, stamp};
+use desk_runs::{expect_run, run_at_desk, run_in_turn, whole};
+use std::alloc::Global;
+use std::sync::Wait;
+use std::test::Fail;
+use std::thread::Threads;
+
+/// Works a file alone, whose writer has so much room: how it must end, and what must be written.
+fn expect_alone(
+    alloc: Global,
+    input: &[u8],
+    room: usize,
+    end: FileOutcome,
+    written: &[u8],
+) -> Result<(), Fail> {
+    let mut reader = Feed::new(input, 4096, None);
+    let mut sink = Room::new(alloc, room, true)?;
+    let outcome = acknowledge(alloc, &mut reader, &mut sink, &stamp()?);
+    same("how the file ended", &outcome, &end)?;
+    same_bytes("what was written", sink.bytes(), written)
+}
+
+/// Works a file into an empty book, alone, as a job in turn, and at the desk: how it must end each time, what must be
+/// written, and the replies that the two books must hold.
+pub(crate) fn expect_three_ways<T: Threads + Wait + Sync>(
+    rt: &T,
+    alloc: Global,
+    input: &[u8],
+    room: usize,
+    end: FileOutcome,
+    written: &[u8],
+    replies: &[Reply],
+) -> Result<(), Fail> {
+    expect_alone(alloc, input, room, end, written)?;
+    let inputs = [whole(input)];
+    let run = run_in_turn(alloc, Book::new(alloc, 100), &inputs)?;
+    expect_run(&run, end, written, replies)?;
+    let run = run_at_desk(rt, alloc, Book::new(alloc, 100), &inputs, &OpenGate)?;
+    expect_run(&run, end, written, replies)
+}

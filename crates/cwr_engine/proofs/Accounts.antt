@@ -1,0 +1,228 @@
+-- the account of a job at each of its ends
+use Rattle.std.proofs.Common.{◌≡◌, ◌∙◌, ℕ, zero, suc, ◌+◌, ◌*◌, ◌<◌, ◌≤◌, Bool, true, false, cond, List, [], ◌∷◌, length, take, Option, Some, None, IfSome, refl, sym, ap, subst, arith, append-nil}
+use Rattle.std.proofs.Math.Seq.{take-length}
+use Rattle.std.proofs.lemmas.List.{length-map}
+use Rattle.std.proofs.lemmas.List.Sums.{sum_by-cons}
+use Rattle.std.specs.Io.KnownBytes.{Appends}
+use Rattle.std.specs.List.{AllByRecursion}
+use Rattle.std.specs.Str.Lines.{lines}
+use Rattle.cwr_record.specs.Stamp.{StampParts}
+use Rattle.cwr_record.specs.declared.control.Header.{Header}
+use Rattle.cwr_acknowledgement.specs.AckItem.{Item, told_faults, is_rejected}
+use Rattle.cwr_acknowledgement.specs.Acknowledgement.{ack_text, told_count}
+use Rattle.cwr_grammar.specs.File.{File, IsFile}
+use Rattle.cwr_grammar.specs.RawParts.{RawParts, IsPlaced, lines_in}
+use Rattle.cwr_grammar.specs.Submitted.{IsSubmission, IsBounded}
+use Rattle.cwr_call.specs.declared.transaction_fault.Fault.{Fault}
+use Rattle.cwr_call.specs.CallValue.{CallValue}
+use Rattle.cwr_rules.specs.Calls.{call_of}
+use Rattle.work_registry.specs.EntryValue.{EntryValue}
+use Rattle.work_registry.specs.Replay.{calls_of}
+use Rattle.work_registry.specs.Told.{status_in}
+use Rattle.cwr_engine.specs.Account.{most, Signs, Account, IsAccount, IsRead, Gives}
+use Rattle.cwr_engine.specs.Causes.{cause_of, IsCause}
+use Rattle.cwr_engine.specs.Handing.{AreAnswered, IsWorked}
+use Rattle.cwr_engine.specs.Items.{item_of, items_of, calls_in}
+use Rattle.byte_streams.specs.declared.reading.ReadRefused.{ReadRefused}
+use Rattle.byte_streams.specs.declared.reading.ReadRefused.TheVariants as unread
+use Rattle.cwr_engine.specs.declared.outcome.FileOutcome.{FileOutcome}
+use Rattle.cwr_engine.specs.declared.outcome.FileOutcome.TheVariants.{Acked, Refused, Stopped}
+use Rattle.cwr_engine.specs.declared.outcome.Why.{Why}
+use Rattle.cwr_engine.specs.declared.outcome.Why.TheVariants.{Memory, Full, Read, TooLong, Gate, Write}
+use Rattle.cwr_engine.proofs.Answering.{Follows-none}
+use Rattle.cwr_engine.proofs.CallSizes.{few_faults}
+
+-- ---- what was read
+
+pub read_whole : (input : List ℕ) (file : File) (head : Header) (ts : List RawParts) (groups records : ℕ) → length input ≤ most → IsFile (lines input) file
+    → IsSubmission file head ts groups records → IsRead input head ts
+read_whole input file head ts groups records fits formed submission =
+    record { fits = fits; file = file; formed = formed; header = submission.header; found = submission.transactions }
+
+-- fewer bytes than the most
+pub within : (size : ℕ) (head : Header) (ts : List RawParts) → size ≤ most → IsBounded size head ts → IsBounded most head ts
+within size head ts fits bounds =
+    record { placed = bounds.placed; few = let few = bounds.few in omega (arith, few, fits); printable = bounds.printable }
+
+few_in_all : (head : Header) (ts : List RawParts) → IsBounded most head ts → lines_in ts ≤ 8388608
+few_in_all head ts bounds = let few : 2 * lines_in ts ≤ 16777216 = bounds.few in omega (arith, few)
+
+each_has_lines : (ts : List RawParts) → AllByRecursion IsPlaced ts → length ts ≤ lines_in ts
+each_has_lines [] all = omega arith
+each_has_lines (t ∷ ts) all = let h = each_has_lines ts all.1 in let some = all.0.some in omega (arith, h, some)
+
+pub few_transactions : (head : Header) (ts : List RawParts) → IsBounded most head ts → length ts ≤ 8388608
+few_transactions head ts bounds = let a = few_in_all head ts bounds in let b = each_has_lines ts bounds.placed in omega (arith, a, b)
+
+items_few : (ts : List RawParts) (made : List EntryValue) → length (items_of ts made) ≤ length ts
+items_few [] made = omega arith
+items_few (t ∷ ts) [] = omega arith
+items_few (t ∷ ts) (e ∷ made) = let h = items_few ts made in omega (arith, h)
+
+pub few_items : (session : ℕ) (submitter : List ℕ) (ts : List RawParts) (list list' : List EntryValue) (whole whole' : Option (List EntryValue)) (items : List Item)
+    → AreAnswered session submitter ts list list' whole whole' items → length items ≤ length ts
+few_items session submitter ts list list' whole whole' items so_far =
+    let few = items_few ts so_far.made in let same = ap length so_far.told in omega (arith, few, same)
+
+told_few : (rejected : Bool) (faults : List Fault) → length (cond rejected faults []) ≤ length faults
+told_few true faults = omega arith
+told_few false faults = omega arith
+
+told_in : (submitter : List ℕ) (ts : List RawParts) (made : List EntryValue) → AllByRecursion IsPlaced ts → calls_of made ≡ take (length made) (calls_in submitter ts)
+    → length (items_of ts made) + told_count (items_of ts made) ≤ 10 * lines_in ts
+told_in submitter [] made all is = omega arith
+told_in submitter (t ∷ ts) [] all is = omega arith
+told_in submitter (t ∷ ts) (e ∷ made) all is =
+    let own : e.call ≡ call_of submitter t = cc in
+    let others : calls_of made ≡ take (length made) (calls_in submitter ts) = cc in
+    let rest = told_in submitter ts made all.1 others in
+    let sum : told_count (item_of t e ∷ items_of ts made) ≡ length (told_faults (item_of t e)) + told_count (items_of ts made) =
+    sum_by-cons (λ (item : Item). length (told_faults item)) (item_of t e) (items_of ts made) in
+    let here : length (told_faults (item_of t e)) ≤ length e.call.faults = told_few (is_rejected (status_in e.reply)) e.call.faults in
+    let same : length e.call.faults ≡ length (call_of submitter t).faults = ap (λ (c : CallValue). length c.faults) own in
+    let few = few_faults submitter t all.0.some in
+    let some = all.0.some in
+    omega (arith, rest, sum, here, same, few, some)
+
+-- the acknowledgement of what was handed in has eight digits for its records
+pub few_told : (session : ℕ) (head : Header) (ts : List RawParts) (list list' : List EntryValue) (whole whole' : Option (List EntryValue)) (items : List Item)
+    → IsBounded most head ts → AreAnswered session head.sender ts list list' whole whole' items → length items + told_count items ≤ 99999995
+few_told session head ts list list' whole whole' items bounds so_far =
+    let few = told_in head.sender ts so_far.made bounds.placed so_far.calls in
+    let all = few_in_all head ts bounds in
+    subst (λ (l : List Item). length l + told_count l ≤ 99999995) (sym so_far.told) (omega (arith, few, all))
+
+-- ---- what is known of the ends
+
+-- nothing was written
+pub Appends-nil : (taken : Option (List ℕ)) → Appends taken taken []
+Appends-nil None = tt
+Appends-nil (Some bytes) = sym (append-nil bytes)
+
+-- bytes that the reader gave whole
+pub given_whole : (left : Option (List ℕ)) (input : List ℕ) → IfSome left (λ bytes. input ≡ bytes) → Gives left input
+given_whole None input h = tt
+given_whole (Some bytes) input h = h
+
+-- some bytes more than the most
+too_many : (n : ℕ) → (bytes : List ℕ) × (n < length bytes)
+too_many zero = (0 ∷ [], omega arith)
+too_many (suc n) = let r = too_many n in (0 ∷ r.0, omega (arith, r.1))
+
+-- what the reader had, where the reading ended before its end
+some_input : (left : Option (List ℕ)) → (input : List ℕ) × Gives left input
+some_input None = ([], tt)
+some_input (Some bytes) = (bytes, refl)
+
+long_input : (left : Option (List ℕ)) (n : ℕ) → IfSome left (λ bytes. n < length bytes) → (input : List ℕ) × Gives left input × (n < length input)
+long_input None n h = let r = too_many n in (r.0, tt, r.1)
+long_input (Some bytes) n h = (bytes, refl, h)
+
+-- ---- a job that handed nothing in
+
+module _ (session : ℕ) (s : Signs) (stamp : StampParts) (left taken : Option (List ℕ)) (list : List EntryValue) (whole : Option (List EntryValue)) where
+  nothing_made : (outcome : FileOutcome) (input : List ℕ) → Gives left input → Account s stamp input outcome [] []
+      → IsWorked session s stamp left taken taken outcome list list whole whole
+  nothing_made outcome input given account = record {
+    made = [];
+    grown = sym (append-nil list);
+    follows = Follows-none session whole;
+    account = record { input = input; written = []; given = given; appended = Appends-nil taken; account = account };
+  }
+
+  -- its file was not read
+  pub not_read : (why : ReadRefused) → (why ≡ unread.TooLong → IfSome left (λ bytes. most < length bytes)) → (why ≡ unread.Read → s.read_failed ≡ true)
+      → IsWorked session s stamp left taken taken (Stopped 0 (cause_of why)) list list whole whole
+  not_read unread.Memory long failed =
+      let i = some_input left in nothing_made (Stopped 0 Memory) i.0 i.1 (refl, (refl, λ h. absurd (omega arith)))
+  not_read unread.Read long failed = let i = some_input left in nothing_made (Stopped 0 (cause_of unread.Read)) i.0 i.1 (refl, (refl, refl, failed refl))
+  not_read unread.TooLong long failed =
+      let i = long_input left most (long refl) in nothing_made (Stopped 0 (cause_of unread.TooLong)) i.0 i.1 (refl, (refl, refl, i.2))
+
+  -- there was no memory before the first transaction
+  pub not_begun : IsWorked session s stamp left taken taken (Stopped 0 Memory) list list whole whole
+  not_begun = let i = some_input left in nothing_made (Stopped 0 Memory) i.0 i.1 (refl, (refl, λ h. absurd (omega arith)))
+
+-- ---- a job that handed transactions of a file in
+
+module _ (session : ℕ) (s : Signs) (stamp : StampParts) (left taken after : Option (List ℕ)) (list list' : List EntryValue) (whole whole' : Option (List EntryValue))
+    (input : List ℕ) (head : Header) (ts : List RawParts) (items : List Item) (given : IfSome left (λ bytes. input ≡ bytes)) (read : IsRead input head ts)
+    (so_far : AreAnswered session head.sender ts list list' whole whole' items) (n : ℕ) (count : n ≡ length items) where
+  ended : (outcome : FileOutcome) (written : List ℕ) → Appends taken after written → Account s stamp input outcome written so_far.made
+      → IsWorked session s stamp left taken after outcome list list' whole whole'
+  ended outcome written appended account = record {
+    made = so_far.made;
+    grown = so_far.grown;
+    follows = so_far.follows;
+    account = record { input = input; written = written; given = given_whole left input given; appended = appended; account = account };
+  }
+
+  handed : n ≡ length so_far.made
+  handed = count ∙ so_far.count
+
+  -- a transaction got no reply
+  pub handed_some : (why : Why) → Appends taken after [] → length items < length ts → IsCause s.full s.may_shut why
+      → IsWorked session s stamp left taken after (Stopped n why) list list' whole whole'
+  handed_some Memory none some cause =
+      ended (Stopped n Memory) [] none (handed, (refl, λ _. record { head = head; transactions = ts; read = read; calls = so_far.calls }))
+  handed_some Full none some cause =
+      ended (Stopped n Full) [] none (handed, (refl, record { head = head; transactions = ts; read = read; calls = so_far.calls; further = let c = so_far.count in omega (arith, c, some) }, cause))
+  handed_some Gate none some cause =
+      ended (Stopped n Gate) [] none (handed, (refl, record { head = head; transactions = ts; read = read; calls = so_far.calls; further = let c = so_far.count in omega (arith, c, some) }, cause))
+  handed_some Read none some cause = absurd cause
+  handed_some TooLong none some cause = absurd cause
+  handed_some (Write sent) none some cause = absurd cause
+
+  -- all got replies, and then there was no memory for the acknowledgement
+  pub no_text : Appends taken after [] → IsWorked session s stamp left taken after (Stopped n Memory) list list' whole whole'
+  no_text none =
+      ended (Stopped n Memory) [] none (handed, (refl, λ _. record { head = head; transactions = ts; read = read; calls = so_far.calls }))
+
+  module _ (text : List ℕ) (all : length items ≡ length ts) (is : text ≡ ack_text stamp head items) where
+    all_calls : calls_of so_far.made ≡ calls_in head.sender ts
+    all_calls =
+        let c = so_far.count in
+        let m = length-map ts (call_of head.sender) in
+        let long : length so_far.made ≡ length (calls_in head.sender ts) = omega (arith, c, all, m) in
+        so_far.calls ∙ (ap (λ k. take k (calls_in head.sender ts)) long ∙ take-length (calls_in head.sender ts))
+
+    told : text ≡ ack_text stamp head (items_of ts so_far.made)
+    told = is ∙ ap (ack_text stamp head) so_far.told
+
+    pub acked : Appends taken after text → IsWorked session s stamp left taken after (Acked n) list list' whole whole'
+    acked sent =
+        ended (Acked n) text sent (record { head = head; transactions = ts; read = read; calls = all_calls; transaction_count = handed; text = told })
+
+    pub cut_off : (k : ℕ) → Appends taken after (take k text) → k < length text → s.write_failed ≡ true
+        → IsWorked session s stamp left taken after (Stopped n (Write k)) list list' whole whole'
+    cut_off k sent fewer failed =
+        ended (Stopped n (Write k)) (take k text) sent (
+          handed,
+          record {
+            head = head;
+            transactions = ts;
+            read = read;
+            calls = all_calls;
+            stopped = failed;
+            fewer = let e = ap length told in omega (arith, e, fewer);
+            front = ap (take k) told;
+          },
+        )
+
+-- an account of a time at which the history was full is one of any later time
+pub account_full : (read_failed write_failed may_shut a b : Bool) (stamp : StampParts) (left taken after : Option (List ℕ)) (o : FileOutcome) (made : List EntryValue)
+    → (a ≡ true → b ≡ true)
+    → IsAccount (record { read_failed = read_failed; write_failed = write_failed; full = a; may_shut = may_shut }) stamp left taken after o made
+    → IsAccount (record { read_failed = read_failed; write_failed = write_failed; full = b; may_shut = may_shut }) stamp left taken after o made
+account_full read_failed write_failed may_shut a b stamp left taken after o made h r =
+    record { input = r.input; written = r.written; given = r.given; appended = r.appended; account = by o r.account } where
+      by : (o : FileOutcome) → Account (record { read_failed = read_failed; write_failed = write_failed; full = a; may_shut = may_shut }) stamp r.input o r.written made
+          → Account (record { read_failed = read_failed; write_failed = write_failed; full = b; may_shut = may_shut }) stamp r.input o r.written made
+      by (Acked n) x = x
+      by (Refused fault line) x = x
+      by (Stopped n Memory) x = x
+      by (Stopped n Full) x = (x.0, (x.1.0, x.1.1, h x.1.2))
+      by (Stopped n Gate) x = x
+      by (Stopped n Read) x = x
+      by (Stopped n TooLong) x = x
+      by (Stopped n (Write sent)) x = x

@@ -1,0 +1,183 @@
+-- One transaction more was handed in and got a reply.
+use Rattle.std.proofs.Common.{◌≡◌, ◌∙◌, ℕ, zero, suc, ◌+◌, ◌<◌, ◌≤◌, ◌^◌, Bool, true, false, cond, List, [], ◌∷◌, ◌++◌, length, take, drop, Option, Some, None, IsTrue, refl, sym, ap, subst, arith, append_assoc, append-nil, length-append}
+use Rattle.std.specs.Prelude.{◌&&◌, nat_le}
+use Rattle.std.specs.Char.{is_ascii_uppercase}
+use Rattle.std.specs.List.{list_all, AllByRecursion}
+use Rattle.std.specs.Option.{ForSome}
+use Rattle.std.proofs.lemmas.Bool.Decides.{nat_tests}
+use Rattle.cwr_record.specs.declared.works.WorkKind.{WorkKind}
+use Rattle.cwr_acknowledgement.specs.AckItem.{Item, is_rejected}
+use Rattle.cwr_acknowledgement.specs.Acknowledgement.{FitsItem, FitsFault}
+use Rattle.cwr_grammar.specs.RawParts.{RawParts, IsPlaced}
+use Rattle.cwr_record.specs.declared.status.Status.{Status}
+use Rattle.cwr_call.specs.declared.transaction_fault.Fault.{Fault}
+use Rattle.cwr_call.specs.CallValue.{CallValue}
+use Rattle.cwr_rules.specs.Calls.{call_of}
+use Rattle.cwr_call.specs.Lawful.{are_faults, is_fault, rises}
+use Rattle.work_registry.specs.EntryValue.{EntryValue}
+use Rattle.work_registry.specs.Numbers.{IsNumbered}
+use Rattle.work_registry.specs.Replay.{calls_of, replay, entry_for}
+use Rattle.work_registry.specs.Told.{status_in, work_in}
+use Rattle.work_registry.specs.declared.reply.Reply.{Reply}
+use Rattle.work_registry.specs.declared.reply.Reply.TheVariants.{Accepted, Duplicate, Conflict, Rejected}
+use Rattle.cwr_engine.specs.Items.{item_of, items_of, calls_in}
+use Rattle.cwr_engine.specs.Handing.{entry_with, Follows, IsAnswered, AreAnswered}
+
+-- ---- an item fits its line
+
+named : (w x : ℕ) → w ≤ 99999999 → Some w ≡ Some x → x < 10 ^ 8
+named w x le is = let same : w ≡ x = cc in omega (arith, le, same)
+
+work_fits : (r : Reply) → IsNumbered r → ForSome (work_in r) (λ work. work < 10 ^ 8)
+work_fits (Accepted w v) n = λ x is. named w x n.0.1 is
+work_fits (Duplicate w) n = λ x is. named w x n.1 is
+work_fits (Conflict w) n = λ x is. named w x n.1 is
+work_fits Rejected n = λ x is. absurd cc
+
+pub first_true : (a b : Bool) → (a && b) ≡ true → a ≡ true
+first_true true b e = refl
+first_true false b e = absurd cc
+
+pub second_true : (a b : Bool) → (a && b) ≡ true → b ≡ true
+second_true true b e = e
+second_true false b e = absurd cc
+
+fault_fits : (f : Fault) → is_fault f ≡ true → FitsFault f
+fault_fits f e =
+    let numbers = first_true (nat_le f.sequence 99999999 && (nat_le 1 f.number && nat_le f.number 15)) (list_all is_ascii_uppercase f.rtype) e in
+    let a : nat_le f.sequence 99999999 ≡ true = first_true (nat_le f.sequence 99999999) (nat_le 1 f.number && nat_le f.number 15) numbers in
+    let b = second_true (nat_le f.sequence 99999999) (nat_le 1 f.number && nat_le f.number 15) numbers in
+    let low : nat_le 1 f.number ≡ true = first_true (nat_le 1 f.number) (nat_le f.number 15) b in
+    let high : nat_le f.number 15 ≡ true = second_true (nat_le 1 f.number) (nat_le f.number 15) b in
+    record { sequence = grind (arith, nat_tests); first = grind (arith, nat_tests); last = grind (arith, nat_tests) }
+
+faults_fit : (fs : List Fault) → list_all is_fault fs ≡ true → AllByRecursion FitsFault fs
+faults_fit [] e = tt
+faults_fit (f ∷ fs) e = (fault_fits f (first_true (is_fault f) (list_all is_fault fs) e), faults_fit fs (second_true (is_fault f) (list_all is_fault fs) e))
+
+told_fit : (rejected : Bool) (fs : List Fault) → AllByRecursion FitsFault fs → AllByRecursion FitsFault (cond rejected fs [])
+told_fit true fs h = h
+told_fit false fs h = tt
+
+item_fits : (t : RawParts) (e : EntryValue) → IsPlaced t → IsNumbered e.reply → are_faults e.call.faults ≡ true → FitsItem (item_of t e)
+item_fits t e placed numbered lawful =
+    let most = nat_le (length e.call.faults) 999999999 in
+    let all = second_true most (list_all is_fault e.call.faults) (first_true (most && list_all is_fault e.call.faults) (rises e.call.faults) lawful) in
+    record {
+      group = placed.group;
+      sequence = placed.sequence;
+      work = work_fits e.reply numbered;
+      faults = told_fit (is_rejected (status_in e.reply)) e.call.faults (faults_fit e.call.faults all);
+    }
+
+-- ---- one transaction
+
+-- its item, from the parts that the item was made of
+pub answered : (s : ℕ) (submitter : List ℕ) (t : RawParts) (call : CallValue) (r : Reply) (list list' : List EntryValue) (whole whole' : Option (List EntryValue))
+    (group sequence : ℕ) (kind : WorkKind) (title number : List ℕ) (status : Status) (work : Option ℕ) (faults : List Fault)
+    → call ≡ call_of submitter t → list' ≡ list ++ entry_with s call r ∷ [] → Follows s whole whole' (entry_with s call r ∷ [])
+    → group ≡ t.group → sequence ≡ t.sequence → kind ≡ call.kind → title ≡ call.title → number ≡ call.number → status ≡ status_in r → work ≡ work_in r
+    → faults ≡ call.faults → IsPlaced t → IsNumbered r → IsTrue (are_faults call.faults)
+    → IsAnswered s submitter t list list' whole whole' (record { group = group; sequence = sequence; kind = kind; title = title; number = number; status = status; work = work; faults = faults })
+answered s submitter t call r list list' whole whole' group sequence kind title number status work faults is grown follows a b c d e f g h placed numbered lawful =
+    let item : Item = record { group = group; sequence = sequence; kind = kind; title = title; number = number; status = status; work = work; faults = faults } in
+    let told : item ≡ item_of t (entry_with s call r) = λ i. record { group = a i; sequence = b i; kind = c i; title = d i; number = e i; status = f i; work = g i; faults = h i } in
+    let entry : EntryValue = entry_with s call r in
+    record {
+      reply = r;
+      grown = subst (λ (x : CallValue). list' ≡ list ++ entry_with s x r ∷ []) is grown;
+      follows = subst (λ (x : CallValue). Follows s whole whole' (entry_with s x r ∷ [])) is follows;
+      told = subst (λ (x : CallValue). item ≡ item_of t (entry_with s x r)) is told;
+      fits = subst FitsItem (sym told) (item_fits t entry placed numbered lawful);
+    }
+
+-- ---- the transactions so far, and one more
+
+replay-append : (s : ℕ) (h : List EntryValue) (xs ys : List CallValue) → replay s h (xs ++ ys) ≡ replay s h xs ++ replay s (h ++ replay s h xs) ys
+replay-append s h [] ys = ap (λ g. replay s g ys) (sym (append-nil h))
+replay-append s h (x ∷ xs) ys =
+    ap (λ es. entry_for s h x ∷ es) (replay-append s (h ++ entry_for s h x ∷ []) xs ys
+    ∙ ap (λ g. replay s (h ++ entry_for s h x ∷ []) xs ++ replay s g ys) (append_assoc h (entry_for s h x ∷ []) (replay s (h ++ entry_for s h x ∷ []) xs)))
+
+calls_of-append : (xs ys : List EntryValue) → calls_of (xs ++ ys) ≡ calls_of xs ++ calls_of ys
+calls_of-append [] ys = refl
+calls_of-append (x ∷ xs) ys = ap (λ l. x.call ∷ l) (calls_of-append xs ys)
+
+Follows-next : (s : ℕ) (a b c : Option (List EntryValue)) (made : List EntryValue) (e : EntryValue) → Follows s a b made → Follows s b c (e ∷ []) → Follows s a c (made ++ e ∷ [])
+Follows-next s None b c made e p q = tt
+Follows-next s (Some h) b c made e p q = go (rw p.0 at q) where
+  go : Follows s (Some (h ++ made)) c (e ∷ []) → Follows s (Some h) c (made ++ e ∷ [])
+  go r = (
+    r.0 ∙ ap Some (append_assoc h made (e ∷ [])),
+    (λ i. p.1 i ++ r.1 i)
+        ∙ (ap (λ g. replay s h (calls_of made) ++ replay s (h ++ g) (e.call ∷ [])) p.1
+        ∙ (sym (replay-append s h (calls_of made) (e.call ∷ [])) ∙ ap (replay s h) (sym (calls_of-append made (e ∷ []))))),
+  )
+
+pub Follows-none : (s : ℕ) (a : Option (List EntryValue)) → Follows s a a []
+Follows-none s None = tt
+Follows-none s (Some h) = (ap Some (sym (append-nil h)), refl)
+
+-- the transaction that follows n others
+take_next : (submitter : List ℕ) (n : ℕ) (ts rest : List RawParts) (t : RawParts) → drop n ts ≡ t ∷ rest
+    → take (suc n) (calls_in submitter ts) ≡ take n (calls_in submitter ts) ++ call_of submitter t ∷ []
+take_next submitter zero ts rest t e = rw e refl
+take_next submitter (suc n) [] rest t e = absurd cc
+take_next submitter (suc n) (x ∷ ts) rest t e = ap (λ l. call_of submitter x ∷ l) (take_next submitter n ts rest t e)
+
+no_items : (ts : List RawParts) → items_of ts [] ≡ []
+no_items [] = refl
+no_items (t ∷ ts) = refl
+
+items_next : (ts rest : List RawParts) (t : RawParts) (made : List EntryValue) (e : EntryValue) → drop (length made) ts ≡ t ∷ rest
+    → items_of ts (made ++ e ∷ []) ≡ items_of ts made ++ item_of t e ∷ []
+items_next ts rest t [] e is = ap (λ l. items_of l (e ∷ [])) is ∙ (ap (λ l. item_of t e ∷ l) (no_items rest) ∙ sym (ap (λ l. l ++ item_of t e ∷ []) (no_items ts)))
+items_next [] rest t (m ∷ made) e is = absurd cc
+items_next (x ∷ ts) rest t (m ∷ made) e is = ap (λ l. item_of x m ∷ l) (items_next ts rest t made e is)
+
+pub drop_next : (n : ℕ) (ts rest : List RawParts) (t : RawParts) → drop n ts ≡ t ∷ rest → rest ≡ drop (n + 1) ts
+drop_next n ts rest t e = let more : suc n ≡ n + 1 = omega arith in go n ts e ∙ ap (λ k. drop k ts) more where
+  go : (n : ℕ) (ts : List RawParts) → drop n ts ≡ t ∷ rest → rest ≡ drop (suc n) ts
+  go zero [] e = absurd cc
+  go zero (x ∷ ts) e = cc
+  go (suc n) [] e = absurd cc
+  go (suc n) (x ∷ ts) e = go n ts e
+
+pub answered_next : (s s' : ℕ) (submitter : List ℕ) (ts rest : List RawParts) (t : RawParts) (i : ℕ) (list list' list'' : List EntryValue) (whole whole' whole'' : Option (List EntryValue))
+    (items items' : List Item) (item : Item) → s' ≡ s → drop i ts ≡ t ∷ rest → length items ≡ i → items' ≡ items ++ item ∷ []
+    → AreAnswered s submitter ts list list' whole whole' items → IsAnswered s' submitter t list' list'' whole' whole'' item
+    → AreAnswered s submitter ts list list'' whole whole'' items'
+answered_next s s' submitter ts rest t i list list' list'' whole whole' whole'' items items' item same at count is so_far now' =
+    let now : IsAnswered s submitter t list' list'' whole' whole'' item = subst (λ (k : ℕ). IsAnswered k submitter t list' list'' whole' whole'' item) same now' in
+    let e : EntryValue = entry_with s (call_of submitter t) now.reply in
+    let made : List EntryValue = so_far.made in
+    let long : i ≡ length made = sym count ∙ so_far.count in
+    let at' : drop (length made) ts ≡ t ∷ rest = subst (λ (k : ℕ). drop k ts ≡ t ∷ rest) long at in
+    let more : length (made ++ e ∷ []) ≡ suc (length made) = (let l = length-append made (e ∷ []) in omega arith) in
+    record {
+      made = made ++ e ∷ [];
+      grown = now.grown ∙ (ap (λ l. l ++ e ∷ []) so_far.grown ∙ append_assoc list made (e ∷ []));
+      follows = Follows-next s whole whole' whole'' made e so_far.follows now.follows;
+      calls = calls_of-append made (e ∷ []) ∙ (ap (λ l. l ++ call_of submitter t ∷ []) so_far.calls
+          ∙ (sym (take_next submitter (length made) ts rest t at') ∙ ap (λ k. take k (calls_in submitter ts)) (sym more)));
+      told = is ∙ ((λ j. so_far.told j ++ now.told j ∷ []) ∙ sym (items_next ts rest t made e at'));
+      count = (let l = length-append items (item ∷ []) in let a = ap length is in let b = so_far.count in omega arith);
+    }
+
+pub fit_next : (items items' : List Item) (item : Item) → items' ≡ items ++ item ∷ [] → AllByRecursion FitsItem items → FitsItem item → AllByRecursion FitsItem items'
+fit_next items items' item is all fits = subst (AllByRecursion FitsItem) (sym is) (go items all) where
+  go : (xs : List Item) → AllByRecursion FitsItem xs → AllByRecursion FitsItem (xs ++ item ∷ [])
+  go [] h = (fits, tt)
+  go (x ∷ xs) h = (h.0, go xs h.1)
+
+-- none so far
+pub answered_none : (s : ℕ) (submitter : List ℕ) (ts : List RawParts) (list : List EntryValue) (whole : Option (List EntryValue)) (items : List Item) → items ≡ []
+    → AreAnswered s submitter ts list list whole whole items
+answered_none s submitter ts list whole items none = rw none (record {
+  made = [];
+  grown = sym (append-nil list);
+  follows = Follows-none s whole;
+  calls = refl;
+  told = sym (no_items ts);
+  count = refl;
+})

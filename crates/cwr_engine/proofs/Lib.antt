@@ -1,0 +1,4 @@
+pub mod CallSizes
+pub mod Answering
+pub mod Accounts
+pub mod Turns

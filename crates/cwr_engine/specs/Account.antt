@@ -1,0 +1,130 @@
+-- The account of a job: what its input, its outcome, the bytes that it wrote and the entries that it made have to do
+-- with one another.
+use Rattle.std.specs.Prelude.{◌≡◌, ℕ, ◌≤◌, ◌<◌, nat_le, Bool, true, false, List, [], length, take, Option, Some, None, ⊤}
+use Rattle.std.specs.Io.KnownBytes.{Appends}
+use Rattle.std.specs.Str.Lines.{lines}
+use Rattle.cwr_record.specs.Layout.{StandsFor}
+use Rattle.cwr_record.specs.Stamp.{StampParts}
+use Rattle.cwr_record.specs.Control as table
+use Rattle.cwr_record.specs.declared.control.Header.{Header}
+use Rattle.cwr_acknowledgement.specs.Acknowledgement.{ack_text}
+use Rattle.cwr_grammar.specs.Faults.{IsLeastFault}
+use Rattle.cwr_grammar.specs.File.{File, IsFile}
+use Rattle.cwr_grammar.specs.RawParts.{RawParts, raws_of}
+use Rattle.work_registry.specs.EntryValue.{EntryValue}
+use Rattle.work_registry.specs.Replay.{calls_of, replay}
+use Rattle.cwr_engine.specs.Items.{items_of, calls_in}
+use Rattle.cwr_engine.specs.declared.jobs.Job.{Job}
+use Rattle.cwr_engine.specs.declared.outcome.FileOutcome.{FileOutcome}
+use Rattle.cwr_engine.specs.declared.outcome.FileOutcome.TheVariants.{Acked, Refused, Stopped}
+use Rattle.cwr_engine.specs.declared.outcome.Why.{Why}
+use Rattle.cwr_engine.specs.declared.outcome.Why.TheVariants.{Memory, Full, Read, TooLong, Gate, Write}
+
+-- the most bytes that a file may have
+abbrev pub most : ℕ
+most = 16777216
+
+-- what may stop a job, as far as it shows once the job has ended
+pub record Signs : Type 0 where
+  -- a read failed
+  pub read_failed : Bool
+  -- a write failed, or took nothing
+  pub write_failed : Bool
+  -- the history holds its limit of entries
+  pub full : Bool
+  -- the gate may shut
+  pub may_shut : Bool
+
+-- the text is a well-formed file, no longer than a file may be, with this header and these transactions
+pub record IsRead (input : List ℕ) (head : Header) (transactions : List RawParts) : Type 0 where
+  pub fits : length input ≤ most
+  pub file : File
+  pub formed : IsFile (lines input) file
+  pub header : StandsFor table.header file.header head
+  pub found : transactions ≡ raws_of 1 file.groups
+
+-- the calls of these entries are those of the first transactions of a file
+pub record IsMadeOf (input : List ℕ) (made : List EntryValue) : Type 0 where
+  pub head : Header
+  pub transactions : List RawParts
+  pub read : IsRead input head transactions
+  pub calls : calls_of made ≡ take (length made) (calls_in head.sender transactions)
+
+-- and a further transaction follows them
+pub record IsMadeOfSome (input : List ℕ) (made : List EntryValue) : Type 0 where
+  pub head : Header
+  pub transactions : List RawParts
+  pub read : IsRead input head transactions
+  pub calls : calls_of made ≡ take (length made) (calls_in head.sender transactions)
+  pub further : length made < length transactions
+
+-- the text has this fault at this line, and none before it
+pub record IsRefused (input : List ℕ) (fault line : ℕ) : Type 0 where
+  pub fits : length input ≤ most
+  pub first : IsLeastFault (lines input) line fault
+
+-- the calls are those of all transactions, and what was written is the acknowledgement of their replies
+pub record IsAcked (stamp : StampParts) (input : List ℕ) (count : ℕ) (written : List ℕ) (made : List EntryValue) : Type 0 where
+  pub head : Header
+  pub transactions : List RawParts
+  pub read : IsRead input head transactions
+  pub calls : calls_of made ≡ calls_in head.sender transactions
+  pub transaction_count : count ≡ length made
+  pub text : written ≡ ack_text stamp head (items_of transactions made)
+
+-- the same, but the first bytes of the acknowledgement were written, and not all, since a write failed
+pub record IsCutOff (failed : Bool) (stamp : StampParts) (input : List ℕ) (sent : ℕ) (written : List ℕ) (made : List EntryValue) : Type 0 where
+  pub head : Header
+  pub transactions : List RawParts
+  pub read : IsRead input head transactions
+  pub calls : calls_of made ≡ calls_in head.sender transactions
+  pub stopped : failed ≡ true
+  pub fewer : sent < length (ack_text stamp head (items_of transactions made))
+  pub front : written ≡ take sent (ack_text stamp head (items_of transactions made))
+
+-- why a job stopped, after it made these entries
+abbrev pub StoppedBy : Signs → StampParts → List ℕ → Why → List ℕ → List EntryValue → Type 0
+StoppedBy s stamp input Memory written made = (written ≡ []) × (0 < length made → IsMadeOf input made)
+StoppedBy s stamp input Full written made = (written ≡ []) × IsMadeOfSome input made × (s.full ≡ true)
+StoppedBy s stamp input Read written made = (written ≡ []) × (made ≡ []) × (s.read_failed ≡ true)
+StoppedBy s stamp input TooLong written made = (written ≡ []) × (made ≡ []) × (most < length input)
+StoppedBy s stamp input Gate written made = (written ≡ []) × IsMadeOfSome input made × (s.may_shut ≡ true)
+StoppedBy s stamp input (Write sent) written made = IsCutOff s.write_failed stamp input sent written made
+
+-- the account of a job: its input, its outcome, the bytes that it wrote, and the entries that it made, in order
+abbrev pub Account : Signs → StampParts → List ℕ → FileOutcome → List ℕ → List EntryValue → Type 0
+Account s stamp input (Acked count) written made = IsAcked stamp input count written made
+Account s stamp input (Refused fault line) written made = IsRefused input fault line × (written ≡ []) × (made ≡ [])
+Account s stamp input (Stopped handed why) written made = (handed ≡ length made) × StoppedBy s stamp input why written made
+
+-- these are the bytes that a reader had, where it tells them
+abbrev pub Gives : Option (List ℕ) → List ℕ → Type 0
+Gives None input = ⊤
+Gives (Some bytes) input = input ≡ bytes
+
+-- what the ends of a job show of it: the bytes that were left to its reader, and those that its writer had taken
+-- before and after, where these tell them
+pub record IsAccount (s : Signs) (stamp : StampParts) (left taken_before taken_after : Option (List ℕ)) (outcome : FileOutcome)
+    (made : List EntryValue) : Type 0 where
+  pub input : List ℕ
+  pub written : List ℕ
+  pub given : Gives left input
+  pub appended : Appends taken_before taken_after written
+  pub account : Account s stamp input outcome written made
+
+-- The account of a job, from what its reader and its writer were and what they are. What these show (a failure, the
+-- bytes left or taken) is given by functions, so that it serves every kind of reader and writer.
+abbrev pub JobAccount : {R W : Type 0} → (R → Bool) → (W → Bool) → (R → Option (List ℕ)) → (W → Option (List ℕ)) → StampParts → Bool
+    → Job R W → Job R W → FileOutcome → Bool → List EntryValue → Type 0
+JobAccount read_failed write_failed left taken stamp may_shut before after outcome full made =
+    IsAccount (record { read_failed = read_failed after.reader; write_failed = write_failed after.writer; full = full; may_shut = may_shut })
+    stamp (left before.reader) (taken before.writer) (taken after.writer) outcome made
+
+-- One file into an empty book of 99,999,999 entries, with no gate: its account holds, with the entries that session 1
+-- makes by handing in their calls from the empty history on.
+pub record IsAcknowledged (read_failed write_failed : Bool) (stamp : StampParts) (left taken_before taken_after : Option (List ℕ))
+    (outcome : FileOutcome) : Type 0 where
+  pub made : List EntryValue
+  pub replayed : made ≡ replay 1 [] (calls_of made)
+  pub account : IsAccount (record { read_failed = read_failed; write_failed = write_failed; full = nat_le 99999999 (length made); may_shut = false })
+      stamp left taken_before taken_after outcome made

@@ -1,0 +1,6 @@
+pub mod OutcomeText
+pub mod Items
+pub mod Account
+pub mod Causes
+pub mod Handing
+pub mod Whole

@@ -1,0 +1,61 @@
+-- A whole run of jobs.
+use Rattle.std.specs.Prelude.{◌≡◌, ℕ, zero, suc, ◌+◌, ◌≤◌, Bool, nat_le, List, [], ◌∷◌, ◌++◌, length, All}
+use Rattle.work_registry.specs.BookValue.{BookValue}
+use Rattle.work_registry.specs.EntryValue.{EntryValue}
+use Rattle.work_registry.specs.History.{IsHistory}
+use Rattle.work_registry.specs.Replay.{calls_of, replay, made}
+use Rattle.cwr_engine.specs.declared.outcome.FileOutcome.{FileOutcome}
+
+-- Each job has its account with the entries that its session made in the history, the first of the jobs being the
+-- given session. `P before after outcome full entries` is the account of one job, of any kind.
+abbrev pub Accounts : {J : Type 0} → (J → J → FileOutcome → Bool → List EntryValue → Type 0) → List EntryValue → Bool → ℕ → List J → List J → List FileOutcome
+    → Type 0
+Accounts P history full session [] [] [] = Unit {0}
+Accounts P history full session [] [] (o ∷ os) = ⊥
+Accounts P history full session [] (k ∷ ks) os = ⊥
+Accounts P history full session (j ∷ js) [] os = ⊥
+Accounts P history full session (j ∷ js) (k ∷ ks) [] = ⊥
+Accounts P history full session (j ∷ js) (k ∷ ks) (o ∷ os) = P j k o full (made history session) × Accounts P history full (session + 1) js ks os
+
+-- the history holds its limit of entries
+abbrev pub is_full : BookValue → Bool
+is_full book = nat_le book.limit (length book.history)
+
+-- The book that is kept has the opening book's limit, and its history is one of a registry: the opening one, and then
+-- entries of the jobs' sessions, session i for job i, from 1. Each job has its account with it.
+pub record IsRun {J : Type 0} (P : J → J → FileOutcome → Bool → List EntryValue → Type 0) (opening kept : BookValue) (before after : List J)
+    (outcomes : List FileOutcome) : Type 0 where
+  pub registry : IsHistory kept.history
+  pub bounded : length kept.history ≤ kept.limit
+  pub limit : kept.limit ≡ opening.limit
+  pub added : List EntryValue
+  pub grown : kept.history ≡ opening.history ++ added
+  pub sessions : All (λ e. (1 ≤ e.session) × (e.session ≤ length before)) added
+  pub accounts : Accounts P kept.history (is_full kept) 1 before after outcomes
+
+-- The kept history is this one, followed by the entries of n sessions, one session after the other: each session's
+-- are what its calls get when they are handed in after the entries before.
+abbrev pub InTurn : List EntryValue → ℕ → List EntryValue → ℕ → Type 0
+InTurn kept session history zero = kept ≡ history
+InTurn kept session history (suc n) =
+    (made kept session ≡ replay session history (calls_of (made kept session))) × InTurn kept (session + 1) (history ++ made kept session) n
+
+-- one job was worked at a book that nobody else writes
+pub record IsWorkedAlone {J : Type 0} (P : J → J → FileOutcome → Bool → List EntryValue → Type 0) (session : ℕ) (before after : BookValue)
+    (j k : J) (outcome : FileOutcome) : Type 0 where
+  pub entries : List EntryValue
+  pub replayed : entries ≡ replay session before.history (calls_of entries)
+  pub grown : after.history ≡ before.history ++ entries
+  pub limit : after.limit ≡ before.limit
+  pub account : P j k outcome (is_full after) entries
+
+-- jobs were worked one after the other at one book, the first of them being the given session
+abbrev pub TookTurns : {J : Type 0} → (J → J → FileOutcome → Bool → List EntryValue → Type 0) → ℕ → List J → List J → List FileOutcome → BookValue → BookValue
+    → Type 0
+TookTurns P session [] [] [] before after = after ≡ before
+TookTurns P session [] [] (o ∷ os) before after = ⊥
+TookTurns P session [] (k ∷ ks) os before after = ⊥
+TookTurns P session (j ∷ js) [] os before after = ⊥
+TookTurns P session (j ∷ js) (k ∷ ks) [] before after = ⊥
+TookTurns P session (j ∷ js) (k ∷ ks) (o ∷ os) before after =
+    (between : BookValue) × IsWorkedAlone P session before between j k o × TookTurns P (session + 1) js ks os between after

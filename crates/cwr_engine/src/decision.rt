@@ -1,0 +1,96 @@
+//! One transaction of a file: judged, handed in, and told.
+ghost use Rattle.std.specs.Prelude.{◌≡◌, ◌<◌, ◌≤◌, ◌+◌, IfOk, IfErr, OnErr, IsTrue};
+ghost use Rattle.cwr_grammar.specs.RawParts.{IsPlaced};
+ghost use Rattle.cwr_call.specs.Lawful.{is_clean};
+ghost use Rattle.cwr_engine.specs.Causes.{IsCause, refusal_of};
+ghost use Rattle.cwr_engine.specs.Handing.{IsAnswered};
+
+use crate::gates::Gate;
+use crate::outcome::Why;
+use crate::window::Window;
+use cwr_acknowledgement::AckItem;
+use cwr_call::{Call, Fault, Faults};
+use cwr_grammar::RawTransaction;
+use cwr_rules::judge;
+use std::alloc::{AllocError, Allocator};
+use work_registry::WhyRefused;
+
+/// Who works, and the transaction in hand.
+#[derive(Clone, Copy)]
+pub(crate) struct InHand {
+    /// The worker, from 1.
+    pub(crate) worker: u32,
+    /// How many transactions of the file come before this one.
+    pub(crate) index: u32,
+    /// The submitter of the file.
+    pub(crate) submitter: [u8; 11],
+}
+
+/// Judges a transaction, hands its call in, and makes the item that tells its reply.
+pub(crate) fn decide<H: Window<Call<A>>, G: Gate, A: Allocator + Copy + Drop>(
+    alloc: A,
+    window: H,
+    gate: &G,
+    in_hand: InHand,
+    transaction: &RawTransaction,
+) -> (H, Result<AckItem<A>, Why>)
+    requires turns { 0 < H.turns_left window }
+    requires clean { IsTrue (is_clean in_hand.submitter) }
+    requires placed { IsPlaced transaction.now }
+    ensures session { H.session result.0 ≡ H.session window }
+    ensures limit { H.limit result.0 ≡ H.limit window }
+    ensures home { H.home result.0 ≡ H.home window }
+    ensures turns { H.turns_left window ≤ H.turns_left result.0 + 1 }
+    ensures answered { IfOk result.1 (IsAnswered (H.session window) in_hand.submitter transaction.now (H.list window) (H.list result.0)
+        (H.whole window) (H.whole result.0)) }
+    ensures kept { OnErr result.1 ((H.list result.0 ≡ H.list window) × (H.whole result.0 ≡ H.whole window)) }
+    ensures why { IfErr result.1 (IsCause (H.marked result.0) (G.may_shut gate.now)) }
+{
+    let Ok(call) = judge(alloc, transaction, in_hand.submitter) else {
+        return (window, Err(Why::Memory));
+    };
+    let Ok(faults) = copied(alloc, call.faults()) else {
+        return (window, Err(Why::Memory));
+    };
+    if gate.before(in_hand.worker, in_hand.index).is_err() {
+        return (window, Err(Why::Gate));
+    }
+    let kind = call.kind();
+    let title = call.title();
+    let number = call.number();
+    let (window, reply) = window.hand_in(call);
+    match reply {
+        Ok(reply) => {
+            gate.after(in_hand.worker, in_hand.index);
+            let item = AckItem {
+                group: transaction.group(),
+                sequence: transaction.sequence(),
+                kind,
+                title,
+                number,
+                status: reply.status(),
+                work: reply.work(),
+                faults,
+            };
+            (window, Ok(item))
+        }
+        Err(why) => (window, Err(refusal(why))),
+    }
+}
+
+/// A call's faults once more, for its item: the call itself goes into the book.
+fn copied<A: Allocator>(alloc: A, faults: &[Fault]) -> Result<Faults<A>, AllocError>
+    ensures { IfOk result (λ f. f ≡ faults.now) }
+{
+    Ok(Faults::new(Vec::from_slice(alloc, faults)?))
+}
+
+/// Why a job stops whose call was refused.
+fn refusal(why: WhyRefused) -> Why
+    ensures { result ≡ refusal_of why }
+{
+    match why {
+        WhyRefused::Full => Why::Full,
+        WhyRefused::Memory => Why::Memory,
+    }
+}

@@ -1,0 +1,169 @@
+//! One job, at a window.
+ghost use Rattle.std.specs.Prelude.{◌≡◌, ◌<◌, ◌≤◌, ◌^◌, ℕ, Bool, List, [], Option, false, length, vec_capacity, IsTrue, IfSome, OnOk, OnErr, IfErr};
+ghost use Rattle.std.specs.List.{AllByRecursion};
+ghost use Rattle.cwr_acknowledgement.specs.Acknowledgement.{FitsItem};
+ghost use Rattle.cwr_grammar.specs.RawParts.{IsPlaced};
+ghost use Rattle.cwr_grammar.specs.Submitted.{IsBounded};
+ghost use Rattle.cwr_call.specs.Lawful.{is_clean};
+ghost use Rattle.cwr_engine.specs.Account.{most, IsRead};
+ghost use Rattle.cwr_engine.specs.Causes.{cause_of, IsCause};
+ghost use Rattle.cwr_engine.specs.Handing.{AreAnswered, IsWorked};
+
+use crate::decision::{InHand, decide};
+use crate::gates::Gate;
+use crate::limits::MOST_BYTES;
+use crate::outcome::{FileOutcome, Why};
+use crate::window::Window;
+use byte_streams::{ReadRefused, Sink, Source, read_file, write_out};
+use cwr_acknowledgement::{AckItem, ack_file};
+use cwr_grammar::{FileRefusal, Submission, parse_file};
+use cwr_record::Stamp;
+use std::alloc::Allocator;
+use work_registry::Call;
+
+/// Hands in the transactions of a file in order, and keeps an item for each reply.
+fn hand_in_all<H: Window<Call<A>>, G: Gate, A: Allocator + Copy + Drop>(
+    alloc: A,
+    mut window: H,
+    gate: &G,
+    worker: u32,
+    file: &Submission<A>,
+    items: &mut Vec<AckItem<A>, A>,
+) -> (H, Result<(), Why>)
+    requires none { items.old.items ≡ [] }
+    requires room { length file.now.transactions ≤ vec_capacity items.old }
+    requires few { length file.now.transactions < 2 ^ 32 }
+    requires turns { length file.now.transactions ≤ H.turns_left window }
+    requires clean { IsTrue (is_clean file.now.header.sender) }
+    requires placed { AllByRecursion IsPlaced file.now.transactions }
+    ensures session { H.session result.0 ≡ H.session window }
+    ensures limit { H.limit result.0 ≡ H.limit window }
+    ensures home { H.home result.0 ≡ H.home window }
+    ensures answered { AreAnswered (H.session window) file.now.header.sender file.now.transactions (H.list window) (H.list result.0)
+        (H.whole window) (H.whole result.0) items.new.items }
+    ensures fit { AllByRecursion FitsItem items.new.items }
+    ensures all { OnOk result.1 (length items.new.items ≡ length file.now.transactions) }
+    ensures some { OnErr result.1 (length items.new.items < length file.now.transactions) }
+    ensures why { IfErr result.1 (IsCause (H.marked result.0) (G.may_shut gate.now)) }
+{
+    for (index, transaction) in file.transactions.iter().enumerate() {
+        let index = index as u32;
+        let in_hand = InHand {
+            worker,
+            index,
+            submitter: file.header.sender,
+        };
+        let (next, item) = decide(alloc, window, gate, in_hand, &transaction);
+        window = next;
+        match item {
+            Ok(item) => {
+                let Ok(()) = items.push(item) else {
+                    unreachable!()
+                };
+            }
+            Err(why) => return (window, Err(why)),
+        }
+    }
+    (window, Ok(()))
+}
+
+/// Hands the transactions of a well-formed file in at the window, and writes their acknowledgement.
+///
+/// A transaction that gets no reply ends the job. The list of items is reserved before the first one is handed in.
+fn work_submission<H: Window<Call<A>>, G: Gate, W: Sink, A: Allocator + Copy + Drop>(
+    alloc: A,
+    window: H,
+    gate: &G,
+    worker: u32,
+    file: &Submission<A>,
+    writer: &mut W,
+    stamp: &Stamp,
+) -> (H, FileOutcome)
+    requires writes { W.has_failed writer.old ≡ false }
+    requires turns { 99999995 ≤ H.turns_left window }
+    requires bounds { IsBounded most file.now.header file.now.transactions }
+    ensures session { H.session result.0 ≡ H.session window }
+    ensures limit { H.limit result.0 ≡ H.limit window }
+    ensures home { H.home result.0 ≡ H.home window }
+    ensures worked { (left : Option (List ℕ)) (input : List ℕ) (read_failed : Bool)
+        → IfSome left (λ bytes. input ≡ bytes) → IsRead input file.now.header file.now.transactions
+        → IsWorked (H.session window)
+        (record { read_failed = read_failed; write_failed = W.has_failed writer.new; full = H.marked result.0; may_shut = G.may_shut gate.now })
+        stamp.now left (W.taken writer.old) (W.taken writer.new) result.1 (H.list window) (H.list result.0) (H.whole window) (H.whole result.0) }
+{
+    let Ok(mut items) = Vec::with_capacity(alloc, file.transactions.len()) else {
+        return (window, stopped(0, Why::Memory));
+    };
+    let (window, done) = hand_in_all(alloc, window, gate, worker, file, &mut items);
+    let handed = items.len() as u32;
+    if let Err(why) = done {
+        return (window, stopped(handed, why));
+    }
+    let Ok(answer) = ack_file(alloc, stamp, &file.header, &items) else {
+        return (window, stopped(handed, Why::Memory));
+    };
+    match write_out(writer, &answer) {
+        Ok(()) => (window, acked(handed)),
+        Err(cut) => (window, stopped(handed, Why::Write { sent: cut.sent })),
+    }
+}
+
+/// Reads a file, hands its transactions in at the window, in file order, and writes their acknowledgement.
+///
+/// At most 16,777,216 bytes are taken. A transaction that gets no reply ends the job, and the entries made before it
+/// stay. The window comes back with the outcome, and can take 99,999,995 calls, one for each transaction that a file may
+/// have.
+pub fn work_file<H: Window<Call<A>>, G: Gate, R: Source, W: Sink, A: Allocator + Copy + Drop>(
+    alloc: A,
+    window: H,
+    gate: &G,
+    worker: u32,
+    reader: &mut R,
+    writer: &mut W,
+    stamp: &Stamp,
+) -> (H, FileOutcome)
+    requires reads { R.has_failed reader.old ≡ false }
+    requires writes { W.has_failed writer.old ≡ false }
+    requires turns { 99999995 ≤ H.turns_left window }
+    ensures session { H.session result.0 ≡ H.session window }
+    ensures limit { H.limit result.0 ≡ H.limit window }
+    ensures home { H.home result.0 ≡ H.home window }
+    ensures worked { IsWorked (H.session window)
+        (record { read_failed = R.has_failed reader.new; write_failed = W.has_failed writer.new; full = H.marked result.0; may_shut = G.may_shut gate.now })
+        stamp.now (R.left reader.old) (W.taken writer.old) (W.taken writer.new) result.1 (H.list window) (H.list result.0) (H.whole window) (H.whole result.0) }
+{
+    let text = match read_file(alloc, reader, MOST_BYTES) {
+        Ok(text) => text,
+        Err(unread) => return (window, stopped(0, cause(unread))),
+    };
+    match parse_file(alloc, &text) {
+        Ok(file) => work_submission(alloc, window, gate, worker, &file, writer, stamp),
+        Err(FileRefusal::Fault { number, line }) => {
+            (window, FileOutcome::Refused { number, line })
+        }
+        Err(FileRefusal::Memory) => (window, stopped(0, Why::Memory)),
+    }
+}
+
+fn acked(transactions: u32) -> FileOutcome
+    ensures { result ≡ FileOutcome.Acked transactions }
+{
+    FileOutcome::Acked { transactions }
+}
+
+fn stopped(handed: u32, why: Why) -> FileOutcome
+    ensures { result ≡ FileOutcome.Stopped handed why }
+{
+    FileOutcome::Stopped { handed, why }
+}
+
+/// Why a job stops whose file was not read.
+fn cause(unread: ReadRefused) -> Why
+    ensures { result ≡ cause_of unread }
+{
+    match unread {
+        ReadRefused::Memory => Why::Memory,
+        ReadRefused::Read => Why::Read,
+        ReadRefused::TooLong => Why::TooLong,
+    }
+}

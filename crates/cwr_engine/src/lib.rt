@@ -1,0 +1,27 @@
+//! One job: a submission file is read, its transactions are judged and handed in, and it is acknowledged.
+//!
+//! A [`Job`] is a reader and a writer; each ends in a [`FileOutcome`]. Calls are handed in at a [`Window`]: a book of
+//! one's own, or a place at one that others use too. [`work_file`] works one file at a window, [`acknowledge`] one into
+//! an empty book, [`serve_in_turn`] many at one book, one after the other.
+#![tactic(auto)]
+
+mod decision;
+mod engine;
+mod gates;
+mod in_turn;
+mod jobs;
+mod limits;
+mod lines;
+mod one_file;
+mod outcome;
+mod window;
+
+pub use engine::work_file;
+pub use gates::{Gate, OpenGate, Shut};
+pub use in_turn::serve_in_turn;
+pub use jobs::{Job, Run, ServeRefused};
+pub use limits::{MOST_BYTES, MOST_ENTRIES};
+pub use lines::outcome_line;
+pub use one_file::acknowledge;
+pub use outcome::{FileOutcome, Why};
+pub use window::{Asks, Window};

@@ -1,0 +1,37 @@
+ghost use Rattle.std.specs.Prelude.{◌≡◌, false};
+ghost use Rattle.cwr_engine.specs.Account.{IsAcknowledged};
+
+use crate::engine::work_file;
+use crate::gates::OpenGate;
+use crate::limits::MOST_ENTRIES;
+use crate::outcome::FileOutcome;
+use crate::window::Own;
+use byte_streams::{Sink, Source};
+use cwr_record::Stamp;
+use std::alloc::Allocator;
+use work_registry::Book;
+
+/// Acknowledges one file into an empty registry.
+///
+/// Reads the file to its end, decides its transactions in file order and writes their acknowledgement. At most
+/// 16,777,216 bytes are taken. A file that is not well-formed is answered with its first fault, and nothing is written.
+/// A job that is stopped for a write leaves the first bytes of the acknowledgement in the writer; one that is stopped
+/// for anything else leaves nothing there. The book is dropped.
+pub fn acknowledge<R: Source, W: Sink, A: Allocator + Copy + Drop>(
+    alloc: A,
+    reader: &mut R,
+    writer: &mut W,
+    stamp: &Stamp,
+) -> FileOutcome
+    requires reads { R.has_failed reader.old ≡ false }
+    requires writes { W.has_failed writer.old ≡ false }
+    ensures { IsAcknowledged (R.has_failed reader.new) (W.has_failed writer.new) stamp.now (R.left reader.old)
+        (W.taken writer.old) (W.taken writer.new) result }
+{
+    let window = Own {
+        book: Book::new(alloc, MOST_ENTRIES),
+        session: 1,
+    };
+    let (_window, outcome) = work_file(alloc, window, &OpenGate, 1, reader, writer, stamp);
+    outcome
+}

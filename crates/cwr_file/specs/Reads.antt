@@ -1,8 +1,0 @@
--- The number of reads of a source.
-use Rattle.std.specs.Prelude.{ℕ, ◌+◌}
-use Rattle.cwr_file.specs.declared.reads.Steps.{Steps, Zero, After'}
-
--- how many steps were made
-abbrev pub steps_made : Steps → ℕ
-steps_made Zero = 0
-steps_made (After' shape before) = steps_made before + 1

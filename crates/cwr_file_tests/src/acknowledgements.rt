@@ -1,0 +1,310 @@
+//! Acknowledgement files of worked examples, byte for byte.
+
+ghost use Rattle.std.specs.Prelude.{◌≡◌, ◌+◌, ◌<◌, ◌≤◌, ◌^◌, [], false, length};
+ghost use Rattle.std.specs.List.{AllByRecursion};
+ghost use Rattle.cwr_acknowledgement.specs.AckItem.{is_rejected, told_faults};
+ghost use Rattle.cwr_acknowledgement.specs.Acknowledgement.{FitsItem, FitsFault, told_count};
+
+use cwr_field::{cut, date, put_text, time};
+use cwr_file::{AckItem, Fault, Faults, Header, Lines, Memory, Stamp, Status, WorkKind, ack_file};
+use cwr_record::{read_header, read_message};
+use std::alloc::Global;
+use std::process::Abort;
+use std::test::Fail;
+
+/// Both first lines, which the stamp alone determines.
+const START: &str = "\
+    HDRSO000000000CWR REGISTRY~33~01.102024060109000020240601~15~2.2001CWR REGISTRY~18~1.0~27~\r\n\
+    GRHACK0000102.200000000000~2~\r\n";
+
+/// Every ACK line up to its transaction sequence, and from there to the acknowledged file's group.
+const ONE: &str = "ACK00000000000000002024050112000000001";
+
+const TWO: &str = "ACK00000001000000002024050112000000001";
+
+/// These texts one after another, with `~n~` in place of n blanks.
+fn spelled(alloc: Global, texts: &[&str]) -> Result<Vec<u8>, Memory> {
+    let mut out = Vec::new(alloc);
+    for text in texts {
+        let mut count: Option<usize> = None;
+        for byte in text.as_bytes() {
+            count = match (count, *byte) {
+                (None, b'~') => Some(0),
+                (None, byte) => {
+                    out.push(byte)?;
+                    None
+                }
+                (Some(count), b'~') => {
+                    put_text(&mut out, b"", count)?;
+                    None
+                }
+                (Some(count), digit) => Some(
+                    count
+                        .wrapping_mul(10)
+                        .wrapping_add(digit.wrapping_sub(b'0') as usize),
+                ),
+            };
+        }
+    }
+    Ok(out)
+}
+
+fn header(alloc: Global) -> Result<Header, Fail> {
+    let line = spelled(
+        alloc,
+        &["HDRPB000000123PUBLISHER A~34~01.102024050112000020240501"],
+    )?;
+    Ok(read_header(&line)?)
+}
+
+fn stamp() -> Result<Stamp, Fail> {
+    let day = date(cut(b"20240601", 1, 8)).ok_or("a day")?;
+    let clock = time(cut(b"090000", 1, 6)).ok_or("a time")?;
+    Ok(Stamp::new(0, b"CWR REGISTRY", day, clock).ok_or("a stamp")?)
+}
+
+/// An item of the first group that is not rejected, for a work that the submitter calls W1.
+fn item(alloc: Global, sequence: u32, kind: WorkKind, status: Status) -> AckItem
+    requires sequence { sequence < 10 ^ 8 }
+    requires status { is_rejected status ≡ false }
+    ensures fits { FitsItem result }
+    ensures told { told_faults result ≡ [] }
+{
+    AckItem {
+        group: 1,
+        sequence,
+        kind,
+        title: cut(b"SONG ONE", 1, 60).bytes(),
+        number: cut(b"W1", 1, 14).bytes(),
+        status,
+        work: Some(1),
+        faults: Faults::new(Vec::new(alloc)),
+    }
+}
+
+fn fault(sequence: u32, number: u8, rtype: [u8; 3]) -> Fault
+    ensures { (result.sequence ≡ sequence) × (result.number ≡ number) }
+{
+    Fault {
+        sequence,
+        number,
+        rtype,
+    }
+}
+
+/// A rejected item: the first of the first group.
+fn rejected(title: &[u8], number: &[u8], faults: Vec<Fault>) -> AckItem
+    requires { AllByRecursion FitsFault faults.items }
+    ensures fits { FitsItem result }
+    ensures told { told_faults result ≡ faults.items }
+{
+    AckItem {
+        group: 1,
+        sequence: 0,
+        kind: WorkKind::Nwr,
+        title: cut(title, 1, 60).bytes(),
+        number: cut(number, 1, 14).bytes(),
+        status: Status::Rejected,
+        work: None,
+        faults: Faults::new(faults),
+    }
+}
+
+/// The acknowledgement of these items, which must be these texts.
+fn expect_text(
+    rt: &impl Abort,
+    alloc: Global,
+    items: &[AckItem],
+    wanted: &[&str],
+) -> Result<Vec<u8>, Fail>
+    requires few { length items.now + told_count items.now ≤ 99999995 }
+    requires fit { AllByRecursion FitsItem items.now }
+{
+    let text = ack_file(alloc, &stamp()?, &header(alloc)?, items)?;
+    assert_eq!(rt; text.as_slice(), spelled(alloc, wanted)?.as_slice());
+    Ok(text)
+}
+
+#[test]
+fn acknowledges_one_work(rt: HostRuntime) -> Result<(), Fail> {
+    let items = [item(rt.alloc(), 0, WorkKind::Nwr, Status::Accepted)];
+    let text = expect_text(
+        &rt,
+        rt.alloc(),
+        &items,
+        &[
+            START,
+            ONE,
+            "00000000NWRSONG ONE~52~W1~18~00000001~12~20240601AS\r\n",
+            "GRT000010000000100000003~13~\r\n",
+            "TRL000010000000100000005\r\n",
+        ],
+    )?;
+    assert_eq!(rt; text.len(), 425);
+    Ok(())
+}
+
+#[test]
+fn acknowledges_no_work(rt: HostRuntime) -> Result<(), Fail> {
+    expect_text(
+        &rt,
+        rt.alloc(),
+        &[],
+        &[
+            START,
+            "GRT000010000000000000002~13~\r\n",
+            "TRL000010000000000000004\r\n",
+        ],
+    )?;
+    Ok(())
+}
+
+#[test]
+fn acknowledges_a_work_twice(rt: HostRuntime) -> Result<(), Fail> {
+    let items = [
+        item(rt.alloc(), 0, WorkKind::Nwr, Status::Accepted),
+        item(rt.alloc(), 1, WorkKind::Nwr, Status::Duplicate),
+    ];
+    expect_text(
+        &rt,
+        rt.alloc(),
+        &items,
+        &[
+            START,
+            ONE,
+            "00000000NWRSONG ONE~52~W1~18~00000001~12~20240601AS\r\n",
+            TWO,
+            "00000001NWRSONG ONE~52~W1~18~00000001~12~20240601DU\r\n",
+            "GRT000010000000200000004~13~\r\n",
+            "TRL000010000000200000006\r\n",
+        ],
+    )?;
+    Ok(())
+}
+
+#[test]
+fn acknowledges_a_conflict(rt: HostRuntime) -> Result<(), Fail> {
+    let revised = item(rt.alloc(), 0, WorkKind::Rev, Status::Conflict);
+    expect_text(
+        &rt,
+        rt.alloc(),
+        &[revised],
+        &[
+            START,
+            ONE,
+            "00000000REVSONG ONE~52~W1~18~00000001~12~20240601CO\r\n",
+            "GRT000010000000100000003~13~\r\n",
+            "TRL000010000000100000005\r\n",
+        ],
+    )?;
+    Ok(())
+}
+
+/// A header alone: no title, no number, no writer.
+#[test]
+fn tells_three_faults(rt: HostRuntime) -> Result<(), Fail> {
+    let faults = [
+        fault(0, 2, *b"NWR"),
+        fault(0, 3, *b"NWR"),
+        fault(0, 10, *b"NWR"),
+    ];
+    let blank = rejected(b"", b"", faults.to_vec(rt.alloc())?);
+    let text = expect_text(
+        &rt,
+        rt.alloc(),
+        &[blank],
+        &[
+            START,
+            ONE,
+            "00000000NWR~100~20240601RJ\r\n",
+            "MSG0000000000000001T00000000NWRT002TITLE IS BLANK~136~\r\n",
+            "MSG0000000000000002T00000000NWRT003SUBMITTER WORK NUMBER IS BLANK~120~\r\n",
+            "MSG0000000000000003T00000000NWRT010NO WRITER~141~\r\n",
+            "GRT000010000000100000006~13~\r\n",
+            "TRL000010000000100000008\r\n",
+        ],
+    )?;
+    assert_eq!(rt; text.capacity(), text.len(), "reserved once");
+    Ok(())
+}
+
+/// The writer's record, with a share of 10001.
+#[test]
+fn tells_a_share(rt: HostRuntime) -> Result<(), Fail> {
+    let faults = [fault(1, 6, *b"SWR")];
+    let shared = rejected(b"SONG ONE", b"W1", faults.to_vec(rt.alloc())?);
+    expect_text(
+        &rt,
+        rt.alloc(),
+        &[shared],
+        &[
+            START,
+            ONE,
+            "00000000NWRSONG ONE~52~W1~38~20240601RJ\r\n",
+            "MSG0000000000000001T00000001SWRT006SHARE IS NOT VALID~132~\r\n",
+            "GRT000010000000100000004~13~\r\n",
+            "TRL000010000000100000006\r\n",
+        ],
+    )?;
+    Ok(())
+}
+
+/// An item in conflict, which has faults all the same.
+fn in_conflict(faults: Vec<Fault>) -> AckItem
+    ensures fits { FitsItem result }
+    ensures told { told_faults result ≡ [] }
+{
+    AckItem {
+        group: 1,
+        sequence: 0,
+        kind: WorkKind::Nwr,
+        title: cut(b"SONG ONE", 1, 60).bytes(),
+        number: cut(b"W1", 1, 14).bytes(),
+        status: Status::Conflict,
+        work: None,
+        faults: Faults::new(faults),
+    }
+}
+
+/// The acknowledgement of an item tells these faults, and no others.
+fn expect_told(rt: &impl Abort, alloc: Global, item: AckItem, wanted: &[Fault]) -> Result<(), Fail>
+    requires few { length (told_faults item) ≤ 15 }
+    requires fit { FitsItem item }
+{
+    let text = ack_file(alloc, &stamp()?, &header(alloc)?, &[item])?;
+    expect_messages(rt, &text, wanted)
+}
+
+/// The messages of an acknowledgement tell these faults, and no others.
+fn expect_messages(rt: &impl Abort, text: &[u8], wanted: &[Fault]) -> Result<(), Fail> {
+    let mut told: usize = 0;
+    for line in Lines::of(text) {
+        if !line.starts_with(b"MSG") {
+            continue;
+        }
+        let message = read_message(line)?;
+        let fault = wanted.get(told).ok_or("one fault too many")?;
+        assert_eq!(rt;
+            (message.original_record, message.validation_number),
+            (fault.sequence, fault.number as u16)
+        );
+        assert_eq!(rt; message.record_type, fault.rtype);
+        told = told.saturating_add(1);
+    }
+    assert_eq!(rt; told, wanted.len());
+    Ok(())
+}
+
+/// Faults go into an item and come out again as they were, and only a rejected item tells them.
+#[test]
+fn keeps_faults(rt: HostRuntime) -> Result<(), Fail> {
+    let faults = [fault(1, 1, *b"SWT"), fault(1, 6, *b"SWR")];
+    let kept = rejected(b"SONG ONE", b"W1", faults.to_vec(rt.alloc())?);
+    assert_eq!(rt; kept.faults.as_slice(), faults.as_slice());
+    expect_told(&rt, rt.alloc(), kept, &faults)?;
+    let conflict = in_conflict(faults.to_vec(rt.alloc())?);
+    expect_told(&rt, rt.alloc(), conflict, &[])?;
+    let taken = Faults::new(faults.to_vec(rt.alloc())?).into_vec();
+    assert_eq!(rt; taken.as_slice(), faults.as_slice());
+    Ok(())
+}

@@ -1,0 +1,74 @@
+-- The transactions of a well-formed file have some lines, few enough, and no byte below 32.
+use Rattle.std.proofs.Common.{◌≡◌, ℕ, ◌+◌, ◌≤◌, true, false, ◌||◌, List, [], ◌∷◌, ◌++◌, length, Some, arith, refl, length-append}
+use Rattle.std.specs.Prelude.{IsTrue, nat_le, nat_lt}
+use Rattle.std.specs.List.{AllByRecursion}
+use Rattle.std.proofs.lemmas.Bool.Decides.{nat_tests}
+use Rattle.cwr_record.specs.Stamp.{is_printable}
+use Rattle.cwr_record.specs.declared.works.WorkKind.{WorkKind}
+use Rattle.cwr_grammar.specs.declared.role.Role.TheVariants.{GroupTrailer}
+use Rattle.cwr_grammar.specs.declared.place.Place.{Place}
+use Rattle.cwr_grammar.specs.Rows.{has_control}
+use Rattle.cwr_grammar.specs.File.{File, FileGroup, IsFile, IsPlain, AreGroups, AreTransactions, lines_of_groups, lines_of_group, joined}
+use Rattle.cwr_grammar.specs.RawParts.{RawParts, IsTransactionText, raws_of, raws_of_group}
+use Rattle.cwr_grammar.specs.Places.{IsInside, IsPlace, raws_at}
+use Rattle.cwr_grammar.proofs.Numbers.{small_role}
+use Rattle.cwr_grammar.proofs.Collecting.{all_more}
+
+all_front : {X : Type 0} (P : X → Type 0) (xs ys : List X) → AllByRecursion P (xs ++ ys) → AllByRecursion P xs
+all_front P [] ys h = tt
+all_front P (x ∷ xs) ys h = (h.0, all_front P xs ys h.1)
+
+all_back : {X : Type 0} (P : X → Type 0) (xs ys : List X) → AllByRecursion P (xs ++ ys) → AllByRecursion P ys
+all_back P [] ys h = h
+all_back P (x ∷ xs) ys h = all_back P xs ys h.1
+
+-- ---- printable lines
+
+abbrev pub IsPrintable : List ℕ → Type 0
+IsPrintable line = IsTrue (is_printable line)
+
+printable_byte : (b : ℕ) (line : List ℕ) → (nat_lt b 32 || has_control line) ≡ false → (nat_le 32 b ≡ true) × (has_control line ≡ false)
+printable_byte b line e = (grind (arith, nat_tests), grind (arith, nat_tests))
+
+pub printable : (line : List ℕ) → has_control line ≡ false → IsPrintable line
+printable [] e = refl
+printable (b ∷ line) e = let h = printable_byte b line e in rw h.0 (printable line h.1)
+
+all_printable : (ls : List (List ℕ)) → AllByRecursion IsPlain ls → AllByRecursion (λ line. IsTrue (is_printable line)) ls
+all_printable [] h = tt
+all_printable (line ∷ ls) h = (printable line h.0.0, all_printable ls h.1)
+
+-- ---- transactions
+
+abbrev pub HasText : RawParts → Type 0
+HasText r = IsTransactionText r.lines
+
+group_texts : (ts : List (List (List ℕ))) (g t : ℕ) (kind : WorkKind) → AreTransactions kind t ts → length (joined ts) ≤ 99999999 → AllByRecursion IsPlain (joined ts) → AllByRecursion HasText (raws_of_group g t kind ts)
+group_texts [] g t kind are few plain = tt
+group_texts ([] ∷ ts) g t kind are few plain = absurd are.0
+group_texts ((line ∷ ds) ∷ ts) g t kind are few plain = (
+  record {
+    some = omega arith;
+    few = omega (arith, few, length-append (line ∷ ds) (joined ts));
+    printable = all_printable (line ∷ ds) (all_front IsPlain (line ∷ ds) (joined ts) plain);
+  },
+  group_texts ts g (t + 1) kind are.1 (omega (arith, few, length-append (line ∷ ds) (joined ts))) (all_back IsPlain (line ∷ ds) (joined ts) plain),
+)
+
+groups_texts : (gs : List FileGroup) (i : ℕ) → AreGroups i gs → AllByRecursion IsPlain (lines_of_groups gs) → AllByRecursion HasText (raws_of i gs)
+groups_texts [] i are plain = tt
+groups_texts (g ∷ gs) i (here, others) plain =
+    let small = small_role g.trailer (GroupTrailer (Some i) (Some (length g.transactions)) (Some (2 + length (joined g.transactions)))) here.trailer in
+    let inner = all_front IsPlain (joined g.transactions) (g.trailer ∷ []) (all_front IsPlain (lines_of_group g) (lines_of_groups gs) plain).1 in
+    all_more HasText (raws_of_group i 0 g.kind g.transactions) (raws_of (i + 1) gs)
+    (group_texts g.transactions i 0 g.kind here.transactions (omega (arith, small)) inner)
+    (groups_texts gs (i + 1) others (all_back IsPlain (lines_of_group g) (lines_of_groups gs) plain))
+
+pub file_texts : (text : List (List ℕ)) (f : File) → IsFile text f → AllByRecursion HasText (raws_of 1 f.groups)
+file_texts text f h = groups_texts f.groups 1 h.groups (all_front IsPlain (lines_of_groups f.groups) (f.trailer ∷ []) h.plain.1)
+
+-- ---- places
+
+pub are_places : (text : List ℕ) (places : List Place) → AllByRecursion (IsInside text) places → AllByRecursion HasText (raws_at text places) → AllByRecursion (IsPlace text) places
+are_places text [] inside texts = tt
+are_places text (p ∷ places) inside texts = (record { inside = inside.0; whole = texts.0 }, are_places text places inside.1 texts.1)

@@ -1,0 +1,69 @@
+-- The first fault of a file, computed line by line. It is the least one: see the laws.
+use Rattle.std.specs.Prelude.{ℕ, ◌+◌, List, [], ◌∷◌, length, map, Option, Some, None, if◌then◌else◌}
+use Rattle.cwr_grammar.specs.declared.role.Role.{Role}
+use Rattle.cwr_grammar.specs.Before.{is_nil, is_ended}
+use Rattle.cwr_grammar.specs.Roles.{role_of}
+use Rattle.cwr_grammar.specs.Rows.{is_headless, has_control, is_malformed, is_misplaced, is_foreign, is_mixed, is_misnumbered_group, is_misnumbered, is_miscounted_group, is_miscounted_file, is_tail, is_long, is_after_end}
+
+abbrev pub at_line : ℕ → Option ℕ → Option (ℕ × ℕ)
+at_line line None = None
+at_line line (Some number) = Some (line, number)
+
+abbrev pub or_else : Option (ℕ × ℕ) → Option (ℕ × ℕ) → Option (ℕ × ℕ)
+or_else None other = other
+or_else (Some fault) other = Some fault
+
+abbrev pub or_number : Option ℕ → Option ℕ → Option ℕ
+or_number None other = other
+or_number (Some number) other = Some number
+
+-- the least of the faults 3 to 10
+abbrev pub grammar_fault : List Role → Role → Option ℕ
+grammar_fault before role =
+    if is_malformed before role then Some 3
+    else if is_misplaced before role then Some 4
+    else if is_foreign role then Some 5
+    else if is_mixed before role then Some 6
+    else if is_misnumbered_group before role then Some 7
+    else if is_misnumbered before role then Some 8
+    else if is_miscounted_group before role then Some 9
+    else if is_miscounted_file before role then Some 10
+    else None
+
+-- the least fault that roles alone show: 1, then 3 to 10; after the end of the file 11
+abbrev pub role_fault : List Role → Role → Option ℕ
+role_fault before role =
+    if is_ended before then Some 11
+    else if is_headless before role then Some 1
+    else grammar_fault before role
+
+-- the fault of the file's end
+abbrev pub fault_at_end : List Role → Option ℕ
+fault_at_end before = if is_nil before then Some 1 else if is_ended before then None else Some 11
+
+-- the least fault of a line: 1, 2, then 3 to 10, then 12; after the end of the file 11 alone
+abbrev pub line_fault : List (List ℕ) → List ℕ → Option ℕ
+line_fault before line =
+    if is_after_end before then (if is_tail line then None else Some 11)
+    else if is_headless (map role_of before) (role_of line) then Some 1
+    else if has_control line then Some 2
+    else or_number (role_fault (map role_of before) (role_of line)) (if is_long line then Some 12 else None)
+
+-- the first faulty one of these lines, which follow the lines before, the newest first, with its least fault
+abbrev pub first_fault_after : List (List ℕ) → List (List ℕ) → Option (ℕ × ℕ)
+first_fault_after before [] = at_line (length before + 1) (fault_at_end (map role_of before))
+first_fault_after before (line ∷ rest) = or_else (at_line (length before + 1) (line_fault before line)) (first_fault_after (line ∷ before) rest)
+
+-- the first faulty line of a text, from 1, with its least fault
+abbrev pub first_fault : List (List ℕ) → Option (ℕ × ℕ)
+first_fault text = first_fault_after [] text
+
+-- of lines that follow the end of the file, the first that is no tail, where the first of them has this number
+abbrev pub tail_fault : ℕ → List (List ℕ) → Option ℕ
+tail_fault k [] = None
+tail_fault k (line ∷ rest) = if is_tail line then tail_fault (k + 1) rest else Some k
+
+-- the fault of a line that may not follow the end of the file
+abbrev pub with_eleven : Option ℕ → Option (ℕ × ℕ)
+with_eleven None = None
+with_eleven (Some k) = Some (k, 11)

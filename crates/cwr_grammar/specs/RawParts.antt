@@ -1,0 +1,42 @@
+-- A transaction as it stands in a file.
+use Rattle.std.specs.Prelude.{ℕ, ◌+◌, ◌≤◌, ◌<◌, ◌^◌, IsTrue, List, [], ◌∷◌, ◌++◌, length}
+use Rattle.std.specs.List.{AllByRecursion}
+use Rattle.cwr_record.specs.Stamp.{is_printable}
+use Rattle.cwr_record.specs.declared.works.WorkKind.{WorkKind}
+use Rattle.cwr_grammar.specs.File.{FileGroup}
+
+-- the group's id, from 1; the transaction sequence, from 0; the kind; the header line, and then the details
+pub record RawParts : Type 0 where
+  pub group : ℕ
+  pub sequence : ℕ
+  pub kind : WorkKind
+  pub lines : List (List ℕ)
+
+-- where every transaction of a well-formed file stands: its group id has five digits and its sequence eight, and it
+-- has some lines
+pub record IsPlaced (transaction : RawParts) : Type 0 where
+  pub group : transaction.group < 10 ^ 5
+  pub sequence : transaction.sequence < 10 ^ 8
+  pub some : 0 < length transaction.lines
+
+-- what every transaction of a well-formed file is: some lines, no more than a record count can tell, without a byte
+-- below 32
+pub record IsTransactionText (lines : List (List ℕ)) : Type 0 where
+  pub some : 0 < length lines
+  pub few : length lines ≤ 99999999
+  pub printable : AllByRecursion (λ line. IsTrue (is_printable line)) lines
+
+-- how many lines transactions have
+abbrev pub lines_in : List RawParts → ℕ
+lines_in [] = 0
+lines_in (t ∷ ts) = length t.lines + lines_in ts
+
+-- the transactions of group g, from the number t on
+abbrev pub raws_of_group : ℕ → ℕ → WorkKind → List (List (List ℕ)) → List RawParts
+raws_of_group g t kind [] = []
+raws_of_group g t kind (part ∷ parts) = record { group = g; sequence = t; kind = kind; lines = part } ∷ raws_of_group g (t + 1) kind parts
+
+-- the transactions of groups from the number i on
+abbrev pub raws_of : ℕ → List FileGroup → List RawParts
+raws_of i [] = []
+raws_of i (g ∷ gs) = raws_of_group i 0 g.kind g.transactions ++ raws_of (i + 1) gs

@@ -1,0 +1,60 @@
+-- The role of a line in a file (CWR 2.2): what its record opens, goes on with or closes, and the numbers that it
+-- states. A number is `None` where its field has other bytes than digits.
+use Rattle.std.specs.Prelude.{ℕ, ◌&&◌, List, Option, Some, None, is_some, codes, if◌then◌else◌}
+use Rattle.std.specs.Str.{bytes_eq}
+use Rattle.cwr_field.specs.Layout.{field}
+use Rattle.cwr_field.specs.Number.{number_of}
+use Rattle.cwr_field.specs.Calendar.{day_of, time_of}
+use Rattle.cwr_record.specs.RecordTypes.{type_of}
+use Rattle.cwr_record.specs.declared.record_type.RecordType.{RecordType}
+use Rattle.cwr_record.specs.declared.record_type.RecordType.TheVariants.{Hdr, Grh, Grt, Trl, Nwr, Rev, Ack, Other, Bad}
+use Rattle.cwr_record.specs.declared.works.WorkKind.{WorkKind}
+use Rattle.cwr_record.specs.declared.works.WorkKind.TheVariants as work
+use Rattle.cwr_grammar.specs.declared.role.Role.{Role}
+use Rattle.cwr_grammar.specs.declared.role.Role.TheVariants.{FileHeader, GroupHeader, TransactionHeader, Detail, GroupTrailer, FileTrailer, Unnamed}
+
+-- the transaction types that are read
+abbrev pub kind_named : List ℕ → Option WorkKind
+kind_named name =
+    if bytes_eq name (codes "NWR") then Some work.Nwr else if bytes_eq name (codes "REV") then Some work.Rev else None
+
+-- HDR: whether Creation Date, Creation Time and Transmission Date are valid
+abbrev pub file_header : List ℕ → Role
+file_header line =
+    FileHeader (is_some (day_of (field line 65 8)) && is_some (time_of (field line 73 6)) && is_some (day_of (field line 79 8)))
+
+-- GRH: Transaction Type, Group ID
+abbrev pub group_header : List ℕ → Role
+group_header line = GroupHeader (kind_named (field line 4 3)) (number_of (field line 7 5))
+
+-- a transaction's header: its kind where it is one that is read, Transaction Sequence #, Record Sequence #
+abbrev pub transaction_header : Option WorkKind → List ℕ → Role
+transaction_header kind line = TransactionHeader kind (number_of (field line 4 8)) (number_of (field line 12 8))
+
+-- a detail of a transaction: Transaction Sequence #, Record Sequence #
+abbrev pub detail : List ℕ → Role
+detail line = Detail (number_of (field line 4 8)) (number_of (field line 12 8))
+
+-- GRT: Group ID, Transaction Count, Record Count
+abbrev pub group_trailer : List ℕ → Role
+group_trailer line = GroupTrailer (number_of (field line 4 5)) (number_of (field line 9 8)) (number_of (field line 17 8))
+
+-- TRL: Group Count, Transaction Count, Record Count
+abbrev pub file_trailer : List ℕ → Role
+file_trailer line = FileTrailer (number_of (field line 4 5)) (number_of (field line 9 8)) (number_of (field line 17 8))
+
+-- the role of a line with a record of this type
+abbrev pub role_at : RecordType → List ℕ → Role
+role_at Hdr line = file_header line
+role_at Grh line = group_header line
+role_at Grt line = group_trailer line
+role_at Trl line = file_trailer line
+role_at Nwr line = transaction_header (Some work.Nwr) line
+role_at Rev line = transaction_header (Some work.Rev) line
+role_at Ack line = transaction_header None line
+role_at Other line = transaction_header None line
+role_at Bad line = Unnamed
+role_at _ line = detail line
+
+abbrev pub role_of : List ℕ → Role
+role_of line = role_at (type_of line) line

@@ -1,0 +1,59 @@
+-- What the reader of a file answers: the file, or its first fault.
+use Rattle.std.specs.Prelude.{ℕ, ◌+◌, ◌*◌, ◌≡◌, ◌≤◌, ◌<◌, ◌^◌, true, List, ◌∷◌, length, drop, IsTrue}
+use Rattle.std.specs.List.{AllByRecursion}
+use Rattle.std.specs.Str.Lines.{lines}
+use Rattle.cwr_record.specs.Control as table
+use Rattle.cwr_record.specs.Layout.{StandsFor}
+use Rattle.cwr_record.specs.Stamp.{is_printable}
+use Rattle.cwr_record.specs.declared.control.Header.{Header}
+use Rattle.cwr_grammar.specs.declared.role.Role.TheVariants.{FileHeader}
+use Rattle.cwr_grammar.specs.declared.refusal.FileRefusal.{FileRefusal}
+use Rattle.cwr_grammar.specs.declared.refusal.FileRefusal.TheVariants.{Memory, Fault}
+use Rattle.cwr_grammar.specs.Roles.{role_of}
+use Rattle.cwr_grammar.specs.Faults.{IsLeastFault}
+use Rattle.cwr_grammar.specs.File.{File, IsFile, records_of}
+use Rattle.cwr_grammar.specs.RawParts.{RawParts, IsPlaced, lines_in, raws_of}
+use Rattle.cwr_grammar.specs.declared.counts.Counts.{Counts}
+use Rattle.cwr_grammar.specs.declared.place.Place.{Place}
+use Rattle.cwr_grammar.specs.FirstFault.{first_fault, tail_fault, with_eleven}
+use Rattle.cwr_grammar.specs.Places.{IsInside, raws_at}
+
+-- the file as it is handed out: its header, its transactions, how many groups and how many records it has
+pub record IsSubmission (f : File) (head : Header) (found : List RawParts) (group_count record_count : ℕ) : Type 0 where
+  pub header : StandsFor table.header f.header head
+  pub transactions : found ≡ raws_of 1 f.groups
+  pub groups : group_count ≡ length f.groups
+  pub records : record_count ≡ length (records_of f)
+
+-- What any well-formed file of so many bytes gives: transactions whose numbers have the digits of their fields, at most
+-- half as many lines as bytes, and a sender without a byte below 32.
+pub record IsBounded (size : ℕ) (head : Header) (found : List RawParts) : Type 0 where
+  pub placed : AllByRecursion IsPlaced found
+  pub few : 2 * lines_in found ≤ size
+  pub printable : IsTrue (is_printable head.sender)
+
+-- memory was refused; or the text has this fault, and none before it
+abbrev pub IsRefusal : List (List ℕ) → FileRefusal → Type 0
+IsRefusal text Memory = Unit {0}
+IsRefusal text (Fault number line) = IsLeastFault text line number
+
+-- the first line is a valid HDR
+abbrev pub BeginsWithHeader : List (List ℕ) → Type 0
+BeginsWithHeader text = (first : List ℕ) × (more : List (List ℕ)) × (text ≡ first ∷ more) × (role_of first ≡ FileHeader true)
+
+-- what was taken of a file is its transactions, and the counts are its own
+pub record AreParts (f : File) (found : List RawParts) (group_count record_count : ℕ) : Type 0 where
+  pub transactions : found ≡ raws_of 1 f.groups
+  pub groups : group_count ≡ length f.groups
+  pub records : record_count ≡ length (records_of f)
+
+-- A text was read up to its TRL without a fault, which ends before a position. What follows decides alone whether the
+-- text is a file, and if it is one, these are its parts.
+pub record IsReadTo (text : List ℕ) (places : List Place) (s : Counts) (at : ℕ) : Type 0 where
+  pub inside : at ≤ length text
+  pub few : s.lines ≤ at
+  pub few_groups : s.groups < 10 ^ 5
+  pub few_records : s.lines < 10 ^ 8
+  pub placed : AllByRecursion (IsInside text) places
+  pub fault : first_fault (lines text) ≡ with_eleven (tail_fault (s.lines + 1) (lines (drop at text)))
+  pub parts : (f : File) → IsFile (lines text) f → AreParts f (raws_at text places) s.groups s.lines

@@ -1,0 +1,23 @@
+//! The grammar of CWR submission files.
+//!
+//! [`parse_file`] reads a submission file: its header and its transactions, or its first fault. Nothing is copied:
+//! a [`RawTransaction`] borrows the file's bytes, and [`Lines`] goes over lines.
+#![tactic(auto)]
+
+mod control;
+mod counts;
+mod fault;
+pub mod laws;
+mod lines;
+mod place;
+mod refusal;
+mod role;
+mod submission;
+mod transactions;
+
+pub use cwr_field::Memory;
+pub use cwr_record::{Header, WorkKind};
+pub use lines::Lines;
+pub use refusal::FileRefusal;
+pub use submission::{Submission, parse_file};
+pub use transactions::{RawTransaction, TransactionIter, Transactions};

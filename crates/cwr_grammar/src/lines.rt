@@ -1,0 +1,118 @@
+ghost use Rattle.std.specs.Prelude.{◌≡◌, ◌<◌, ◌≤◌, ◌==◌, ◌∷◌, ◌++◌, ◌⊎◌, ℕ, List, [], true, false, length, take, drop, IfSome, IfNone};
+ghost use Rattle.std.specs.Iterator.{YieldsFirstRef, item_count};
+ghost use Rattle.std.specs.List.{position};
+ghost use Rattle.std.specs.Str.Lines.{lines, strip_carriage_return};
+ghost use Rattle.cwr_grammar.specs.Rows.{has_control};
+
+use crate::control::first_control;
+use std::iter::FusedIterator;
+use std::marker::Model;
+
+/// The lines of a text that are still to come, in order. They borrow the text.
+///
+/// LF ends a line, and one CR before it is no part of the line. The last line may lack its LF, and then keeps a CR
+/// at its end. The empty text has no lines. A contract sees this iterator as the list of the lines.
+#[derive(Clone, Debug, Drop)]
+pub struct Lines<'a> {
+    rest: &'a [u8],
+}
+
+impl<'a> Model for Lines<'a> {
+    ghost use Rattle.std.specs.Prelude.{List, ℕ};
+    ghost use Rattle.std.specs.Str.Lines.{lines};
+
+    ghost Value = { List (List ℕ) };
+
+    ghost view = { λ l. lines l.rest.now };
+}
+
+impl<'a> Lines<'a> {
+    /// The lines of a text.
+    pub fn of(text: &'a [u8]) -> Lines<'a>
+        ensures { result ≡ lines text.now }
+    {
+        Lines { rest: text }
+    }
+}
+
+impl<'a> Iterator for Lines<'a> {
+    type Item = &'a [u8];
+
+    ghost next_gives = { YieldsFirstRef (λ l. l) };
+
+    ghost remaining = { item_count (λ l. l) };
+
+    fn next(&mut self) -> Option<&'a [u8]> {
+        let line = first_line(self.rest)?;
+        self.rest = &self.rest[line.size..];
+        Some(line.bytes)
+    }
+}
+
+impl FusedIterator for Lines<'_> {}
+
+/// The first line of a text.
+#[derive(Clone, Copy)]
+pub(crate) struct FirstLine<'a> {
+    pub(crate) bytes: &'a [u8],
+    /// How many bytes it has with its end.
+    pub(crate) size: usize,
+    /// No byte of it is below 32. Where this is false, one may be.
+    pub(crate) is_clean: bool,
+}
+
+/// The first line of a text.
+pub(crate) fn first_line(text: &[u8]) -> Option<FirstLine<'_>>
+    ensures none { IfNone result (text.now ≡ []) }
+    ensures line { IfSome result (λ x. lines text.now ≡ x.bytes.now ∷ lines (drop x.size text.now)) }
+    ensures some { IfSome result (λ x. 0 < x.size) }
+    ensures inside { IfSome result (λ x. x.size ≤ length text.now) }
+    ensures clean { IfSome result (λ x. x.is_clean ≡ true → has_control x.bytes.now ≡ false) }
+
+    // Its bytes are the whole text, or are a line with its end before any other bytes too.
+    ensures whole { IfSome result (λ x. (length text.now ≤ x.size) ⊎ ((more : List ℕ) → lines (take x.size text.now ++ more) ≡ x.bytes.now ∷ lines more)) }
+{
+    if text.is_empty() {
+        return None;
+    }
+    match line_end(text) {
+        (Some(end), is_clean) => Some(FirstLine {
+            bytes: without_return(&text[..end]),
+            size: end + 1,
+            is_clean,
+        }),
+        (None, _) => Some(FirstLine {
+            bytes: text,
+            size: text.len(),
+            is_clean: false,
+        }),
+    }
+}
+
+/// The index of the first LF, and whether the line before it is known to have no byte below 32.
+///
+/// The first byte below 32 is mostly the line's end. Where it is not, the LF is looked for alone.
+fn line_end(text: &[u8]) -> (Option<usize>, bool)
+    ensures value { result.0 ≡ position (λ b. b == 10) text.now }
+    ensures inside { IfSome result.0 (λ end. end < length text.now) }
+    ensures clean { result.1 ≡ true → IfSome result.0 (λ end. has_control (strip_carriage_return (take end text.now)) ≡ false) }
+{
+    let end = first_control(text);
+    if end < text.len() && text[end] == b'\n' {
+        return (Some(end), true);
+    }
+    if end < text.len() && text[end] == b'\r' && end + 1 < text.len() && text[end + 1] == b'\n' {
+        return (Some(end + 1), true);
+    }
+    (text.iter().position(|byte| *byte == b'\n'), false)
+}
+
+/// The bytes of a line that an LF ended, less one CR at their end.
+fn without_return(line: &[u8]) -> &[u8]
+    ensures { result.now ≡ strip_carriage_return line.now }
+{
+    match line {
+        [front @ .., b'\r'] => front,
+        _ => line,
+    }
+}

@@ -1,0 +1,29 @@
+ghost use Rattle.std.specs.Prelude.{◌≡◌};
+ghost use Rattle.cwr_grammar.specs.declared.refusal.FileRefusal.TheVariants.{Memory as refused};
+
+use cwr_field::Memory;
+use thiserror::Error;
+
+/// Why a file was not taken.
+#[derive(Clone, Copy, Debug, PartialEq, Eq, Error)]
+pub enum FileRefusal {
+    /// The system refused memory.
+    #[error("memory")]
+    Memory,
+    /// The file has this fault, and none before it.
+    #[error("refused F{number} at line {line}")]
+    Fault {
+        /// The number of the fault, from 1 to 12: of the line's faults the least.
+        number: u8,
+        /// The line, counted from 1: of the faulty lines the first. The line after the last one is the end.
+        line: u64,
+    },
+}
+
+impl From<Memory> for FileRefusal {
+    ghost from_gives = { λ _ e. e ≡ refused };
+
+    fn from(_error: Memory) -> FileRefusal {
+        FileRefusal::Memory
+    }
+}

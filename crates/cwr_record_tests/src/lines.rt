@@ -1,0 +1,36 @@
+//! Lines, and the values of their fields.
+
+ghost use Rattle.std.specs.Prelude.{◌≤◌};
+
+use cwr_field::{Clock, Day, cut, date, time};
+use std::alloc::{AllocError, Global};
+use std::test::Fail;
+
+/// A line of texts, each followed by so many blanks.
+pub(crate) fn line(alloc: Global, texts: &[(&[u8], usize)]) -> Result<Vec<u8>, AllocError> {
+    let mut line = Vec::new(alloc);
+    for (text, blanks) in texts {
+        line.extend_from_slice(text)?;
+        for _ in 0..*blanks {
+            line.push(b' ')?;
+        }
+    }
+    Ok(line)
+}
+
+/// A text in its field, followed by blanks.
+pub(crate) fn text<const N: usize>(text: &[u8]) -> [u8; N]
+    requires { (1 ≤ N) × (N ≤ 150) }
+{
+    cut(text, 1, N).bytes()
+}
+
+/// The day of eight digits.
+pub(crate) fn day(digits: &[u8; 8]) -> Result<Day, Fail> {
+    Ok(date(cut(digits, 1, 8)).ok_or("no date")?)
+}
+
+/// The time of six digits.
+pub(crate) fn clock(digits: &[u8; 6]) -> Result<Clock, Fail> {
+    Ok(time(cut(digits, 1, 6)).ok_or("no time")?)
+}

@@ -1,0 +1,52 @@
+//! A transaction in a file of its own, judged.
+
+use cwr_grammar::parse_file;
+use cwr_rules::{Call, Fault, WorkKind, judge};
+use std::alloc::Global;
+use std::process::Abort;
+use std::test::Fail;
+
+/// The header of the file.
+const HEADER: &str =
+    "HDRPB000000123PUBLISHER A                                  01.102024050112000020240501";
+
+/// The call of the transaction of these lines, as the one transaction of a file.
+pub(crate) fn judged(alloc: Global, lines: &[&str], kind: WorkKind) -> Result<Call, Fail> {
+    let name = match kind {
+        WorkKind::Nwr => "NWR",
+        WorkKind::Rev => "REV",
+    };
+    let text = lines.join(alloc, "\n")?;
+    let group_records = lines.len().saturating_add(2);
+    let file_records = lines.len().saturating_add(4);
+    let file = format!(in alloc;
+        "{HEADER}\nGRH{name}00001\n{text}\nGRT0000100000001{group_records:08}\nTRL0000100000001{file_records:08}\n"
+    )?;
+    let submission = parse_file(alloc, file.as_bytes())?;
+    let transaction = submission.transactions.get(0).ok_or("no transaction")?;
+    Ok(judge(alloc, &transaction, *b"PB000000123")?)
+}
+
+/// Whether a fault has the type of the record with its sequence: the first three bytes of that line.
+fn is_typed(lines: &[&str], fault: &Fault) -> bool {
+    match lines.get(fault.sequence as usize) {
+        Some(line) => line.as_bytes().starts_with(&fault.rtype),
+        None => false,
+    }
+}
+
+/// Judges the transaction of these lines, whose faults must be these pairs of a sequence and a number.
+pub(crate) fn expect(
+    rt: &impl Abort,
+    alloc: Global,
+    lines: &[&str],
+    wanted: &[(u32, u8)],
+) -> Result<(), Fail> {
+    let call = judged(alloc, lines, WorkKind::Nwr)?;
+    assert_eq!(rt; call.faults().len(), wanted.len(), "{lines:?}");
+    for (fault, (sequence, number)) in call.faults().iter().zip(wanted) {
+        let found = (fault.sequence, fault.number, is_typed(lines, fault));
+        assert_eq!(rt; found, (*sequence, *number, true), "{lines:?}");
+    }
+    Ok(())
+}

@@ -1,0 +1,60 @@
+//! What a test found, beside what it wanted.
+
+use std::fmt::Debug;
+use std::str;
+use std::test::Fail;
+
+/// How many bytes of two texts that differ are told, from where they do.
+const TOLD: usize = 90;
+
+/// Two values must be the same.
+pub fn same<T: PartialEq + Debug>(what: &str, found: &T, wanted: &T) -> Result<(), Fail> {
+    if *found == *wanted {
+        Ok(())
+    } else {
+        Err(Fail::new(format_args!("{what}: {found:?}, and not {wanted:?}")))
+    }
+}
+
+/// Two byte strings must be the same. Else both are told from the first place where they differ.
+pub fn same_bytes(what: &str, found: &[u8], wanted: &[u8]) -> Result<(), Fail> {
+    if found == wanted {
+        return Ok(());
+    }
+    let place = common(found, wanted);
+    let here = piece(found, place);
+    let there = piece(wanted, place);
+    Err(Fail::new(format_args!("{what}: from byte {place} on {here:?}, and not {there:?}")))
+}
+
+/// Two texts must be the same. Else both are told from the first place where they differ.
+pub fn same_text(what: &str, found: &str, wanted: &str) -> Result<(), Fail> {
+    same_bytes(what, found.as_bytes(), wanted.as_bytes())
+}
+
+/// How many bytes two byte strings begin with in common.
+fn common(one: &[u8], other: &[u8]) -> usize {
+    let mut count: usize = 0;
+    for (mine, theirs) in one.iter().zip(other) {
+        if *mine != *theirs {
+            return count;
+        }
+        count = count.saturating_add(1);
+    }
+    count
+}
+
+/// The next bytes from a place on.
+fn piece(bytes: &[u8], place: usize) -> &str {
+    let rest = bytes.get(place..).unwrap_or(&[]);
+    let short = rest.get(..TOLD).unwrap_or(rest);
+    str::from_utf8(short).unwrap_or("bytes that are no text")
+}
+
+/// Two lists must be the same. Else the first element that differs is told.
+pub fn same_lists<T: PartialEq + Debug>(what: &str, found: &[T], wanted: &[T]) -> Result<(), Fail> {
+    for (one, other) in found.iter().zip(wanted) {
+        same(what, one, other)?;
+    }
+    same(what, &found.len(), &wanted.len())
+}

@@ -1,0 +1,175 @@
+//! Gates that shut, and one that keeps who passed it.
+ghost use Rattle.std.specs.Prelude.{false, true};
+
+use crate::threads::serve_two;
+use cwr_desk::{Book, FileOutcome, Gate, Reply, Shut, Why};
+use cwr_sheets::{
+    OTHER_SENDER, SENDER, acknowledgement, decision, same, same_lists, three_works, work_twice,
+};
+use desk_runs::{accepted, expect_ends, expect_run, expect_written, run_at_desk, whole};
+use std::alloc::Global;
+use std::sync::Mutex;
+use std::test::Fail;
+
+/// Is shut for one transaction of one worker.
+#[derive(Drop)]
+struct ShutFor {
+    worker: u32,
+    index: u32,
+}
+
+impl Gate for ShutFor {
+    ghost may_shut = { λ _. true };
+
+    fn before(&self, worker: u32, index: u32) -> Result<(), Shut> {
+        if worker == self.worker && index == self.index {
+            Err(Shut)
+        } else {
+            Ok(())
+        }
+    }
+
+    fn after(&self, _worker: u32, _index: u32) {}
+}
+
+const SHUT: ShutFor = ShutFor {
+    worker: 1,
+    index: 1,
+};
+
+#[test]
+fn a_gate_that_shuts(rt: HostRuntime) -> Result<(), Fail> {
+    let alloc = rt.alloc();
+    let input = work_twice(alloc, SENDER)?;
+    let run = run_at_desk(&rt, alloc, Book::new(alloc, 100), &[whole(&input)], &SHUT)?;
+    let end = FileOutcome::Stopped {
+        handed: 1,
+        why: Why::Gate,
+    };
+    expect_run(&run, end, b"", &[accepted(1, 1)])
+}
+
+/// The replies of a session, in order.
+fn replies_of(alloc: Global, book: &Book, session: u32) -> Result<Vec<Reply>, Fail> {
+    let mut replies = Vec::new(alloc);
+    for entry in book.history() {
+        if entry.session() == session {
+            replies.push(entry.reply())?;
+        }
+    }
+    Ok(replies)
+}
+
+/// Three entries: the first job's work, and the second job's twice. The works are numbered as they came.
+fn expect_both(alloc: Global, book: &Book) -> Result<u32, Fail> {
+    same("entries", &book.len(), &3)?;
+    let first = book.history().first().ok_or("an entry")?;
+    let (stopped, whole) = if first.session() == 1 { (1, 2) } else { (2, 1) };
+    let ones = replies_of(alloc, book, 1)?;
+    same_lists("the first job's replies", &ones, &[accepted(stopped, 1)])?;
+    let others = replies_of(alloc, book, 2)?;
+    let wanted = [accepted(whole, 1), Reply::Duplicate { work: whole }];
+    same_lists("the second job's replies", &others, &wanted)?;
+    Ok(whole)
+}
+
+#[test]
+fn a_gate_that_shuts_for_one_of_two(rt: HostRuntime) -> Result<(), Fail> {
+    let alloc = rt.alloc();
+    let one = work_twice(alloc, SENDER)?;
+    let other = work_twice(alloc, OTHER_SENDER)?;
+    let run = serve_two(&rt, alloc, &one, &other, &SHUT)?;
+    let stopped = FileOutcome::Stopped {
+        handed: 1,
+        why: Why::Gate,
+    };
+    let acknowledged = FileOutcome::Acked { transactions: 2 };
+    expect_ends(&run, &[stopped, acknowledged])?;
+    let whole = expect_both(alloc, &run.book)?;
+    let number = format!(in alloc; "{whole:08}")?;
+    let wanted = acknowledgement(
+        alloc,
+        &[
+            decision(0, "NWR", "W1", &number, "AS", &[]),
+            decision(1, "NWR", "W1", &number, "DU", &[]),
+        ],
+    )?;
+    expect_written(&run, &[b"", &wanted])
+}
+
+/// That a worker passed a gate, at one of its transactions.
+#[derive(Clone, Copy, Debug, PartialEq, Eq)]
+enum Passed {
+    Before { worker: u32, index: u32 },
+    After { worker: u32, index: u32 },
+}
+
+const fn before(index: u32) -> Passed {
+    Passed::Before { worker: 1, index }
+}
+
+const fn after(index: u32) -> Passed {
+    Passed::After { worker: 1, index }
+}
+
+/// Lets everyone pass, and keeps who did, in order.
+#[derive(Drop)]
+struct Recording {
+    passed: Mutex<Vec<Passed>>,
+}
+
+impl Recording {
+    fn new(alloc: Global) -> Recording {
+        Recording {
+            passed: Mutex::new(Vec::new(alloc)),
+        }
+    }
+
+    fn keep(&self, passed: Passed) {
+        if let Some(mut kept) = self.passed.try_lock() {
+            let _kept = kept.push(passed).is_ok();
+        }
+    }
+}
+
+impl Gate for Recording {
+    ghost may_shut = { λ _. false };
+
+    fn before(&self, worker: u32, index: u32) -> Result<(), Shut> {
+        self.keep(Passed::Before { worker, index });
+        Ok(())
+    }
+
+    fn after(&self, worker: u32, index: u32) {
+        self.keep(Passed::After { worker, index });
+    }
+}
+
+/// Who must have passed the gate, in order.
+fn expect_passed(gate: Recording, wanted: &[Passed]) -> Result<(), Fail> {
+    same_lists("who passed the gate", &gate.passed.into_inner(), wanted)
+}
+
+#[test]
+fn each_transaction_passes_the_gate(rt: HostRuntime) -> Result<(), Fail> {
+    let alloc = rt.alloc();
+    let input = work_twice(alloc, SENDER)?;
+    let gate = Recording::new(alloc);
+    let run = run_at_desk(&rt, alloc, Book::new(alloc, 100), &[whole(&input)], &gate)?;
+    expect_ends(&run, &[FileOutcome::Acked { transactions: 2 }])?;
+    expect_passed(gate, &[before(0), after(0), before(1), after(1)])
+}
+
+#[test]
+fn a_refused_transaction_does_not_pass(rt: HostRuntime) -> Result<(), Fail> {
+    let alloc = rt.alloc();
+    let input = three_works(alloc)?;
+    let gate = Recording::new(alloc);
+    let run = run_at_desk(&rt, alloc, Book::new(alloc, 1), &[whole(&input)], &gate)?;
+    let end = FileOutcome::Stopped {
+        handed: 1,
+        why: Why::Full,
+    };
+    expect_run(&run, end, b"", &[accepted(1, 1)])?;
+    expect_passed(gate, &[before(0), after(0), before(1)])
+}

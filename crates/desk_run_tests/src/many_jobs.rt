@@ -1,0 +1,94 @@
+//! Many jobs at one desk, and jobs that end in different ways beside one another.
+
+use cwr_desk::{Book, Entry, FileOutcome, OpenGate, Why};
+use cwr_sheets::{ALL, file, miscounted, one_answer, plain_file, same, work, writer};
+use desk_runs::{
+    ACKED, MemoryRun, accepted, expect_ends, expect_history, expect_written, run_at_desk,
+};
+use std::alloc::Global;
+use std::sync::Wait;
+use std::test::Fail;
+use std::thread::Threads;
+
+/// The files of one new work each, of the submitters 1 to 63.
+fn files(alloc: Global) -> Result<Vec<Vec<u8>>, Fail> {
+    let mut files = Vec::new(alloc);
+    for submitter in 1..64u32 {
+        let sender = format!(in alloc; "{submitter:09}")?;
+        let lines = [
+            work(alloc, "NWR", 0, "W1", "")?,
+            writer(alloc, "SWR", 0, 1, ALL)?,
+        ];
+        files.push(file(alloc, sender.as_str(), "NWR", 1, &lines)?)?;
+    }
+    Ok(files)
+}
+
+/// Works all files at once, each with room for the acknowledgement of one work, at an empty book of 100 entries.
+fn serve_all<'a, T: Threads + Wait + Sync>(
+    rt: &T,
+    alloc: Global,
+    files: &'a [Vec<u8>],
+) -> Result<MemoryRun<'a>, Fail> {
+    let mut inputs = Vec::new(alloc);
+    for file in files {
+        inputs.push((file.as_slice(), None, 425))?;
+    }
+    run_at_desk(rt, alloc, Book::new(alloc, 100), &inputs, &OpenGate)
+}
+
+/// How many of the entries are of this session and this submitter.
+fn entries_of(entries: &[Entry], session: u32, submitter: &[u8]) -> usize {
+    let mut count: usize = 0;
+    for entry in entries {
+        if entry.session() == session && entry.call().submitter().as_slice() == submitter {
+            count = count.saturating_add(1);
+        }
+    }
+    count
+}
+
+/// Works 1 to 63 in the order of the entries, and one entry of each session, with its job's submitter.
+fn expect_63(alloc: Global, entries: &[Entry]) -> Result<(), Fail> {
+    same("entries", &entries.len(), &63)?;
+    for (entry, work) in entries.iter().zip(1..64u32) {
+        same("a reply", &entry.reply(), &accepted(work, 1))?;
+    }
+    for session in 1..64u32 {
+        let submitter = format!(in alloc; "PB{session:09}")?;
+        let count = entries_of(entries, session, submitter.as_bytes());
+        same(&submitter, &count, &1)?;
+    }
+    Ok(())
+}
+
+#[test]
+fn jobs_of_63_submitters(rt: HostRuntime) -> Result<(), Fail> {
+    let alloc = rt.alloc();
+    let files = files(alloc)?;
+    let run = serve_all(&rt, alloc, &files)?;
+    expect_ends(&run, &[ACKED; 63])?;
+    expect_63(alloc, run.book.history())
+}
+
+#[test]
+fn a_refused_file_and_a_failed_read_beside_a_good_one(rt: HostRuntime) -> Result<(), Fail> {
+    let alloc = rt.alloc();
+    let bad = miscounted(alloc)?;
+    let good = plain_file(alloc)?;
+    let inputs = [
+        (bad.as_slice(), None, 425),
+        (good.as_slice(), Some(1), 425),
+        (good.as_slice(), None, 425),
+    ];
+    let run = run_at_desk(&rt, alloc, Book::new(alloc, 100), &inputs, &OpenGate)?;
+    let unread = FileOutcome::Stopped {
+        handed: 0,
+        why: Why::Read,
+    };
+    let refused = FileOutcome::Refused { number: 9, line: 5 };
+    expect_ends(&run, &[refused, unread, ACKED])?;
+    expect_history(&run.book, &[(3, accepted(1, 1))])?;
+    let wanted = one_answer(alloc, "AS")?;
+    expect_written(&run, &[b"", b"", &wanted])
+}

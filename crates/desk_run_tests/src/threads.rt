@@ -1,0 +1,137 @@
+//! Jobs on threads of their own at one desk.
+ghost use Rattle.std.specs.Prelude.{true};
+
+use cwr_desk::{Book, FileOutcome, Gate, OpenGate, Reply, Shut, Why};
+use cwr_sheets::{one_answer, plain_file, rival_claims, same};
+use desk_runs::{
+    ACKED, MemoryRun, accepted, expect_ends, expect_history, expect_written, run_at_desk, whole,
+};
+use std::alloc::Global;
+use std::sync::Wait;
+use std::sync::atomic::{AtomicU64, Ordering};
+use std::test::Fail;
+use std::thread::{Threads, yield_now};
+
+/// Holds each worker until two have come, and then worker 1 until worker 2 has its reply. It gives up after some time.
+#[derive(Drop)]
+pub(crate) struct SecondFirst {
+    come: AtomicU64,
+    answered: AtomicU64,
+}
+
+impl SecondFirst {
+    pub(crate) fn new() -> SecondFirst {
+        SecondFirst {
+            come: AtomicU64::new(0),
+            answered: AtomicU64::new(0),
+        }
+    }
+}
+
+impl Gate for SecondFirst {
+    ghost may_shut = { λ _. true };
+
+    fn before(&self, worker: u32, _index: u32) -> Result<(), Shut> {
+        self.come.fetch_add(1, Ordering::SeqCst);
+        for _ in 0..1_000_000 {
+            let both = self.come.load(Ordering::SeqCst) >= 2;
+            if both && (worker == 2 || self.answered.load(Ordering::SeqCst) == 1) {
+                return Ok(());
+            }
+            yield_now();
+        }
+        Err(Shut)
+    }
+
+    fn after(&self, worker: u32, _index: u32) {
+        if worker == 2 {
+            self.answered.store(1, Ordering::SeqCst);
+        }
+    }
+}
+
+/// Works two files at once, at an empty book of 100 entries.
+pub(crate) fn serve_two<'a, T: Threads + Wait + Sync, G: Gate + Sync>(
+    rt: &T,
+    alloc: Global,
+    first: &'a [u8],
+    second: &'a [u8],
+    gate: &G,
+) -> Result<MemoryRun<'a>, Fail> {
+    let inputs = [whole(first), whole(second)];
+    run_at_desk(rt, alloc, Book::new(alloc, 100), &inputs, gate)
+}
+
+#[test]
+fn two_workers_meet_at_the_gate(rt: HostRuntime) -> Result<(), Fail> {
+    let alloc = rt.alloc();
+    let claims = rival_claims(alloc)?;
+    let [one, other] = &claims;
+    let run = serve_two(&rt, alloc, one, other, &SecondFirst::new())?;
+    expect_ends(&run, &[ACKED, ACKED])?;
+    let history = [(2, accepted(1, 1)), (1, Reply::Conflict { work: 1 })];
+    expect_history(&run.book, &history)?;
+    let conflict = one_answer(alloc, "CO")?;
+    let registered = one_answer(alloc, "AS")?;
+    expect_written(&run, &[&conflict, &registered])
+}
+
+#[test]
+fn one_worker_waits_in_vain(rt: HostRuntime) -> Result<(), Fail> {
+    let alloc = rt.alloc();
+    let input = plain_file(alloc)?;
+    let book = Book::new(alloc, 100);
+    let run = run_at_desk(&rt, alloc, book, &[whole(&input)], &SecondFirst::new())?;
+    let stopped = FileOutcome::Stopped {
+        handed: 0,
+        why: Why::Gate,
+    };
+    expect_ends(&run, &[stopped])?;
+    same("entries", &run.book.len(), &0)
+}
+
+/// Both jobs acknowledged the plain file, first the one of this session and then the other one.
+fn expect_twice(alloc: Global, run: &MemoryRun, sessions: [u32; 2]) -> Result<(), Fail> {
+    expect_ends(run, &[ACKED, ACKED])?;
+    same("jobs", &run.jobs.len(), &2)?;
+    let [earlier, later] = sessions;
+    let history = [
+        (earlier, accepted(1, 1)),
+        (later, Reply::Duplicate { work: 1 }),
+    ];
+    expect_history(&run.book, &history)?;
+    let registered = one_answer(alloc, "AS")?;
+    let duplicate = one_answer(alloc, "DU")?;
+    if earlier == 1 {
+        expect_written(run, &[&registered, &duplicate])
+    } else {
+        expect_written(run, &[&duplicate, &registered])
+    }
+}
+
+#[test]
+fn one_file_twice_at_once(rt: HostRuntime) -> Result<(), Fail> {
+    let alloc = rt.alloc();
+    let input = plain_file(alloc)?;
+    let run = serve_two(&rt, alloc, &input, &input, &OpenGate)?;
+    let first = run.book.history().first().ok_or("an entry")?;
+    let sessions = if first.session() == 1 { [1, 2] } else { [2, 1] };
+    expect_twice(alloc, &run, sessions)
+}
+
+#[test]
+fn one_file_twice_and_the_second_job_first(rt: HostRuntime) -> Result<(), Fail> {
+    let alloc = rt.alloc();
+    let input = plain_file(alloc)?;
+    let run = serve_two(&rt, alloc, &input, &input, &SecondFirst::new())?;
+    expect_twice(alloc, &run, [2, 1])
+}
+
+#[test]
+fn no_jobs_at_the_desk(rt: HostRuntime) -> Result<(), Fail> {
+    let alloc = rt.alloc();
+    let run = run_at_desk(&rt, alloc, Book::new(alloc, 100), &[], &OpenGate)?;
+    same("outcomes", &run.outcomes.len(), &0)?;
+    same("jobs", &run.jobs.len(), &0)?;
+    same("the book", &(run.book.len(), run.book.limit()), &(0, 100))
+}

@@ -1,0 +1,10 @@
+//! Files in memory that are worked into books, in turn and at the desk, and what must become of them: for tests.
+#![tactic(auto)]
+
+mod ends;
+mod jobs;
+mod runs;
+
+pub use ends::{ACKED, accepted, expect_ends, expect_history, expect_run, expect_written};
+pub use jobs::{Input, MemoryRun, whole};
+pub use runs::{run_at_desk, run_in_turn};

@@ -1,0 +1,36 @@
+//! The command lines that the program takes.
+
+use crate::run_command::run_command;
+use clap::{Arg, Command};
+use std::alloc::{AllocError, Global};
+
+/// The program's name, what it does without words, and its commands.
+pub(crate) fn command_line<'a>(alloc: Global) -> Result<Command<'a>, AllocError> {
+    Command::new(alloc, "purvilgo")
+        .about("Acknowledges a CWR 2.2 file from standard input to standard output")
+        .subcommand(run_command(alloc)?)?
+        .subcommand(check_command(alloc)?)?
+        .subcommand(audit_command(alloc)?)
+}
+
+/// `check FILE`.
+fn check_command<'a>(alloc: Global) -> Result<Command<'a>, AllocError> {
+    Command::new(alloc, "check")
+        .about("Tells which rules a CWR 2.2 file breaks")
+        .arg(
+            Arg::new(alloc, "FILE")
+                .required(true)
+                .help("a CWR 2.2 file"),
+        )
+}
+
+/// `audit REGISTER`.
+fn audit_command<'a>(alloc: Global) -> Result<Command<'a>, AllocError> {
+    Command::new(alloc, "audit")
+        .about("Checks every decision of a register")
+        .arg(
+            Arg::new(alloc, "REGISTER")
+                .required(true)
+                .help("a register"),
+        )
+}

@@ -1,0 +1,13 @@
+//! The commands of the program `purvilgo`: [`run_program`] takes its words, reads and writes its files, and answers its
+//! exit status. What it does with their bytes stands in the libraries below.
+#![tactic(auto)]
+
+mod command_line;
+mod files;
+mod program;
+mod registers;
+mod run_command;
+mod running;
+mod status;
+
+pub use program::run_program;

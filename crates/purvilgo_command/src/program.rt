@@ -1,0 +1,129 @@
+use crate::command_line::command_line;
+use crate::files::InputFile;
+use crate::registers::audit_file;
+use crate::running::run_files;
+use crate::status::{BAD_WORDS, bad_words, no_memory};
+use byte_streams::{Through, read_file};
+use clap::ArgMatches;
+use cwr_check::{Checked, check_text};
+use cwr_desk::{FileOutcome, MOST_BYTES, acknowledge, outcome_line};
+use cwr_field::{Clock, Day, cut, date, time};
+use cwr_record::Stamp;
+use std::process::ExitCode;
+use std::rt::{Env, Files};
+use std::sync::Wait;
+use std::thread::Threads;
+use std::{env, io, str};
+
+/// Runs the program on its words, and answers its exit status.
+///
+/// Without words it acknowledges standard input to standard output. `run` acknowledges files at one book, which may
+/// come from a register and go to one. `check FILE` tells on standard output which rules a file breaks, and
+/// `audit REGISTER` tells there how many entries a register has, or its first fault.
+///
+/// The status is 0 without words where the input is acknowledged; of `run` where all files are, each outcome is told,
+/// and the register that is asked for is kept; of `check` and `audit` where there is no fault, and that is told. It is 2
+/// where the words are not taken: one of them is not text, `clap` answers with a text of its own (so also where help is
+/// asked for), or those of `run` have a [`RunFault`](run_words::RunFault). Else it is 1.
+pub fn run_program<R: Env + AllocGlobal + Input + Print + Eprint + Files + Threads + Wait + Sync>(
+    rt: &R,
+) -> ExitCode
+where
+    R::File: Send,
+    R::Dir: Send,
+{
+    let Ok(words) = env::args(rt) else {
+        return bad_words(rt, "a word of the command line is not text");
+    };
+    let words: Vec<String> = match words.collect(rt.alloc()) {
+        Ok(words) => words,
+        Err(_) => return no_memory(rt),
+    };
+    let Ok(command) = command_line(rt.alloc()) else {
+        return no_memory(rt);
+    };
+    match command.try_get_matches_from(words.as_slice()) {
+        Ok(matches) => run_given(rt, &matches),
+        Err(error) => {
+            let _ = eprint!(rt; "{error}");
+            ExitCode::from(BAD_WORDS)
+        }
+    }
+}
+
+/// Runs the command that the words name, or without words the one that has no name.
+fn run_given<R: AllocGlobal + Input + Print + Eprint + Files + Threads + Wait + Sync>(
+    rt: &R,
+    matches: &ArgMatches,
+) -> ExitCode
+where
+    R::File: Send,
+    R::Dir: Send,
+{
+    match matches.subcommand() {
+        None => acknowledge_input(rt),
+        Some(("run", given)) => run_files(rt, given),
+        Some((name, given)) => run_on_file(rt, name, given),
+    }
+}
+
+/// Runs a command that takes one file.
+fn run_on_file<R: AllocGlobal + Print + Eprint + Files>(
+    rt: &R,
+    name: &str,
+    given: &ArgMatches,
+) -> ExitCode {
+    match (name, given.get_str("FILE"), given.get_str("REGISTER")) {
+        ("check", Some(path), _) => check_file(rt, path),
+        ("audit", _, Some(path)) => audit_file(rt, path),
+        _ => bad_words(rt, "the command line is not taken"),
+    }
+}
+
+/// Checks a file, and tells on standard output what was found.
+fn check_file<R: AllocGlobal + Print + Eprint + Files>(rt: &R, path: &str) -> ExitCode {
+    let mut reader = InputFile::new(rt, path);
+    let text = match read_file(rt.alloc(), &mut reader, MOST_BYTES) {
+        Ok(text) => text,
+        Err(unread) => {
+            let _ = eprintln!(rt; "stopped: {unread}");
+            return ExitCode::FAILURE;
+        }
+    };
+    match check_text(rt.alloc(), &text) {
+        Ok(checked) => tell_check(rt, &checked),
+        Err(_) => no_memory(rt),
+    }
+}
+
+/// Tells what was found in a file. The status is that of a clean file only where all of it was told.
+fn tell_check<R: Print>(rt: &R, checked: &Checked) -> ExitCode {
+    if rt.write_all(&checked.text).is_ok() && checked.clean {
+        ExitCode::SUCCESS
+    } else {
+        ExitCode::FAILURE
+    }
+}
+
+/// Acknowledges standard input to standard output, with a stamp that never changes.
+fn acknowledge_input<R: AllocGlobal + Input + Print + Eprint>(rt: &R) -> ExitCode {
+    let mut reader = Through::new(rt.reader());
+    let mut writer = Through::new(io::writer(rt));
+    let outcome = acknowledge(rt.alloc(), &mut reader, &mut writer, &fixed_stamp());
+    if let FileOutcome::Acked { transactions: _ } = outcome {
+        return ExitCode::SUCCESS;
+    }
+    if let Ok(line) = outcome_line(rt.alloc(), b"-", &outcome) {
+        if let Ok(text) = str::from_utf8(&line) {
+            let _ = eprint!(rt; "{text}");
+        }
+    }
+    ExitCode::FAILURE
+}
+
+/// Society 000, `CWR REGISTRY`, 1 June 2024, 09:00:00.
+fn fixed_stamp() -> Stamp {
+    let day: Day = date(cut(b"20240601", 1, 8)).unwrap();
+    let clock: Clock = time(cut(b"090000", 1, 6)).unwrap();
+    Stamp::new(0, b"CWR REGISTRY", day, clock).unwrap()
+}

@@ -1,0 +1,116 @@
+//! The command `run`: files are acknowledged at one book, each on a thread of its own.
+
+ghost use Rattle.std.specs.Prelude.{◌≡◌, ◌≤◌, All, IfOk, false, length, vec_len};
+
+use crate::files::{InputFile, OutputFile};
+use crate::registers::{keep_book, opening_book};
+use crate::run_command::right_words;
+use crate::status::{bad_words, no_memory};
+use clap::ArgMatches;
+use cwr_desk::{FileOutcome, Job, OpenGate, outcome_line, serve};
+use cwr_field::Memory;
+use std::alloc::Global;
+use std::process::ExitCode;
+use std::rt::Files;
+use std::sync::Wait;
+use std::thread::Threads;
+
+/// Acknowledges the files that the words name, each by a worker on a thread of its own, all at one book.
+///
+/// How each job ended is told on standard output. The status is 0 where all files were acknowledged, and all of it was
+/// told and kept.
+///
+/// A worker on another thread may call what the runtime does with files only where both its types may go there:
+/// directories too, though none is opened.
+pub(crate) fn run_files<R: AllocGlobal + Print + Eprint + Files + Threads + Wait + Sync>(
+    rt: &R,
+    matches: &ArgMatches,
+) -> ExitCode
+where
+    R::File: Send,
+    R::Dir: Send,
+{
+    let words = match right_words(rt, matches) {
+        Ok(words) => words,
+        Err(status) => return status,
+    };
+    let Some(stamp) = words.stamp() else {
+        return bad_words(rt, "the words name no stamp");
+    };
+    let Some(book) = opening_book(rt, words.from) else {
+        return ExitCode::FAILURE;
+    };
+    let Ok(answers) = acknowledgements(rt.alloc(), words.files) else {
+        return no_memory(rt);
+    };
+    let Ok(jobs) = jobs_of(rt, words.files, &answers) else {
+        return no_memory(rt);
+    };
+    let Ok(run) = serve(rt, rt.alloc(), jobs, book, &stamp, &OpenGate) else {
+        return no_memory(rt);
+    };
+    let told = tell_outcomes(rt, words.files, &run.outcomes);
+    let kept = match words.to {
+        Some(path) => keep_book(rt, &run.book, path),
+        None => true,
+    };
+    if told && kept {
+        ExitCode::SUCCESS
+    } else {
+        ExitCode::FAILURE
+    }
+}
+
+/// The names of the acknowledgement files, in the order of the files.
+fn acknowledgements(alloc: Global, files: &[&str]) -> Result<Vec<String>, Memory> {
+    let mut names = Vec::with_capacity(alloc, files.len())?;
+    for file in files {
+        names.push(format!(in alloc; "{file}.ack")?)?;
+    }
+    Ok(names)
+}
+
+/// A job for each file, and for its acknowledgement. Nothing is opened yet.
+fn jobs_of<'a, R: AllocGlobal + Files>(
+    rt: &'a R,
+    files: &'a [&'a str],
+    answers: &'a [String],
+) -> Result<Vec<Job<InputFile<'a, R>, OutputFile<'a, R>>>, Memory>
+    ensures few { IfOk result (λ jobs. vec_len jobs ≤ length files.now) }
+    ensures works { IfOk result (λ jobs. All (λ j. (j.reader.failed ≡ false) × (j.writer.failed ≡ false)) jobs.items) }
+{
+    let mut jobs = Vec::with_capacity(rt.alloc(), files.len())?;
+    for (file, answer) in files.iter().zip(answers) {
+        let reader = InputFile::new(rt, file);
+        let writer = OutputFile::new(rt, answer.as_str());
+        jobs.push(Job { reader, writer })?;
+    }
+    Ok(jobs)
+}
+
+/// Tells on standard output how each job ended, and answers whether all are acknowledged and told.
+///
+/// A line for which there is no memory is left out.
+fn tell_outcomes<R: AllocGlobal + Print>(rt: &R, files: &[&str], outcomes: &[FileOutcome]) -> bool {
+    let mut all = true;
+    for (file, outcome) in files.iter().zip(outcomes) {
+        let told = tell_outcome(rt, file, outcome);
+        all = all && told && is_acknowledged(outcome);
+    }
+    all
+}
+
+/// Tells how a job ended, and answers whether it is told.
+fn tell_outcome<R: AllocGlobal + Print>(rt: &R, file: &str, outcome: &FileOutcome) -> bool {
+    match outcome_line(rt.alloc(), file.as_bytes(), outcome) {
+        Ok(line) => rt.write_all(&line).is_ok(),
+        Err(_) => false,
+    }
+}
+
+fn is_acknowledged(outcome: &FileOutcome) -> bool {
+    match outcome {
+        FileOutcome::Acked { transactions: _ } => true,
+        FileOutcome::Refused { .. } | FileOutcome::Stopped { .. } => false,
+    }
+}

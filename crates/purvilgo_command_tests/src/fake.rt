@@ -1,0 +1,256 @@
+//! A runtime of the tests' own: words, standard input, files, and what was printed. Threads are those of another one.
+use crate::fake_files::{FakeFile, KeptFile, unsupported};
+use cwr_sheets::{same, same_bytes, same_text};
+use purvilgo_command::run_program;
+use std::alloc::{Allocator, Global};
+use std::env::FillError;
+use std::fmt::Display;
+use std::fs::{Metadata, OpenOptions};
+use std::io::{self, BufRead, ErrorKind};
+use std::process::ExitCode;
+use std::rt::{Env, Files};
+use std::sync::{Mutex, Wait};
+use std::test::Fail;
+use std::thread::Threads;
+
+pub(crate) struct Fake<'a, T> {
+    /// The runtime that starts threads and waits.
+    pub(crate) rt: &'a T,
+    pub(crate) words: &'a [&'a str],
+    pub(crate) input: &'a [u8],
+    /// The files that can only be read, by name.
+    pub(crate) files: &'a [(&'a str, FakeFile<'a>)],
+    /// The files that can be written.
+    pub(crate) kept: &'a [KeptFile<'a>],
+    pub(crate) alloc: Global,
+    pub(crate) printed: Mutex<Vec<u8>>,
+    pub(crate) complained: Mutex<String>,
+}
+
+impl<'a, T: AllocGlobal> Fake<'a, T> {
+    pub(crate) fn new(rt: &'a T, words: &'a [&'a str], input: &'a [u8]) -> Fake<'a, T> {
+        let alloc = rt.alloc();
+        Fake {
+            rt,
+            words,
+            input,
+            files: &[],
+            kept: &[],
+            alloc,
+            printed: Mutex::new(Vec::new(alloc)),
+            complained: Mutex::new(String::new(alloc)),
+        }
+    }
+
+    /// The same runtime with these files.
+    pub(crate) fn with_files(
+        self,
+        files: &'a [(&'a str, FakeFile<'a>)],
+        kept: &'a [KeptFile<'a>],
+    ) -> Fake<'a, T> {
+        let Fake {
+            rt,
+            words,
+            input,
+            files: _,
+            kept: _,
+            alloc,
+            printed,
+            complained,
+        } = self;
+        Fake {
+            rt,
+            words,
+            input,
+            files,
+            kept,
+            alloc,
+            printed,
+            complained,
+        }
+    }
+
+    /// What went to standard output and to standard error.
+    pub(crate) fn into_texts(self) -> (Vec<u8>, String) {
+        let Fake {
+            rt: _,
+            words: _,
+            input: _,
+            files: _,
+            kept: _,
+            alloc: _,
+            printed,
+            complained,
+        } = self;
+        (printed.into_inner(), complained.into_inner())
+    }
+}
+
+/// Runs the program: its status, standard output and standard error must be these. Else its last word is told.
+pub(crate) fn expect_program<T: AllocGlobal + Threads + Wait + Sync>(
+    fake: Fake<T>,
+    status: ExitCode,
+    printed: &[u8],
+    complained: &str,
+) -> Result<(), Fail> {
+    let ended = run_program(&fake);
+    let what = fake.words.last().copied().unwrap_or("no words");
+    let (out, err) = fake.into_texts();
+    same_text(what, err.as_str(), complained)?;
+    same_bytes(what, out.as_slice(), printed)?;
+    same(what, &ended, &status)
+}
+
+impl<T> Fake<'_, T> {
+    fn put(&self, bytes: &[u8]) -> io::Result<()> {
+        if let Some(mut printed) = self.printed.try_lock() {
+            printed.extend_from_slice(bytes)?;
+        }
+        Ok(())
+    }
+
+    fn complain<D: Display + Drop>(&self, value: D, end: &str) -> io::Result<()> {
+        let text = value.to_string(self.alloc)?;
+        if let Some(mut complained) = self.complained.try_lock() {
+            complained.push_str(text.as_str())?;
+            complained.push_str(end)?;
+        }
+        Ok(())
+    }
+}
+
+impl<T: Threads> Threads for Fake<'_, T> {}
+
+impl<T: Wait> Wait for Fake<'_, T> {}
+
+impl<T> Env for Fake<'_, T> {
+    fn arg(&self, i: usize, buf: &mut [u8]) -> Result<usize, FillError> {
+        match self.words.get(i) {
+            Some(word) => {
+                let text = word.as_bytes();
+                if text.len() <= buf.len() {
+                    buf[..text.len()].copy_from_slice(text);
+                    Ok(text.len())
+                } else {
+                    Err(FillError::TooLong)
+                }
+            }
+            None => Err(FillError::NotPresent),
+        }
+    }
+
+    fn var(&self, _name: &str, _buf: &mut [u8]) -> Result<usize, FillError> {
+        Err(FillError::NotPresent)
+    }
+
+    fn var_at(&self, _i: usize, _buf: &mut [u8]) -> Result<usize, FillError> {
+        Err(FillError::NotPresent)
+    }
+}
+
+impl<T> Alloc for Fake<'_, T> {
+    type A = Global;
+
+    fn alloc(&self) -> Global {
+        self.alloc
+    }
+}
+
+impl<'a, T> Input for Fake<'a, T> {
+    type Reader = &'a [u8];
+
+    fn read_line<A: Allocator + Clone>(&self, buf: &mut String<A>) -> io::Result<usize> {
+        self.reader().read_line(buf)
+    }
+
+    fn lines<A: Allocator>(&self, alloc: A) -> io::Lines<&'a [u8], A> {
+        self.reader().lines(alloc)
+    }
+
+    fn reader(&self) -> &'a [u8] {
+        self.input
+    }
+}
+
+impl<T> Print for Fake<'_, T> {
+    fn print<D: Display + Drop>(&self, value: D) -> io::Result<()> {
+        let text = value.to_string(self.alloc)?;
+        self.put(text.as_bytes())
+    }
+
+    fn println<D: Display + Drop>(&self, value: D) -> io::Result<()> {
+        let text = value.to_string(self.alloc)?;
+        self.put(text.as_bytes())?;
+        self.put(b"\n")
+    }
+
+    fn write_all(&self, bytes: &[u8]) -> io::Result<()> {
+        self.put(bytes)
+    }
+}
+
+impl<T> Eprint for Fake<'_, T> {
+    fn eprint<D: Display + Drop>(&self, value: D) -> io::Result<()> {
+        self.complain(value, "")
+    }
+
+    fn eprintln<D: Display + Drop>(&self, value: D) -> io::Result<()> {
+        self.complain(value, "\n")
+    }
+}
+
+impl<'a, T> Files for Fake<'a, T> {
+    type File = FakeFile<'a>;
+
+    type Dir = FakeFile<'a>;
+
+    fn open_file(&self, how: &OpenOptions, path: &str) -> io::Result<FakeFile<'a>> {
+        for (name, file) in self.files {
+            if *name == path && !how.asks_write() {
+                return Ok(*file);
+            }
+        }
+        for file in self.kept {
+            if file.name == path {
+                return file.opened(how);
+            }
+        }
+        Err(io::Error::from(ErrorKind::NotFound))
+    }
+
+    fn open_dir(&self, _path: &str) -> io::Result<FakeFile<'a>> {
+        unsupported()
+    }
+
+    fn metadata(&self, _path: &str) -> io::Result<Metadata> {
+        unsupported()
+    }
+
+    fn symlink_metadata(&self, _path: &str) -> io::Result<Metadata> {
+        unsupported()
+    }
+
+    fn copy(&self, _from: &str, _to: &str) -> io::Result<u64> {
+        unsupported()
+    }
+
+    fn rename(&self, _from: &str, _to: &str) -> io::Result<()> {
+        unsupported()
+    }
+
+    fn remove_file(&self, _path: &str) -> io::Result<()> {
+        unsupported()
+    }
+
+    fn create_dir(&self, _path: &str) -> io::Result<()> {
+        unsupported()
+    }
+
+    fn remove_dir(&self, _path: &str) -> io::Result<()> {
+        unsupported()
+    }
+
+    fn remove_dir_all<B: Allocator>(&self, _alloc: B, _path: &str) -> io::Result<()> {
+        unsupported()
+    }
+}

@@ -1,0 +1,91 @@
+//! The words of a run, as a command line gives them.
+
+use crate::fake::{Fake, expect_program};
+use crate::fake_files::{FakeFile, KeptFile};
+use crate::runs::{expect, expect_held, keeping};
+use cwr_sheets::{acknowledgement, file_of_lines, one_answer, plain_file};
+use std::alloc::Global;
+use std::process::ExitCode;
+use std::sync::Wait;
+use std::test::Fail;
+use std::thread::Threads;
+
+/// An acknowledgement of society 000 as society 007 gives it.
+fn of_society_7(alloc: Global, text: &[u8]) -> Result<Vec<u8>, Fail> {
+    let mut bytes = Vec::from_slice(alloc, b"HDRSO000000007")?;
+    bytes.extend_from_slice(text.get(14..).ok_or("a header")?)?;
+    Ok(bytes)
+}
+
+/// Acknowledges two files as society 007: one of one work, and one without a transaction.
+fn run_as_society_7<'a, T: AllocGlobal + Threads + Wait + Sync>(
+    rt: &T,
+    one_work: &'a [u8],
+    no_work: &'a [u8],
+    kept: &[KeptFile],
+) -> Result<(), Fail> {
+    let words = [
+        "purvilgo",
+        "run",
+        "--society",
+        "007",
+        "--name",
+        "CWR REGISTRY",
+        "--date",
+        "20240601",
+        "--time",
+        "090000",
+        "a.v22",
+        "b.v22",
+    ];
+    let files = [
+        ("a.v22", FakeFile::Holds(one_work)),
+        ("b.v22", FakeFile::Holds(no_work)),
+    ];
+    let told = "a.v22: acknowledged 1\nb.v22: acknowledged 0\n";
+    expect(rt, &words, &files, kept, ExitCode::SUCCESS, told, "")
+}
+
+/// The acknowledgements show each word of the stamp in its place, beside `CWR REGISTRY`, 1 June 2024 and 09:00:00.
+#[test]
+fn reads_the_words_of_a_run(rt: HostRuntime) -> Result<(), Fail> {
+    let alloc = rt.alloc();
+    let one_work = plain_file(alloc)?;
+    let no_work = file_of_lines(alloc, &["TRL000000000000000000002"])?;
+    let kept = [
+        keeping(alloc, "a.v22.ack", b"", 1000)?,
+        keeping(alloc, "b.v22.ack", b"", 1000)?,
+    ];
+    run_as_society_7(&rt, &one_work, &no_work, &kept)?;
+    expect_held(&kept[0], &of_society_7(alloc, &one_answer(alloc, "AS")?)?)?;
+    expect_held(
+        &kept[1],
+        &of_society_7(alloc, &acknowledgement(alloc, &[])?)?,
+    )
+}
+
+#[test]
+fn tells_what_is_wrong_with_a_run(rt: HostRuntime) -> Result<(), Fail> {
+    for (society, file, wanted) in [
+        ("7", "b", "bad --society\n"),
+        ("007", "a.ack", "file named twice\n"),
+    ] {
+        let words = [
+            "purvilgo",
+            "run",
+            "--society",
+            society,
+            "--name",
+            "X",
+            "--date",
+            "20240601",
+            "--time",
+            "090000",
+            "a",
+            file,
+        ];
+        let fake = Fake::new(&rt, &words, b"");
+        expect_program(fake, ExitCode::from(2), b"", wanted)?;
+    }
+    Ok(())
+}

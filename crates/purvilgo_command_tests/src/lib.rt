@@ -1,0 +1,17 @@
+//! Tests of the program's commands, over a runtime of the tests' own, and of the words of a run.
+#![tactic(auto)]
+
+#[cfg(test)]
+mod commands;
+#[cfg(test)]
+mod fake;
+#[cfg(test)]
+mod fake_files;
+#[cfg(test)]
+mod given_words;
+#[cfg(test)]
+mod kept_registers;
+#[cfg(test)]
+mod runs;
+#[cfg(test)]
+mod words;

@@ -1,0 +1,239 @@
+//! The program's runs, over a runtime of the tests' own.
+
+use crate::fake::{Fake, expect_program};
+use crate::fake_files::{FakeFile, KeptFile};
+use cwr_sheets::{miscounted, one_answer, plain_file, rival_claims, same, same_bytes};
+use std::alloc::Global;
+use std::process::ExitCode;
+use std::sync::{Mutex, Wait};
+use std::test::Fail;
+use std::thread::Threads;
+
+/// The words of a run, with the stamp of all acknowledgements.
+const RUN: [&str; 10] = [
+    "purvilgo",
+    "run",
+    "--society",
+    "000",
+    "--name",
+    "CWR REGISTRY",
+    "--date",
+    "20240601",
+    "--time",
+    "090000",
+];
+
+/// A run with these words behind the stamp's.
+pub(crate) fn run_with<'a>(alloc: Global, more: &[&'a str]) -> Result<Vec<&'a str>, Fail> {
+    let mut words = Vec::new(alloc);
+    for word in RUN {
+        words.push(word)?;
+    }
+    words.extend_from_slice(more)?;
+    Ok(words)
+}
+
+/// Runs the program over these files: its status, standard output and standard error must be these.
+pub(crate) fn expect<T: AllocGlobal + Threads + Wait + Sync>(
+    rt: &T,
+    words: &[&str],
+    files: &[(&str, FakeFile)],
+    kept: &[KeptFile],
+    status: ExitCode,
+    printed: &str,
+    complained: &str,
+) -> Result<(), Fail> {
+    let fake = Fake::new(rt, words, b"").with_files(files, kept);
+    expect_program(fake, status, printed.as_bytes(), complained)
+}
+
+/// A file of this name that holds this text so far, and takes at most so many bytes.
+pub(crate) fn keeping<'a>(
+    alloc: Global,
+    name: &'a str,
+    text: &[u8],
+    room: usize,
+) -> Result<KeptFile<'a>, Fail> {
+    Ok(KeptFile {
+        name,
+        bytes: Mutex::new(Vec::from_slice(alloc, text)?),
+        room,
+    })
+}
+
+/// A file must hold this text.
+pub(crate) fn expect_held(file: &KeptFile, wanted: &[u8]) -> Result<(), Fail> {
+    let held = file.bytes.try_lock().ok_or("a file that nobody holds")?;
+    same_bytes(file.name, held.as_slice(), wanted)
+}
+
+/// What a file holds.
+fn text_in(alloc: Global, file: &KeptFile) -> Result<Vec<u8>, Fail> {
+    let held = file.bytes.try_lock().ok_or("a file that nobody holds")?;
+    Ok(Vec::from_slice(alloc, held.as_slice())?)
+}
+
+#[test]
+fn acknowledges_a_file_beside_it(rt: HostRuntime) -> Result<(), Fail> {
+    let alloc = rt.alloc();
+    let input = plain_file(alloc)?;
+    let wanted = one_answer(alloc, "AS")?;
+    same("its length", &wanted.len(), &425)?;
+    let kept = [keeping(alloc, "a.v22.ack", b"an older acknowledgement", 425)?];
+    let files = [("a.v22", FakeFile::Holds(&input))];
+    let words = run_with(alloc, &["a.v22"])?;
+    let told = "a.v22: acknowledged 1\n";
+    expect(&rt, &words, &files, &kept, ExitCode::SUCCESS, told, "")?;
+    expect_held(&kept[0], &wanted)
+}
+
+/// Runs the files `b` and `a` at once: both must be acknowledged.
+fn run_two<'a, T: AllocGlobal + Threads + Wait + Sync>(
+    rt: &T,
+    a: &'a [u8],
+    b: &'a [u8],
+    kept: &[KeptFile],
+) -> Result<(), Fail> {
+    let files = [("a", FakeFile::Holds(a)), ("b", FakeFile::Holds(b))];
+    let words = run_with(rt.alloc(), &["b", "a"])?;
+    let told = "b: acknowledged 1\na: acknowledged 1\n";
+    expect(rt, &words, &files, kept, ExitCode::SUCCESS, told, "")
+}
+
+#[test]
+fn one_of_two_claims_conflicts(rt: HostRuntime) -> Result<(), Fail> {
+    let alloc = rt.alloc();
+    let claims = rival_claims(alloc)?;
+    let [first, second] = &claims;
+    let kept = [
+        keeping(alloc, "a.ack", b"", 1000)?,
+        keeping(alloc, "b.ack", b"", 1000)?,
+    ];
+    run_two(&rt, first, second, &kept)?;
+    let accepted = one_answer(alloc, "AS")?;
+    let conflict = one_answer(alloc, "CO")?;
+    let one = text_in(alloc, &kept[0])?;
+    let first_came = one.as_slice() == accepted.as_slice();
+    let (wanted_one, wanted_other) = if first_came {
+        (accepted, conflict)
+    } else {
+        (conflict, accepted)
+    };
+    expect_held(&kept[0], &wanted_one)?;
+    expect_held(&kept[1], &wanted_other)
+}
+
+/// Runs files of which all but the last fail, each in another way.
+fn run_failing<'a, T: AllocGlobal + Threads + Wait + Sync>(
+    rt: &T,
+    input: &'a [u8],
+    wrong: &'a [u8],
+    kept: &[KeptFile],
+) -> Result<(), Fail> {
+    let files = [
+        ("refused", FakeFile::Holds(wrong)),
+        ("closed", FakeFile::Holds(input)),
+        ("cut", FakeFile::Holds(input)),
+        ("endless", FakeFile::Endless),
+        ("whole", FakeFile::Holds(input)),
+    ];
+    let words = run_with(
+        rt.alloc(),
+        &["absent", "refused", "closed", "cut", "endless", "whole"],
+    )?;
+    let told =
+        "absent: stopped after 0: read\nrefused: refused F9 at line 5\nclosed: stopped after 1: write after 0 bytes\ncut: stopped after 1: write after 100 bytes\nendless: stopped after 0: too long\nwhole: acknowledged 1\n";
+    expect(rt, &words, &files, kept, ExitCode::FAILURE, told, "")
+}
+
+#[test]
+fn goes_on_after_files_that_fail(rt: HostRuntime) -> Result<(), Fail> {
+    let alloc = rt.alloc();
+    let input = plain_file(alloc)?;
+    let wrong = miscounted(alloc)?;
+    let kept = [
+        keeping(alloc, "refused.ack", b"older", 1000)?,
+        keeping(alloc, "cut.ack", b"", 100)?,
+        keeping(alloc, "whole.ack", b"", 1000)?,
+    ];
+    run_failing(&rt, &input, &wrong, &kept)?;
+    let wanted = one_answer(alloc, "AS")?;
+    expect_held(&kept[0], b"older")?;
+    expect_held(&kept[1], wanted.get(..100).ok_or("100 bytes")?)?;
+    let whole = text_in(alloc, &kept[2])?;
+    let first_came = whole.as_slice() == wanted.as_slice();
+    let status = if first_came { "AS" } else { "DU" };
+    expect_held(&kept[2], &one_answer(alloc, status)?)
+}
+
+/// Runs files of these names, none of which is there.
+fn run_absent<T: AllocGlobal + Threads + Wait + Sync>(
+    rt: &T,
+    names: &[String],
+    status: ExitCode,
+    printed: &str,
+    complained: &str,
+) -> Result<(), Fail> {
+    let mut files = Vec::new(rt.alloc());
+    for name in names {
+        files.push(name.as_str())?;
+    }
+    let words = run_with(rt.alloc(), &files)?;
+    expect(rt, &words, &[], &[], status, printed, complained)
+}
+
+#[test]
+fn takes_63_files_and_no_more(rt: HostRuntime) -> Result<(), Fail> {
+    let alloc = rt.alloc();
+    let mut names = Vec::new(alloc);
+    let mut told = String::new(alloc);
+    for number in 1..64 {
+        names.push(format!(in alloc; "{number}.v22")?)?;
+        let line = format!(in alloc; "{number}.v22: stopped after 0: read\n")?;
+        told.push_str(line.as_str())?;
+    }
+    run_absent(&rt, &names, ExitCode::FAILURE, &told, "")?;
+    names.push(format!(in alloc; "64.v22")?)?;
+    run_absent(&rt, &names, ExitCode::from(2), "", "too many files\n")
+}
+
+#[test]
+fn refuses_wrong_words(rt: HostRuntime) -> Result<(), Fail> {
+    let alloc = rt.alloc();
+    for (place, word, complained) in [
+        (3, "7", "bad --society\n"),
+        (5, "", "bad --name\n"),
+        (7, "20240230", "bad --date\n"),
+        (9, "240000", "bad --time\n"),
+        (11, "a", "file named twice\n"),
+        (11, "a.ack", "file named twice\n"),
+    ] {
+        let mut words = run_with(alloc, &["a", "b"])?;
+        let Some(wrong) = words.get_mut(place) else {
+            return Err("twelve words".into());
+        };
+        *wrong = word;
+        expect(&rt, &words, &[], &[], ExitCode::from(2), "", complained)?;
+    }
+    Ok(())
+}
+
+#[test]
+fn tells_how_a_run_is_called(rt: HostRuntime) -> Result<(), Fail> {
+    let alloc = rt.alloc();
+    let status = ExitCode::from(2);
+    let none =
+        "error: the following required arguments were not provided:\n  --society <NNN>\n  --name <TEXT>\n  --date <YYYYMMDD>\n  --time <HHMMSS>\n  <FILE>...\n\nUsage: purvilgo run --society <NNN> --name <TEXT> --date <YYYYMMDD> --time <HHMMSS> <FILE>...\n\nFor more information, try '--help'.\n";
+    expect(&rt, &["purvilgo", "run"], &[], &[], status, "", none)?;
+    let no_file =
+        "error: the following required arguments were not provided:\n  <FILE>...\n\nUsage: purvilgo run --society <NNN> --name <TEXT> --date <YYYYMMDD> --time <HHMMSS> <FILE>...\n\nFor more information, try '--help'.\n";
+    expect(&rt, &run_with(alloc, &[])?, &[], &[], status, "", no_file)?;
+    for option in ["--from", "--to"] {
+        let words = run_with(alloc, &[option, "x", option, "y", "a"])?;
+        let twice = format!(in alloc;
+            "error: the argument '{option} <REGISTER>' cannot be used multiple times\n\nUsage: purvilgo run [OPTIONS] --society <NNN> --name <TEXT> --date <YYYYMMDD> --time <HHMMSS> <FILE>...\n\nFor more information, try '--help'.\n"
+        )?;
+        expect(&rt, &words, &[], &[], status, "", &twice)?;
+    }
+    Ok(())
+}

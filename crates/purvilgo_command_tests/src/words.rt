@@ -1,0 +1,92 @@
+//! What is wrong with the words of a run.
+
+use cwr_sheets::{same, same_text};
+use run_words::{RunFault, run_fault};
+use std::test::Fail;
+
+#[test]
+fn tells_the_first_wrong_word() -> Result<(), Fail> {
+    for (society, name, date, time, wanted) in [
+        ("7", "", "20240230", "", Some(RunFault::Society)),
+        ("0007", "X", "20240229", "090000", Some(RunFault::Society)),
+        ("00A", "X", "20240229", "090000", Some(RunFault::Society)),
+        ("007", "", "20240230", "090000", Some(RunFault::Name)),
+        ("007", "A\tB", "20240229", "090000", Some(RunFault::Name)),
+        (
+            "007",
+            "0123456789012345678901234567890123456789012345",
+            "20240229",
+            "090000",
+            Some(RunFault::Name),
+        ),
+        ("007", "X", "20240230", "090000", Some(RunFault::Date)),
+        ("007", "X", "2024022", "090000", Some(RunFault::Date)),
+        ("007", "X", "202402290", "090000", Some(RunFault::Date)),
+        ("007", "X", "20240229", "240000", Some(RunFault::Time)),
+        ("007", "X", "20240229", "0900000", Some(RunFault::Time)),
+        ("007", "X", "20240229", "090000", None),
+        (
+            "999",
+            "012345678901234567890123456789012345678901234",
+            "00010101",
+            "235959",
+            None,
+        ),
+    ] {
+        let found = run_fault(society, name, date, time, &["a"]);
+        same(name, &(society, found), &(society, wanted))?;
+    }
+    Ok(())
+}
+
+#[test]
+fn tells_wrong_files() -> Result<(), Fail> {
+    let fault = |files: &[&str]| run_fault("007", "X", "20240229", "090000", files);
+    for (files, wanted) in [
+        (["a"; 64].as_slice(), Some(RunFault::TooMany)),
+        (["a"; 63].as_slice(), Some(RunFault::Twice)),
+        (["a", "a"].as_slice(), Some(RunFault::Twice)),
+        (["a", "a.ack"].as_slice(), Some(RunFault::Twice)),
+        (["b", "a.ack", "c", "a"].as_slice(), Some(RunFault::Twice)),
+        (["a", "b", "c", "b"].as_slice(), Some(RunFault::Twice)),
+        (["a"].as_slice(), None),
+        ([].as_slice(), None),
+        (["a", "b.ack", "aa", "a.ac", ".ack"].as_slice(), None),
+    ] {
+        same(
+            "files",
+            &(files.len(), fault(files)),
+            &(files.len(), wanted),
+        )?;
+    }
+    Ok(())
+}
+
+#[test]
+fn takes_63_files(rt: HostRuntime) -> Result<(), Fail> {
+    let letters = "abcdefghijklmnopqrstuvwxyzABCDEFGHIJKLMNOPQRSTUVWXYZ0123456789-+";
+    let mut files = Vec::new(rt.alloc());
+    for index in 0..63usize {
+        files.push(letters.get(index..index.wrapping_add(1)).ok_or("a letter")?)?;
+    }
+    same(
+        "63 files",
+        &run_fault("007", "X", "20240229", "090000", &files),
+        &None,
+    )
+}
+
+#[test]
+fn names_what_is_wrong() -> Result<(), Fail> {
+    for (fault, wanted) in [
+        (RunFault::Society, "bad --society"),
+        (RunFault::Name, "bad --name"),
+        (RunFault::Date, "bad --date"),
+        (RunFault::Time, "bad --time"),
+        (RunFault::TooMany, "too many files"),
+        (RunFault::Twice, "file named twice"),
+    ] {
+        same_text("a fault's text", fault.text(), wanted)?;
+    }
+    Ok(())
+}

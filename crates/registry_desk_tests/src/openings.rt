@@ -1,0 +1,62 @@
+//! A desk that is opened on a book with entries.
+
+use crate::desks::{call, expect_new};
+use registry_desk::{Book, Desk, Reply};
+use std::alloc::Global;
+use std::process::Abort;
+use std::sync::Wait;
+use std::test::Fail;
+
+/// A book of two entries of the opening.
+fn opened_book(alloc: Global) -> Result<Book, Fail> {
+    let mut book = Book::new(alloc, 10);
+    for number in 1..3 {
+        if book.apply(0, call(alloc, b'O', number)?).is_err() {
+            Err("no memory")?;
+        }
+    }
+    Ok(book)
+}
+
+/// The book after a call for a work of its opening and one for a new work, handed in by the one seat of a desk.
+fn gone_on<R: Wait + Abort>(rt: &R, alloc: Global, book: Book) -> Result<Book, Fail> {
+    let (known, fresh) = (call(alloc, b'O', 2)?, call(alloc, b'A', 1)?);
+    assert!(rt; book.is_opening());
+    let Ok((desk, mut opening)) = Desk::open(alloc, book, 2) else {
+        panic!(rt; "no memory")
+    };
+    let seat = desk.split(&mut opening);
+    let (seat, known) = desk.hand_in(rt, seat, known);
+    assert!(rt; known.ok() == Some(Reply::Duplicate { work: 2 }));
+    let (seat, fresh) = desk.hand_in(rt, seat, fresh);
+    assert!(rt; fresh.is_ok());
+    desk.meet(&mut opening, seat);
+    Ok(desk.close(opening))
+}
+
+/// The works of the opening, the known one, and the new one, which is numbered on.
+fn expect_four(rt: &impl Abort, book: &Book) {
+    let [first, second, known, fresh] = book.history() else {
+        panic!(rt; "not four entries")
+    };
+    let sessions = [
+        first.session(),
+        second.session(),
+        known.session(),
+        fresh.session(),
+    ];
+    assert_eq!(rt; sessions, [0, 0, 1, 1]);
+    expect_new(rt, 1, first, b'O', 1);
+    expect_new(rt, 2, second, b'O', 2);
+    expect_new(rt, 3, fresh, b'A', 1);
+}
+
+/// A desk that is opened on a book with entries: a work of the opening is known, and works are numbered on.
+#[test]
+fn book_with_entries(rt: HostRuntime) -> Result<(), Fail> {
+    for _ in 0..100 {
+        let book = gone_on(&rt, rt.alloc(), opened_book(rt.alloc())?)?;
+        expect_four(&rt, &book);
+    }
+    Ok(())
+}

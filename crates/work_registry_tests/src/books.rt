@@ -1,0 +1,62 @@
+//! Calls of two submitters, and the book that they are handed in to.
+
+use std::alloc::Global;
+use std::test::Fail;
+use work_registry::{Book, Call, Fault, Faults, Reply, WorkKind};
+
+/// The submitters of the sample files.
+pub(crate) const ONE: [u8; 11] = *b"PB000000123";
+
+pub(crate) const OTHER: [u8; 11] = *b"PB000000456";
+
+pub(crate) const W1: [u8; 14] = *b"W1            ";
+
+pub(crate) const TITLE: [u8; 60] = *b"SONG ONE                                                    ";
+
+/// The nine digits of ISWC T0345246801.
+pub(crate) const ISWC: Option<u64> = Some(34524680);
+
+/// A call of a submitter for its number of a work, with the same control of each right.
+pub(crate) fn call(
+    alloc: Global,
+    submitter: [u8; 11],
+    kind: WorkKind,
+    number: [u8; 14],
+    iswc: Option<u64>,
+    control: u64,
+) -> Result<Call, Fail> {
+    controlled(alloc, submitter, kind, number, iswc, [control; 3])
+}
+
+/// A call with a control of its own for each right.
+pub(crate) fn controlled(
+    alloc: Global,
+    submitter: [u8; 11],
+    kind: WorkKind,
+    number: [u8; 14],
+    iswc: Option<u64>,
+    control: [u64; 3],
+) -> Result<Call, Fail> {
+    let faults = Faults::new(Vec::new(alloc));
+    Ok(Call::of(submitter, kind, TITLE, number, iswc, control, faults).ok_or("no call")?)
+}
+
+/// A revision whose ISWC has a wrong check digit.
+pub(crate) fn call_with_fault(alloc: Global) -> Result<Call, Fail> {
+    let faults = [Fault {
+        sequence: 0,
+        number: 4,
+        rtype: *b"REV",
+    }]
+    .to_vec(alloc)?;
+    let faults = Faults::new(faults);
+    Ok(Call::of(ONE, WorkKind::Rev, TITLE, W1, None, [5000; 3], faults).ok_or("no call")?)
+}
+
+/// Hands a call in, which must be taken.
+pub(crate) fn reply(book: &mut Book, call: Call) -> Result<Reply, Fail> {
+    match book.apply(1, call) {
+        Ok(reply) => Ok(reply),
+        Err(_refused) => Err("the call was refused")?,
+    }
+}
