@@ -151,6 +151,7 @@ closes_desk id v words slots first live away own all final =
         added = f.opened.0;
         grown = grown;
         sessions = after_opening v.given r.history v.opened f.opened.0 grown (ap (made r.history) (sym first) ∙ (f.list live ∙ own)) (λ s lt. r.later s (omega arith));
+        begins = λ k m e. (f.known k m e).front;
         met = f.known;
         each_met = λ session low high. let u = there s.views session (omega arith) in
             let ne : session ≢ id = let z = f.own live in omega arith in

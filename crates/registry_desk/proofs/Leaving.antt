@@ -5,6 +5,7 @@ use Rattle.std.proofs.lemmas.Bool.Decides.{nat_tests}
 use Rattle.std.proofs.Math.Seq.{drop-length}
 use mathlib.Core.Option.{none}
 use Rattle.atomic_table.specs.Table.{step, rest, Allows}
+use Rattle.ticket_core.specs.declared.array_lock.ArrayPhase.TheVariants.{Inside}
 use Rattle.work_registry.specs.EntryValue.{EntryValue}
 use Rattle.work_registry.specs.BookValue.{BookValue}
 use Rattle.work_registry.specs.History.{IsHistory}
@@ -14,8 +15,9 @@ use Rattle.registry_desk.specs.declared.seat.Counts.{Counts}
 use Rattle.registry_desk.specs.Views.{shut, passed}
 use Rattle.registry_desk.specs.Rule.{Kept}
 use Rattle.registry_desk.specs.Plays.{Seated, Shuts}
+use Rattle.registry_desk.specs.Kinds.{Kind, shuts, Tells, Moves}
 use Rattle.registry_desk.specs.Standing.{DeskId, Standing, Stay, Stays, Leaves, Rests}
-use Rattle.registry_desk.proofs.Shutting.{Turned, marked_now, shut_allowed}
+use Rattle.registry_desk.proofs.Shutting.{Turned, marked_now, first_book, shut_allowed}
 
 -- an entry of a session is one of its own
 pub own_entry : (e : EntryValue) (s : ℕ) → e.session ≡ s → made (e ∷ []) s ≡ e ∷ []
@@ -89,9 +91,11 @@ module _ (me : Seated) (c : Counts) (t : ℕ) (b : BookValue) (unused full : Boo
     shut_step slots id f one only = subst (λ (m : Seated). Allows Kept slots id m (t % 64 + 1) (λ _. 0) (λ _. Shuts f (step slots (t % 64 + 1) 0 0 none) m 0)) (sym put_is)
         (shut_allowed id t me.0 b stays.adds.0 f slots one (turned id f only))
 
-    pub shut_is : (n : Seated) (f : Bool) → f ≡ full → Shuts f (step 0 0 0 0 none) me' 0 n → n ≡ (shut me.0 t full b.history, [])
-    shut_is n f same told = told t (ap (λ (m : Seated). m.0.phase) put_is ∙ stays.inside) b (ap (λ (m : Seated). m.1) put_is)
-        ∙ (λ i. (shut (put_is i).0 t (same i) b.history, []))
+    pub shut_is : (word : ℕ) (n : Seated) (f : Bool) → f ≡ full → Shuts f (step 0 word 0 0 none) me' 0 n → n ≡ (shut me.0 t full b.history, [])
+    shut_is word n f same told =
+        let both : Inside told.0 ≡ Inside t = sym told.2 ∙ (ap (λ (m : Seated). m.0.phase) put_is ∙ stays.inside) in let ticket : told.0 ≡ t = cc in
+        let carried : told.1 ≡ b = ap (first_book b) (sym told.3 ∙ ap (λ (m : Seated). m.1) put_is) in
+        told.5 ∙ (λ i. (shut (put_is i).0 (ticket i) (same i) (carried i).history, []))
 
   -- its entries, if it is the opening seat's, stay the opening's
   still_opening : me.0.session ≡ 0 → me.0.list ++ drop (length me.0.held) b.history ≡ me.0.opened
@@ -142,3 +146,12 @@ rests_after me after c t l is = subst (λ (m : Seated). Rests m c) (sym is) (let
   carries = l.carries;
   away = refl;
 })
+
+-- the step of a kind that led from one seat to the other
+pub moves : (kind : Kind) (word : ℕ) (me after : Seated) (number : ℕ) (v w : View) → me.0 ≡ v → after.0 ≡ w → Tells kind (step 0 word 0 0 none) me number after → Moves kind v w
+moves kind word me after number v w is is' told = subst (λ (z : View × View). Moves kind z.0 z.1) (λ i. (is i, is' i))
+    (record { step = step 0 word 0 0 none; number = number; carried = me.1; carries = after.1; told = told })
+
+pub shut_moves : (full : Bool) (word : ℕ) (me after : Seated) (s : Stay) (w : View) → full ≡ s.full → me.0 ≡ s.view → after.0 ≡ w → Tells (shuts full) (step 0 word 0 0 none) me 0 after
+    → Moves (shuts s.full) s.view w
+shut_moves full word me after s w same is is' told = subst (λ (b : Bool). Moves (shuts b) s.view w) same (moves (shuts full) word me after 0 s.view w is is' told)

@@ -10,3 +10,6 @@ pub mod Leaving
 pub mod WholeTurn
 pub mod Worlds
 pub mod StepEvents
+pub mod MorePlaces
+pub mod StepKinds
+pub mod DeskRuns

@@ -146,7 +146,7 @@ module _ (words : List ℕ) (views : List View) (id : ℕ) (v : View) (at : get_
       ne (array_lawful_one_inside L law j id u t (phase_is ps j (Inside u) (phase_shown views j x there ∙ within_too)) (phase_is ps id (Inside t) (phase_shown views id v at ∙ inside)))
 
 -- one place more, where nobody is
-away_more : (ps : List ArrayPhase) (w : ℕ) → array_phase_at (ps ++ Away ∷ []) w ≡ array_phase_at ps w
+pub away_more : (ps : List ArrayPhase) (w : ℕ) → array_phase_at (ps ++ Away ∷ []) w ≡ array_phase_at ps w
 away_more [] zero = refl
 away_more [] (suc w) = refl
 away_more (p ∷ ps) zero = refl

@@ -2,6 +2,7 @@
 use Rattle.std.proofs.Common.{◌≡◌, ◌≢◌, ℕ, ◌+◌, ◌<◌, ◌≤◌, true, false, Some, None, List, [], ◌∷◌, length, sym, refl, ap, ◌∙◌, subst, append-nil}
 use mathlib.Core.Option.{none}
 use Rattle.atomic_table.specs.Table.{step, rest}
+use Rattle.ticket_core.specs.declared.array_lock.ArrayPhase.TheVariants.{Waiting}
 use Rattle.work_registry.specs.EntryValue.{EntryValue}
 use Rattle.work_registry.specs.BookValue.{BookValue}
 use Rattle.registry_desk.specs.declared.view.View.{View}
@@ -35,10 +36,12 @@ pub record Found (me after : Seated) (t : ℕ) (b : BookValue) : Type 0 where
 
 module _ (me me' after : Seated) (c : Counts) (i t found : ℕ) (b : BookValue) (w : Waits me c t) (told : Looks (step 0 i 0 0 none) me found me') where
   pub found_book : found ≡ open_flag → me'.1 ≡ (0, Some b) ∷ rest me'.1 → after ≡ (me'.0, (0, None) ∷ rest me'.1) → Found me after t b
-  found_book hit carried put = let f = (told t w.waits).1 hit in let h : List EntryValue = f.0 in
-      let same : book_with me.0 h ≡ b = ap (first_book b) (sym (ap (λ (m : Seated). m.1) f.1) ∙ carried) in
+  found_book hit carried put = let f = told.3 hit in let h : List EntryValue = f.0 in
+      let both : Waiting told.0 ≡ Waiting t = sym told.1 ∙ w.waits in let ticket : told.0 ≡ t = cc in
+      let left : me' ≡ (entered me.0 t h, (0, Some (book_with me.0 h)) ∷ me.1) = f.1 ∙ ap (λ (k : ℕ). (entered me.0 k h, (0, Some (book_with me.0 h)) ∷ me.1)) ticket in
+      let same : book_with me.0 h ≡ b = ap (first_book b) (sym (ap (λ (m : Seated). m.1) left) ∙ carried) in
       let there : b.history ≡ h = ap (λ (x : BookValue). x.history) (sym same) in record {
-        seat = put ∙ (ap (λ (m : Seated). (m.0, (0, None) ∷ rest m.1)) f.1 ∙ (λ i. (entered me.0 t (sym there i), (0, None) ∷ w.carries i)));
+        seat = put ∙ (ap (λ (m : Seated). (m.0, (0, None) ∷ rest m.1)) left ∙ (λ i. (entered me.0 t (sym there i), (0, None) ∷ w.carries i)));
         book = sym same ∙ ap (book_with me.0) (sym there);
         finds = subst (Finds me.0) (sym there) f.2;
       }
@@ -63,10 +66,12 @@ pub enters_with : (w : Standing) (d d' : DeskId) (me after : Seated) (c : Counts
 enters_with w d d' me after c t b is same waits f = subst (λ (x : Standing). Enters x (record { desk = d'; view = after.0; book = b; unused = true; full = false })) is (record {
   ticket = t;
   waited = waits.waits;
-  desk = same;
-  view = ap (λ (m : Seated). m.0) f.seat;
-  book = f.book;
-  finds = f.finds;
-  unused = refl;
-  full = refl;
+  stay = record {
+    desk = same;
+    view = ap (λ (m : Seated). m.0) f.seat;
+    book = f.book;
+    finds = f.finds;
+    unused = refl;
+    full = refl;
+  };
 })

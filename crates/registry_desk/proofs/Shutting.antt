@@ -129,6 +129,5 @@ module _ (id t : ℕ) (v : View) (b : BookValue) (added : List EntryValue) (full
             (subst IsHistory grown turn.registry) bounded
             (λ session l. made_more r.history added session (turn.others session (λ e. let o = f.own turn.live in let h = within s.views id v at in absurd (omega arith))) ∙ r.later session l)
             (λ _. one_home s.homes (some (Some b)) (size ∙ one) ∙ (λ i. some (Some (record { history = grown i; limit = lim i })) ∷ [])),
-        λ t' is' b' e. let same : b ≡ b' = ap (first_book b) e in let inside = turn.inside in
-            let ticket : t ≡ t' = (let both : Inside t ≡ Inside t' = sym inside ∙ is' in cc) in λ i. (shut v (ticket i) full ((same i).history), []),
+        (t, b, turn.inside, refl, refl, refl),
       )

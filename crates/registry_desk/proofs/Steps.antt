@@ -165,7 +165,7 @@ module _ (slots id : ℕ) (me : Seated) (live : me.0.spent ≡ false) where
             (rephased (length s.views) id r.history r.limit v w live refl (omega arith) (λ t e. absurd (cc)) (r.each id v at))
             (λ j u ne e. r.each j u e) r.registry r.bounded r.later
             (λ nobody. r.at_home (nobody_was s r id v w at (λ t e. let clash : Inside t ≡ Away = sym e ∙ away in absurd (cc)) nobody)),
-        refl,
+        (refl, away, refl),
       )
 
   -- a seat that is leaving opens the next flag
@@ -183,12 +183,8 @@ module _ (slots id : ℕ) (me : Seated) (live : me.0.spent ≡ false) where
             (rephased (length s.views) id r.history r.limit v w live refl (r.each id v at).turns (λ j e. absurd (cc)) (r.each id v at))
             (λ j u ne e. r.each j u e) r.registry r.bounded r.later
             (λ nobody. r.at_home (nobody_was s r id v w at (λ j e. let clash : Inside j ≡ Leaving t = sym e ∙ leaving in absurd (cc)) nobody)),
-        refl,
+        (t, leaving, refl, refl),
       )
-
-  -- a seat that waits knows its ticket
-  same_ticket : (t j : ℕ) → v.phase ≡ Waiting t → v.phase ≡ Waiting j → t ≡ j
-  same_ticket t j a b = let both : Waiting t ≡ Waiting j = sym a ∙ b in cc
 
   -- a seat reads its flag
   pub look_allowed : (t : ℕ) → v.phase ≡ Waiting t
@@ -214,11 +210,13 @@ module _ (slots id : ℕ) (me : Seated) (live : me.0.spent ≡ false) where
             (rephased (length s.views) id r.history r.limit v w live refl fits.turns (λ j e. refl) fits)
             (λ j u ne e. r.each j u e) r.registry r.bounded r.later
             (λ nobody. absurd (nobody id t w (set_here s.views id w (within s.views id v at)) refl)),
-        λ j is. (
-          ap (λ (z : ℕ). z % 64 + 1) (same_ticket t j waits is),
+        (
+          t,
+          waits,
+          refl,
           (λ _. (
             r.history,
-            ap (λ (z : ℕ). (entered v z r.history, (0, Some (book_with v r.history)) ∷ me.1)) (same_ticket t j waits is),
+            refl,
             record {
               registry = r.registry;
               bounded = let l = fits.limited live in let b = r.bounded in omega arith;
@@ -226,7 +224,7 @@ module _ (slots id : ℕ) (me : Seated) (live : me.0.spent ≡ false) where
               list = fits.list live;
             },
           )),
-          λ lost. absurd (lost hit),
+          (λ lost. absurd (lost hit)),
         ),
       ))
       (λ miss. let w : View = looked v found in let off : is_open found ≡ false = grind (arith, nat_tests) in (
@@ -239,5 +237,5 @@ module _ (slots id : ℕ) (me : Seated) (live : me.0.spent ≡ false) where
             (rephased (length s.views) id r.history r.limit v w live refl fits.turns (λ j e. let clash : Waiting t ≡ Inside j = sym waits ∙ e in absurd (cc)) fits)
             (λ j u ne e. r.each j u e) r.registry r.bounded r.later
             (λ nobody. r.at_home (nobody_was s r id v w at (λ j e. let clash : Waiting t ≡ Inside j = sym waits ∙ e in absurd (cc)) nobody)),
-        λ j is. (ap (λ (z : ℕ). z % 64 + 1) (same_ticket t j waits is), (λ hit. absurd (miss hit)), λ _. refl),
+        (t, waits, refl, (λ hit. absurd (miss hit)), (λ _. refl)),
       ))

@@ -41,12 +41,14 @@ comes_in r w w' s d t here drew still e =
     let f : Enters W s = subst (λ (x : Standing). Enters x s) is e in record {
       ticket = f.ticket;
       looks = still.looks ++ 1 ∷ [];
-      desk = f.desk ∙ sym here;
-      view = f.view;
-      book = f.book;
-      finds = record { registry = f.finds.registry; bounded = f.finds.bounded; front = f.finds.front; list = f.finds.list };
-      unused = f.unused;
-      full = f.full;
+      stay = let l = f.stay in record {
+        desk = l.desk ∙ sym here;
+        view = l.view;
+        book = l.book;
+        finds = record { registry = l.finds.registry; bounded = l.finds.bounded; front = l.finds.front; list = l.finds.list };
+        unused = l.unused;
+        full = l.full;
+      };
     }
 
 -- the stay as it begins
@@ -60,7 +62,7 @@ begun desk v t looks h = record {
 }
 
 begun_is : (r : Standing) (s : Stay) → (e : ComesIn r s) → s ≡ begun r.desk r.view e.ticket e.looks s.book.history
-begun_is r s e = λ i. record { desk = e.desk i; view = e.view i; book = e.book i; unused = e.unused i; full = e.full i }
+begun_is r s e = let l = e.stay in λ i. record { desk = l.desk i; view = l.view i; book = l.book i; unused = l.unused i; full = l.full i }
 
 abbrev left : Stay → View
 left s = after_turn s.view s.full s.book.history
@@ -128,7 +130,7 @@ module _ (desk : DeskId) (v : View) (t : ℕ) (looks : List ℕ) (h : List Entry
   handed (Err refusal) a = handed_err refusal a
 
 pub turn : (r : Standing) (s s' : Stay) (call : CallValue) (result : Result Reply RefusedValue) → ComesIn r s → Applied s call result s' → HandsIn r.view call result (left s')
-turn r s s' call result e a = handed r.desk r.view e.ticket e.looks s.book.history call s' e.finds result
+turn r s s' call result e a = handed r.desk r.view e.ticket e.looks s.book.history call s' e.stay.finds result
     (subst (λ (x : Stay). Applied x call result s') (begun_is r s e) a)
 
 -- a stay's calls leave it at its desk

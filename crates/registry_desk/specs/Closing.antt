@@ -10,6 +10,10 @@ use Rattle.registry_desk.specs.declared.view.View.{View}
 use Rattle.registry_desk.specs.declared.view.Met.{Met}
 use Rattle.registry_desk.specs.Rule.{MetFits}
 
+-- the history begins with what each of these seats saw last
+abbrev pub BeginsWithEach : List Met → List EntryValue → Type 0
+BeginsWithEach met history = (k : ℕ) (m : Met) → get_elem? met k ≡ some m → IsPrefix m.front history
+
 -- of the opening seat's view v
 pub record Closes (v : View) (b : BookValue) : Type 0 where
   pub limit : b.limit ≡ v.limit
@@ -20,7 +24,9 @@ pub record Closes (v : View) (b : BookValue) : Type 0 where
   pub added : List EntryValue
   pub grown : b.history ≡ v.opened ++ added
   pub sessions : All (λ e. (1 ≤ e.session) × (e.session ≤ v.given)) added
-  -- the entries of each seat that was met are the seat's list, and the history begins with what it saw last
+  -- the history begins with what each seat that was met saw last
+  pub begins : BeginsWithEach v.met b.history
+  -- the entries of each seat that was met are the seat's list, and its mark says what it means
   pub met : (k : ℕ) (m : Met) → get_elem? v.met k ≡ some m → MetFits b.history b.limit m
   -- each session given was met
   pub each_met : (session : ℕ) → 1 ≤ session → session ≤ v.given

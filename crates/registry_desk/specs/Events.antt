@@ -8,12 +8,13 @@ use Rattle.ticket_core.specs.declared.array_lock.ArrayEvent.{ArrayEvent}
 use Rattle.ticket_core.specs.declared.array_lock.ArrayEvent.TheVariants.{Draw, Look, Shut, Pass}
 use Rattle.ticket_core.specs.declared.array_lock.ArrayOutcome.{ArrayOutcome}
 use Rattle.ticket_core.specs.declared.array_lock.ArrayOutcome.TheVariants.{Drew, Waits, Enters, Shuts, Passes}
-use Rattle.ticket_core.specs.ArrayLock.{flag_of, ticket_phase, IsLawfulArrayState}
+use Rattle.ticket_core.specs.ArrayLock.{ticket_phase, IsLawfulArrayState}
 use Rattle.ticket_core.specs.ArraySteps.{array_answer}
 use Rattle.ticket_core.specs.TicketLock.{AtMostOneInside}
 use Rattle.work_registry.specs.EntryValue.{EntryValue}
 use Rattle.registry_desk.specs.declared.view.View.{View}
 use Rattle.registry_desk.specs.Views.{phase_of, open_flag, drawn, looked, entered, shut, passed}
+use Rattle.registry_desk.specs.Plays.{flag_word_of}
 use Rattle.registry_desk.specs.Rule.{DeskState, shown_lock, Kept}
 
 -- where the rule holds, the state that is shown is lawful, and at most one seat is inside or leaving
@@ -28,10 +29,6 @@ Has s id v = Kept s × (get_elem? s.views id ≡ some v)
 -- the lock that is shown answers the event with this outcome, and then is the one that these words and views show
 abbrev pub Answers : DeskState → ArrayEvent → List ℕ → List View → ArrayOutcome → Type 0
 Answers s event words views outcome = array_answer (shown_lock s.words s.views) event ≡ (shown_lock words views, outcome)
-
--- the word of the flag of a ticket
-abbrev pub flag_word_of : ℕ → ℕ
-flag_word_of ticket = flag_of ticket + 1
 
 -- the fetch-and-add of 1 on word 0 is a Draw
 abbrev pub DrawIsEvent : Type 0

@@ -1,8 +1,11 @@
 pub mod Views
 pub mod Rule
 pub mod Plays
+pub mod Kinds
 pub mod Closing
 pub mod Standing
 pub mod Turns
 pub mod World
 pub mod Events
+pub mod Steps
+pub mod Runs

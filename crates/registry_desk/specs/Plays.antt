@@ -4,7 +4,7 @@ use Rattle.std.specs.Prelude.{◌≡◌, ◌≢◌, ℕ, ◌+◌, ◌≤◌, Boo
 use mathlib.Core.List.{IsPrefix}
 use Rattle.atomic_table.specs.Table.{Me, Step}
 use Rattle.ticket_core.specs.ArrayLock.{flag_of}
-use Rattle.ticket_core.specs.declared.array_lock.ArrayPhase.TheVariants.{Waiting, Inside}
+use Rattle.ticket_core.specs.declared.array_lock.ArrayPhase.TheVariants.{Away, Waiting, Inside, Leaving}
 use Rattle.work_registry.specs.EntryValue.{EntryValue}
 use Rattle.work_registry.specs.BookValue.{BookValue}
 use Rattle.work_registry.specs.History.{IsHistory}
@@ -27,26 +27,31 @@ pub record Finds (v : View) (history : List EntryValue) : Type 0 where
   pub front : IsPrefix v.front history
   pub list : made history v.session ≡ v.list
 
--- the number found is the ticket
-abbrev pub Draws : Step (Option BookValue) → Seated → ℕ → Seated → Type 0
-Draws step me ticket after = after ≡ (drawn me.0 ticket, me.1)
+-- the word of the flag of a ticket
+abbrev pub flag_word_of : ℕ → ℕ
+flag_word_of ticket = flag_of ticket + 1
 
--- The word is the flag of the ticket. Where an open flag's is found, the seat is inside, with the book; else it waits
--- on.
+-- The word is that of the next ticket, and the seat had none. The number found is its ticket.
+abbrev pub Draws : Step (Option BookValue) → Seated → ℕ → Seated → Type 0
+Draws step me ticket after = (step.word ≡ 0) × (me.0.phase ≡ Away) × (after ≡ (drawn me.0 ticket, me.1))
+
+-- The word is the flag of the seat's ticket. Where an open flag's is found, the seat is inside, with the book; else it
+-- waits on.
 abbrev pub Looks : Step (Option BookValue) → Seated → ℕ → Seated → Type 0
-Looks step me found after = (ticket : ℕ) → me.0.phase ≡ Waiting ticket
-    → (step.word ≡ flag_of ticket + 1)
+Looks step me found after = (ticket : ℕ) × (me.0.phase ≡ Waiting ticket) × (step.word ≡ flag_word_of ticket)
     × (found ≡ open_flag → (history : List EntryValue)
     × (after ≡ (entered me.0 ticket history, (0, Some (book_with me.0 history)) ∷ me.1)) × Finds me.0 history)
     × (found ≢ open_flag → after ≡ (looked me.0 found, me.1))
 
--- the book is at home again, with the turn's entry
+-- The word is the flag of the seat's ticket. The book that it had is at home again, with the turn's entry.
 abbrev pub Shuts : Bool → Step (Option BookValue) → Seated → ℕ → Seated → Type 0
-Shuts full step me stored after = (ticket : ℕ) → me.0.phase ≡ Inside ticket
-    → (b : BookValue) → me.1 ≡ (0, Some b) ∷ [] → after ≡ (shut me.0 ticket full b.history, [])
+Shuts full step me stored after = (ticket : ℕ) × (b : BookValue) × (me.0.phase ≡ Inside ticket) × (me.1 ≡ (0, Some b) ∷ [])
+    × (step.word ≡ flag_word_of ticket) × (after ≡ (shut me.0 ticket full b.history, []))
 
+-- the word is the flag of the ticket after the seat's
 abbrev pub Passes : Step (Option BookValue) → Seated → ℕ → Seated → Type 0
-Passes step me stored after = after ≡ (passed me.0, me.1)
+Passes step me stored after = (ticket : ℕ) × (me.0.phase ≡ Leaving ticket) × (step.word ≡ flag_word_of (ticket + 1))
+    × (after ≡ (passed me.0, me.1))
 
 -- the opening seat learns that it has met no more seats than it gave
 abbrev pub Counts : Step (Option BookValue) → Seated → ℕ → Seated → Type 0

@@ -1,5 +1,5 @@
 -- What the calls of a turn do.
-use Rattle.std.specs.Prelude.{◌≡◌, ◌≢◌, ℕ, ◌+◌, ◌≤◌, ◌↔◌, true, false, if◌then◌else◌, List, [], ◌∷◌, ◌++◌, length, Result, Ok, Err, IfOk, IfErr}
+use Rattle.std.specs.Prelude.{◌≡◌, ◌≢◌, ℕ, ◌+◌, ◌≤◌, ◌↔◌, Bool, true, false, if◌then◌else◌, List, [], ◌∷◌, ◌++◌, length, Result, Ok, Err, IfOk, IfErr}
 use Rattle.ticket_core.specs.declared.array_lock.ArrayPhase.TheVariants.{Away, Waiting as IsWaiting, Inside as IsInside}
 use Rattle.cwr_call.specs.CallValue.{CallValue}
 use Rattle.work_registry.specs.declared.reply.Reply.{Reply}
@@ -16,18 +16,23 @@ use Rattle.registry_desk.specs.declared.seat.Looked.{Looked}
 use Rattle.registry_desk.specs.declared.seat.Looked.TheVariants.{Yours, NotYet}
 use Rattle.registry_desk.specs.Views.{open_flag, looked, entered}
 use Rattle.registry_desk.specs.Plays.{Finds, book_with}
+use Rattle.registry_desk.specs.Kinds.{shuts, passes, Moves}
 use Rattle.registry_desk.specs.Standing.{Standing, Stay}
 
--- a seat has read that the flag of its ticket is open, and is inside with the book as it found it
+-- a seat is let in, and then has the view `inside`, and the book as it found it
+pub record LetIn (r : Standing) (s : Stay) (inside : View) : Type 0 where
+  pub desk : s.desk ≡ r.desk
+  pub view : s.view ≡ inside
+  pub book : s.book ≡ book_with r.view s.book.history
+  pub finds : Finds r.view s.book.history
+  pub unused : s.unused ≡ true
+  pub full : s.full ≡ false
+
+-- a seat has read that the flag of its ticket is open, and is inside
 pub record Enters (w : Standing) (s : Stay) : Type 0 where
   pub ticket : ℕ
   pub waited : w.view.phase ≡ IsWaiting ticket
-  pub desk : s.desk ≡ w.desk
-  pub view : s.view ≡ entered w.view ticket s.book.history
-  pub book : s.book ≡ book_with w.view s.book.history
-  pub finds : Finds w.view s.book.history
-  pub unused : s.unused ≡ true
-  pub full : s.full ≡ false
+  pub stay : LetIn w s (entered w.view ticket s.book.history)
 
 -- a seat has read a word in the flag of its ticket that is not an open flag's, and waits as before
 pub record WaitsOn (w v : Standing) : Type 0 where
@@ -39,21 +44,25 @@ pub record WaitsOn (w v : Standing) : Type 0 where
 pub record ComesIn (r : Standing) (s : Stay) : Type 0 where
   pub ticket : ℕ
   pub looks : List ℕ
-  pub desk : s.desk ≡ r.desk
-  pub view : s.view ≡ record r.view {
+  pub stay : LetIn r s (record r.view {
     phase = IsInside ticket;
     turns = r.view.turns + 1;
     looks = looks;
     held = s.book.history;
-  }
-  pub book : s.book ≡ book_with r.view s.book.history
-  pub finds : Finds r.view s.book.history
-  pub unused : s.unused ≡ true
-  pub full : s.full ≡ false
+  })
 
 abbrev pub LooksFor : {A : Type 0} → Standing → Looked A → Type 0
 LooksFor w (Yours s) = Enters w s
 LooksFor w (NotYet v) = WaitsOn w v
+
+-- the view of a seat that has looked
+abbrev pub view_after : {A : Type 0} → Looked A → View
+view_after (Yours s) = s.view
+view_after (NotYet v) = v.view
+
+-- a seat leaves by two steps: it shuts its flag, with the book put back, and passes the lock on
+abbrev pub LeavesBySteps : View → Bool → View → Type 0
+LeavesBySteps v full w = (between : View) × Moves (shuts full) v between × Moves passes between w
 
 -- a stay after a call that the book answered
 abbrev pub answered : Stay → CallValue → Reply → Stay

@@ -4,7 +4,8 @@ ghost use Rattle.std.specs.Prelude.{◌≡◌, ◌≢◌, ℕ, ◌+◌, ◌<◌,
 ghost use Rattle.work_registry.specs.Replay.{is_opening};
 ghost use Rattle.registry_desk.specs.Views.{most_turns, opening_view, drawn, giving, given_view, meeting};
 ghost use Rattle.registry_desk.specs.Closing.{Closes};
-ghost use Rattle.registry_desk.specs.Turns.{LooksFor};
+ghost use Rattle.registry_desk.specs.Kinds.{draws, looks, Moves};
+ghost use Rattle.registry_desk.specs.Turns.{LooksFor, view_after};
 
 use crate::door::Door;
 use crate::rule::{Count, DeskRule, Draw, Give, Look, Meet, Opening};
@@ -115,7 +116,8 @@ impl<A: Allocator + Copy + Drop> Desk<A> {
     pub fn draw(&self, seat: Seat<A>) -> Waiting<A>
         requires desk { seat.desk ≡ self.now }
         requires turns { seat.view.turns < most_turns }
-        ensures { (ticket : ℕ) × (result ≡ record { desk = self.now; view = drawn seat.view ticket }) }
+        ensures drawn { (ticket : ℕ) × (result ≡ record { desk = self.now; view = drawn seat.view ticket }) }
+        ensures step { Moves draws seat.view result.view }
     {
         let Seat { mut seat, counts } = seat;
         let ticket = self.table.shared.fetch_add::<Draw>(&mut seat, NEXT, 1);
@@ -136,7 +138,8 @@ impl<A: Allocator + Copy + Drop> Desk<A> {
     /// session just the seat's own list.
     pub fn look(&self, waiting: Waiting<A>) -> Looked<A>
         requires { waiting.desk ≡ self.now }
-        ensures { LooksFor waiting result }
+        ensures found { LooksFor waiting result }
+        ensures step { Moves looks waiting.view (view_after result) }
     {
         let Waiting {
             mut seat,
@@ -181,7 +184,7 @@ impl<A: Allocator + Copy + Drop> Desk<A> {
     /// Closes the desk by the opening seat, which has met every seat that it gave, and gives the book.
     ///
     /// Its history is the one that the desk was opened with and then entries of the sessions given. Each session's
-    /// entries are those of its seat, in order.
+    /// entries are those of its seat, in order, and the history begins with what each seat that was met saw last.
     pub fn close(self, seat: Seat<A>) -> Book<A>
         requires desk { seat.desk ≡ self }
         requires opening { seat.view.session ≡ 0 }

@@ -6,6 +6,8 @@ ghost use Rattle.std.specs.Prelude.{◌≡◌, ℕ, List, ◌++◌};
 ghost use Rattle.work_registry.specs.History.{IsHistory};
 ghost use Rattle.work_registry.specs.Replay.{made};
 ghost use Rattle.registry_desk.specs.Events.{DrawIsEvent, EnterIsEvent, PassIsEvent, ShowsLawfulLock, ShutIsEvent, WaitIsEvent};
+ghost use Rattle.registry_desk.specs.Runs.{KeepsRoom, OpensAsNew, RunsHaveOneInside, ShowsRun};
+ghost use Rattle.registry_desk.specs.Steps.{EachStepIsEvent, ViewsFixLock};
 ghost use Rattle.registry_desk.specs.World.{World, WorldEvent, added_in, run_world};
 
 /// Over every run of the lock and of calls, of any places in any order, the history stays one of one registry.
@@ -26,12 +28,31 @@ pub fn shows_a_lawful_lock()
     ensures { ShowsLawfulLock }
 {}
 
-/// Each atomic step of the running desk that is one of the lock is its event: drawing a ticket is a Draw, looking at a
-/// flag a Look, which enters exactly where the flag is open, shutting a flag a Shut, and opening the next one a Pass.
+/// A run of the desk, by any steps of any seats in any order, shows a run of the pure lock from a new one. So at most one
+/// seat is inside, by that lock's own law.
+///
+/// Such a run takes nothing from the rule but that tickets are left before each step, and for the last that there are at
+/// most 64 seats. The rule keeps both.
+pub fn shows_a_run_of_the_lock()
+    ensures run { ShowsRun }
+    ensures one_inside { RunsHaveOneInside }
+    ensures opening { OpensAsNew }
+    ensures room { KeepsRoom }
+{
+    ticket_core::laws::array_at_most_one_inside();
+}
+
+/// Each step of the running desk, of whatever kind, is its event, or leaves the lock that is shown as it was; where a
+/// seat is given, the lock has a place more, which is away.
+///
+/// Drawing a ticket is a Draw, looking at a flag a Look, which enters exactly where the flag is open, shutting a flag a
+/// Shut, and opening the next one a Pass.
 pub fn steps_are_events()
     ensures draw { DrawIsEvent }
     ensures enter { EnterIsEvent }
     ensures wait { WaitIsEvent }
     ensures shut { ShutIsEvent }
     ensures pass { PassIsEvent }
+    ensures each { EachStepIsEvent }
+    ensures determined { ViewsFixLock }
 {}

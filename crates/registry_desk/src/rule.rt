@@ -1,4 +1,5 @@
-//! The rule of a desk, and what each atomic step tells the seat that makes it.
+//! The rule of a desk, and what each atomic step tells the seat that makes it. Each step is of one of the kinds of
+//! `specs/Kinds.antt`.
 
 use crate::view::View;
 use atomic_table::{Join, Play, Split, TableRule};
@@ -29,65 +30,66 @@ impl<A: Allocator + Copy + Drop> TableRule<Option<Book<A>>, View, Opening<A>> fo
 pub(crate) struct Draw;
 
 impl<A: Allocator + Copy + Drop> Play<Option<Book<A>>, View> for Draw {
-    ghost use Rattle.registry_desk.specs.Plays.{Draws};
+    ghost use Rattle.registry_desk.specs.Kinds.{Tells, draws};
 
-    ghost then = { Draws };
+    ghost then = { Tells draws };
 }
 
 /// A seat looks at the flag of its ticket.
 pub(crate) struct Look;
 
 impl<A: Allocator + Copy + Drop> Play<Option<Book<A>>, View> for Look {
-    ghost use Rattle.registry_desk.specs.Plays.{Looks};
+    ghost use Rattle.registry_desk.specs.Kinds.{Tells, looks};
 
-    ghost then = { Looks };
+    ghost then = { Tells looks };
 }
 
 /// A seat shuts the flag of its ticket. `FULL` says whether it found the book full.
 pub(crate) struct Shut<const FULL: bool>;
 
 impl<const FULL: bool, A: Allocator + Copy + Drop> Play<Option<Book<A>>, View> for Shut<FULL> {
-    ghost use Rattle.registry_desk.specs.Plays.{Shuts};
+    ghost use Rattle.registry_desk.specs.Kinds.{Tells, shuts};
 
-    ghost then = { Shuts FULL };
+    ghost then = { Tells (shuts FULL) };
 }
 
 /// A seat opens the flag of the next ticket.
 pub(crate) struct Pass;
 
 impl<A: Allocator + Copy + Drop> Play<Option<Book<A>>, View> for Pass {
-    ghost use Rattle.registry_desk.specs.Plays.{Passes};
+    ghost use Rattle.registry_desk.specs.Kinds.{Tells, passes};
 
-    ghost then = { Passes };
+    ghost then = { Tells passes };
 }
 
 /// The opening seat learns that it has met no more seats than it gave.
 pub(crate) struct Count;
 
 impl<A: Allocator + Copy + Drop> Play<Option<Book<A>>, View> for Count {
-    ghost use Rattle.registry_desk.specs.Plays.{Counts};
+    ghost use Rattle.registry_desk.specs.Kinds.{Tells, counts};
 
-    ghost then = { Counts };
+    ghost then = { Tells counts };
 }
 
 /// The opening seat gives a seat.
 pub(crate) struct Give;
 
 impl Split<View> for Give {
-    ghost use Rattle.registry_desk.specs.Views.{giving, given_view};
+    ghost use Rattle.registry_desk.specs.Kinds.{given_by, gives, left_by};
 
-    ghost left = { giving };
+    ghost left = { left_by gives };
 
-    ghost right = { given_view };
+    ghost right = { given_by gives };
 }
 
 /// The opening seat meets another one.
 pub(crate) struct Meet;
 
 impl Join<View> for Meet {
-    ghost use Rattle.registry_desk.specs.Views.{meeting, spent_view};
+    ghost use Rattle.registry_desk.specs.Kinds.{joined_by, meets};
+    ghost use Rattle.registry_desk.specs.Views.{spent_view};
 
-    ghost both = { meeting };
+    ghost both = { joined_by meets };
 
     ghost spent = { spent_view };
 }

@@ -7,7 +7,8 @@ ghost use Rattle.work_registry.specs.Reply.{reply_to};
 ghost use Rattle.work_registry.specs.Numbers.{IsNumbered};
 ghost use Rattle.work_registry.specs.Refusals.{is_full, is_for_limit};
 ghost use Rattle.registry_desk.specs.Views.{most_turns, after_turn, shut, passed};
-ghost use Rattle.registry_desk.specs.Turns.{answered, refused, ComesIn, HandsIn, LooksFor};
+ghost use Rattle.registry_desk.specs.Kinds.{shuts, passes, Moves};
+ghost use Rattle.registry_desk.specs.Turns.{answered, refused, ComesIn, HandsIn, LeavesBySteps, LooksFor};
 
 use crate::desk::Desk;
 use crate::rule::{Pass, Shut};
@@ -57,7 +58,8 @@ impl<A: Allocator + Copy + Drop> Inside<A> {
     /// a call of this turn found the book full.
     pub fn leave(self, desk: &Desk<A>) -> Seat<A>
         requires { self.desk ≡ desk.now }
-        ensures { result ≡ record { desk = desk.now; view = after_turn self.view self.full self.book.history } }
+        ensures left { result ≡ record { desk = desk.now; view = after_turn self.view self.full self.book.history } }
+        ensures steps { LeavesBySteps self.view self.full result.view }
     {
         self.shut(desk).pass(desk)
     }
@@ -65,7 +67,8 @@ impl<A: Allocator + Copy + Drop> Inside<A> {
     /// Puts the book back and shuts the flag.
     fn shut(self, desk: &Desk<A>) -> Leaving<A>
         requires { self.desk ≡ desk.now }
-        ensures { (ticket : ℕ) × (result ≡ record { desk = desk.now; view = shut self.view ticket self.full self.book.history }) }
+        ensures shut { (ticket : ℕ) × (result ≡ record { desk = desk.now; view = shut self.view ticket self.full self.book.history }) }
+        ensures step { Moves (shuts self.full) self.view result.view }
     {
         let Inside {
             mut seat,
@@ -98,7 +101,8 @@ impl<A: Allocator + Copy + Drop> Leaving<A> {
     /// Opens the flag of the next ticket, and wakes who sleeps there.
     fn pass(self, desk: &Desk<A>) -> Seat<A>
         requires { self.desk ≡ desk.now }
-        ensures { result ≡ record { desk = desk.now; view = passed self.view } }
+        ensures passed { result ≡ record { desk = desk.now; view = passed self.view } }
+        ensures step { Moves passes self.view result.view }
     {
         let Leaving {
             mut seat,

@@ -8,7 +8,8 @@ ghost use Rattle.std.specs.Prelude.{◌≡◌, ◌%◌, ◌<◌, ◌≤◌, [], 
 ghost use Rattle.ticket_core.specs.ArrayLock.{array_phase_at, flag_at, serving_of};
 ghost use Rattle.ticket_core.specs.ArraySteps.{array_after_all, array_answer, array_answers, new_array_lock};
 
-use std::alloc::{AllocError, Allocator, Global};
+use cwr_field::Memory;
+use std::alloc::{Allocator, Global};
 use std::marker::Model;
 
 /// The number of flags, and the most places that a lock can have.
@@ -92,7 +93,7 @@ impl<A: Allocator> Model for ArrayLock<A> {
 impl<A: Allocator> ArrayLock<A> {
     /// A lock with this many places, at most 64, all of them away, with ticket 0 to draw and flag 0
     /// alone open. It fails where there is no memory for the places; no places need none.
-    pub fn new(alloc: A, places: usize) -> Result<ArrayLock<A>, AllocError>
+    pub fn new(alloc: A, places: usize) -> Result<ArrayLock<A>, Memory>
         requires { places ≤ 64 }
         ensures made { IfOk result (λ lock. lock ≡ new_array_lock places) }
         ensures succeeds { places ≡ 0 → IsOk result }
@@ -166,7 +167,7 @@ impl<A: Allocator> ArrayLock<A> {
     /// Does the events in turn, each as [`ArrayLock::step`] does it, and lists their outcomes.
     ///
     /// Room for the outcomes is taken first. Where that is refused, no event is done.
-    pub fn run(&mut self, events: &[ArrayEvent]) -> Result<Vec<ArrayOutcome, A>, AllocError>
+    pub fn run(&mut self, events: &[ArrayEvent]) -> Result<Vec<ArrayOutcome, A>, Memory>
     where
         A: Copy,
         ensures state { OnOk result (self.new ≡ array_after_all self.old events.now) }

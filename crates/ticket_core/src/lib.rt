@@ -21,4 +21,5 @@ mod tests;
 mod ticket_lock;
 
 pub use array_lock::{ArrayEvent, ArrayLock, ArrayOutcome, ArrayPhase};
+pub use cwr_field::Memory;
 pub use ticket_lock::{Event, Lock, Outcome, Phase};

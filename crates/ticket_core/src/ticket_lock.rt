@@ -8,7 +8,8 @@ ghost use Rattle.std.specs.Prelude.{◌≡◌, [], IfOk, IsOk, OnErr, OnOk};
 ghost use Rattle.ticket_core.specs.TicketLock.{phase_at};
 ghost use Rattle.ticket_core.specs.TicketSteps.{after_all, answer, answers, new_lock};
 
-use std::alloc::{AllocError, Allocator, Global};
+use cwr_field::Memory;
+use std::alloc::{Allocator, Global};
 use std::marker::Model;
 
 /// Where a place of a [`Lock`] stands.
@@ -82,7 +83,7 @@ impl<A: Allocator> Model for Lock<A> {
 impl<A: Allocator> Lock<A> {
     /// A lock with this many places, all of them away, that serves ticket 0 and has ticket 0 to
     /// draw. It fails where there is no memory for the places; no places need none.
-    pub fn new(alloc: A, places: usize) -> Result<Lock<A>, AllocError>
+    pub fn new(alloc: A, places: usize) -> Result<Lock<A>, Memory>
         ensures made { IfOk result (λ lock. lock ≡ new_lock places) }
         ensures succeeds { places ≡ 0 → IsOk result }
     {
@@ -137,7 +138,7 @@ impl<A: Allocator> Lock<A> {
     /// Does the events in turn, each as [`Lock::step`] does it, and lists their outcomes.
     ///
     /// Room for the outcomes is taken first. Where that is refused, no event is done.
-    pub fn run(&mut self, events: &[Event]) -> Result<Vec<Outcome, A>, AllocError>
+    pub fn run(&mut self, events: &[Event]) -> Result<Vec<Outcome, A>, Memory>
     where
         A: Copy,
         ensures state { OnOk result (self.new ≡ after_all self.old events.now) }

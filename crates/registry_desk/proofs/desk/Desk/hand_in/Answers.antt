@@ -6,7 +6,7 @@ use Rattle.registry_desk.proofs.desk.Desk.hand_in.Goals as goal
 
 pub returns-clause-turn : goal.returns-clause-turn
 returns-clause-turn g c = let e = c.apply-reply.ensures in
-    subst (λ (x : Standing). HandsIn c.args.seat.view c.args.call c.apply-reply.result x.view) (sym c.leave-seat.ensures)
+    subst (λ (x : Standing). HandsIn c.args.seat.view c.args.call c.apply-reply.result x.view) (sym c.leave-seat.ensures.left)
     (turn c.args.seat c.enter-inside.result c.apply-reply.new.self c.args.call c.apply-reply.result c.enter-inside.ensures
     (record { reply = e.reply; numbered = e.numbered; entry = e.entry; given_back = e.given_back; unchanged = e.unchanged; full = e.full; registry = e.registry; bounded = e.bounded }))
 
@@ -14,4 +14,4 @@ pub leave-seat-requires : goal.leave-seat-requires
 leave-seat-requires g c = let e = c.apply-reply.ensures in
     same_desk c.enter-inside.result c.apply-reply.new.self c.args.call c.apply-reply.result
     (record { reply = e.reply; numbered = e.numbered; entry = e.entry; given_back = e.given_back; unchanged = e.unchanged; full = e.full; registry = e.registry; bounded = e.bounded })
-    ∙ (c.enter-inside.ensures.desk ∙ c.requires.desk)
+    ∙ (c.enter-inside.ensures.stay.desk ∙ c.requires.desk)
