@@ -1,5 +1,7 @@
 //! What a test found, beside what it wanted.
 
+ghost use Rattle.std.specs.Prelude.{◌≡◌, ◌↔◌, true, IsOk};
+
 use std::fmt::Debug;
 use std::str;
 use std::test::Fail;
@@ -8,7 +10,9 @@ use std::test::Fail;
 const TOLD: usize = 90;
 
 /// Two values must be the same.
-pub fn same<T: PartialEq + Debug>(what: &str, found: &T, wanted: &T) -> Result<(), Fail> {
+pub fn same<T: PartialEq + Debug>(what: &str, found: &T, wanted: &T) -> Result<(), Fail>
+    ensures { IsOk result ↔ (T.eq found.now wanted.now ≡ true) }
+{
     if *found == *wanted {
         Ok(())
     } else {
@@ -17,7 +21,9 @@ pub fn same<T: PartialEq + Debug>(what: &str, found: &T, wanted: &T) -> Result<(
 }
 
 /// Two byte strings must be the same. Else both are told from the first place where they differ.
-pub fn same_bytes(what: &str, found: &[u8], wanted: &[u8]) -> Result<(), Fail> {
+pub fn same_bytes(what: &str, found: &[u8], wanted: &[u8]) -> Result<(), Fail>
+    ensures { IsOk result ↔ (found.now ≡ wanted.now) }
+{
     if found == wanted {
         return Ok(());
     }
@@ -28,7 +34,9 @@ pub fn same_bytes(what: &str, found: &[u8], wanted: &[u8]) -> Result<(), Fail> {
 }
 
 /// Two texts must be the same. Else both are told from the first place where they differ.
-pub fn same_text(what: &str, found: &str, wanted: &str) -> Result<(), Fail> {
+pub fn same_text(what: &str, found: &str, wanted: &str) -> Result<(), Fail>
+    ensures { IsOk result ↔ (found.now ≡ wanted.now) }
+{
     same_bytes(what, found.as_bytes(), wanted.as_bytes())
 }
 
