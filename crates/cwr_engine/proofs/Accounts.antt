@@ -19,7 +19,7 @@ use Rattle.cwr_rules.specs.Calls.{call_of}
 use Rattle.work_registry.specs.EntryValue.{EntryValue}
 use Rattle.work_registry.specs.Replay.{calls_of}
 use Rattle.work_registry.specs.Told.{status_in}
-use Rattle.cwr_engine.specs.Account.{most, Signs, Account, IsAccount, IsRead, Gives}
+use Rattle.cwr_engine.specs.Account.{most, Signs, Account, IsAccount, IsRead, IsMadeOf, IsMadeOfAll, Gives}
 use Rattle.cwr_engine.specs.Causes.{cause_of, IsCause}
 use Rattle.cwr_engine.specs.Handing.{AreAnswered, IsWorked}
 use Rattle.cwr_engine.specs.Items.{item_of, items_of, calls_in}
@@ -160,15 +160,18 @@ module _ (session : ℕ) (s : Signs) (stamp : StampParts) (left taken after : Op
   handed : n ≡ length so_far.made
   handed = count ∙ so_far.count
 
+  abbrev part : IsMadeOf input so_far.made
+  part = record { head = head; transactions = ts; read = read; calls = so_far.calls }
+
   -- a transaction got no reply
   pub handed_some : (why : Why) → Appends taken after [] → length items < length ts → IsCause s.full s.may_shut why
       → IsWorked session s stamp left taken after (Stopped n why) list list' whole whole'
   handed_some Memory none some cause =
-      ended (Stopped n Memory) [] none (handed, (refl, λ _. record { head = head; transactions = ts; read = read; calls = so_far.calls }))
+      ended (Stopped n Memory) [] none (handed, (refl, λ _. part))
   handed_some Full none some cause =
-      ended (Stopped n Full) [] none (handed, (refl, record { head = head; transactions = ts; read = read; calls = so_far.calls; further = let c = so_far.count in omega (arith, c, some) }, cause))
+      ended (Stopped n Full) [] none (handed, (refl, record { part = part; further = let c = so_far.count in omega (arith, c, some) }, cause))
   handed_some Gate none some cause =
-      ended (Stopped n Gate) [] none (handed, (refl, record { head = head; transactions = ts; read = read; calls = so_far.calls; further = let c = so_far.count in omega (arith, c, some) }, cause))
+      ended (Stopped n Gate) [] none (handed, (refl, record { part = part; further = let c = so_far.count in omega (arith, c, some) }, cause))
   handed_some Read none some cause = absurd cause
   handed_some TooLong none some cause = absurd cause
   handed_some (Write sent) none some cause = absurd cause
@@ -176,7 +179,7 @@ module _ (session : ℕ) (s : Signs) (stamp : StampParts) (left taken after : Op
   -- all got replies, and then there was no memory for the acknowledgement
   pub no_text : Appends taken after [] → IsWorked session s stamp left taken after (Stopped n Memory) list list' whole whole'
   no_text none =
-      ended (Stopped n Memory) [] none (handed, (refl, λ _. record { head = head; transactions = ts; read = read; calls = so_far.calls }))
+      ended (Stopped n Memory) [] none (handed, (refl, λ _. part))
 
   module _ (text : List ℕ) (all : length items ≡ length ts) (is : text ≡ ack_text stamp head items) where
     all_calls : calls_of so_far.made ≡ calls_in head.sender ts
@@ -186,12 +189,15 @@ module _ (session : ℕ) (s : Signs) (stamp : StampParts) (left taken after : Op
         let long : length so_far.made ≡ length (calls_in head.sender ts) = omega (arith, c, all, m) in
         so_far.calls ∙ (ap (λ k. take k (calls_in head.sender ts)) long ∙ take-length (calls_in head.sender ts))
 
+    abbrev entire : IsMadeOfAll input so_far.made
+    entire = record { head = head; transactions = ts; read = read; calls = all_calls }
+
     told : text ≡ ack_text stamp head (items_of ts so_far.made)
     told = is ∙ ap (ack_text stamp head) so_far.told
 
     pub acked : Appends taken after text → IsWorked session s stamp left taken after (Acked n) list list' whole whole'
     acked sent =
-        ended (Acked n) text sent (record { head = head; transactions = ts; read = read; calls = all_calls; transaction_count = handed; text = told })
+        ended (Acked n) text sent (record { whole = entire; transaction_count = handed; text = told })
 
     pub cut_off : (k : ℕ) → Appends taken after (take k text) → k < length text → s.write_failed ≡ true
         → IsWorked session s stamp left taken after (Stopped n (Write k)) list list' whole whole'
@@ -199,10 +205,7 @@ module _ (session : ℕ) (s : Signs) (stamp : StampParts) (left taken after : Op
         ended (Stopped n (Write k)) (take k text) sent (
           handed,
           record {
-            head = head;
-            transactions = ts;
-            read = read;
-            calls = all_calls;
+            whole = entire;
             stopped = failed;
             fewer = let e = ap length told in omega (arith, e, fewer);
             front = ap (take k) told;

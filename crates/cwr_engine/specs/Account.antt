@@ -52,35 +52,37 @@ pub record IsMadeOf (input : List ℕ) (made : List EntryValue) : Type 0 where
 
 -- and a further transaction follows them
 pub record IsMadeOfSome (input : List ℕ) (made : List EntryValue) : Type 0 where
-  pub head : Header
-  pub transactions : List RawParts
-  pub read : IsRead input head transactions
-  pub calls : calls_of made ≡ take (length made) (calls_in head.sender transactions)
-  pub further : length made < length transactions
+  pub part : IsMadeOf input made
+  pub further : length made < length part.transactions
 
 -- the text has this fault at this line, and none before it
 pub record IsRefused (input : List ℕ) (fault line : ℕ) : Type 0 where
   pub fits : length input ≤ most
   pub first : IsLeastFault (lines input) line fault
 
--- the calls are those of all transactions, and what was written is the acknowledgement of their replies
-pub record IsAcked (stamp : StampParts) (input : List ℕ) (count : ℕ) (written : List ℕ) (made : List EntryValue) : Type 0 where
+-- the calls of these entries are those of all transactions of a file
+pub record IsMadeOfAll (input : List ℕ) (made : List EntryValue) : Type 0 where
   pub head : Header
   pub transactions : List RawParts
   pub read : IsRead input head transactions
   pub calls : calls_of made ≡ calls_in head.sender transactions
+
+-- the acknowledgement of the replies that the transactions of a file got
+abbrev pub answer_of : {input : List ℕ} → StampParts → (made : List EntryValue) → IsMadeOfAll input made → List ℕ
+answer_of stamp made whole = ack_text stamp whole.head (items_of whole.transactions made)
+
+-- all transactions were handed in, and what was written is their acknowledgement
+pub record IsAcked (stamp : StampParts) (input : List ℕ) (count : ℕ) (written : List ℕ) (made : List EntryValue) : Type 0 where
+  pub whole : IsMadeOfAll input made
   pub transaction_count : count ≡ length made
-  pub text : written ≡ ack_text stamp head (items_of transactions made)
+  pub text : written ≡ answer_of stamp made whole
 
 -- the same, but the first bytes of the acknowledgement were written, and not all, since a write failed
 pub record IsCutOff (failed : Bool) (stamp : StampParts) (input : List ℕ) (sent : ℕ) (written : List ℕ) (made : List EntryValue) : Type 0 where
-  pub head : Header
-  pub transactions : List RawParts
-  pub read : IsRead input head transactions
-  pub calls : calls_of made ≡ calls_in head.sender transactions
+  pub whole : IsMadeOfAll input made
   pub stopped : failed ≡ true
-  pub fewer : sent < length (ack_text stamp head (items_of transactions made))
-  pub front : written ≡ take sent (ack_text stamp head (items_of transactions made))
+  pub fewer : sent < length (answer_of stamp made whole)
+  pub front : written ≡ take sent (answer_of stamp made whole)
 
 -- why a job stopped, after it made these entries
 abbrev pub StoppedBy : Signs → StampParts → List ℕ → Why → List ℕ → List EntryValue → Type 0
