@@ -13,11 +13,11 @@ use Rattle.cwr_record.specs.Ranges.{starts_rise}
 use Rattle.cwr_record.specs.Readable.{IsRead, IsReadable}
 
 -- the fields after one start after it
-later : (line : List ℕ) (s : Slot) (slots : List Slot) (f : FieldFault) → f.start ≤ s.start → starts_rise (s ∷ slots) ≡ true
+later : (line : List ℕ) (s : Slot) (slots : List Slot) (f : FieldFault) → f.start ≤ s.column.start → starts_rise (s ∷ slots) ≡ true
     → AllByRecursion (IsNotAfter f) (faults line slots)
 later line s [] f le rise = tt
 later line s (t ∷ slots) f le rise =
-    let lt : s.start < t.start = grind (arith, nat_tests) in
+    let lt : s.column.start < t.column.start = grind (arith, nat_tests) in
     let rest = later line t slots f (omega arith) (grind (arith, nat_tests)) in
     elim (is_some (reading line t)) as (λ b. AllByRecursion (IsNotAfter f) (cond b (faults line slots) (fault_of t ∷ faults line slots))) [ true ↦ rest | false ↦ (inl (omega arith), rest) ]
 

@@ -5,3 +5,4 @@ pub mod SameRecords
 pub mod Names
 pub mod TrailingBlanks
 pub mod Codes
+pub mod LineParts

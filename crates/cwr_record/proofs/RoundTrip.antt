@@ -95,26 +95,26 @@ stands_after : {X : Type 0} (front : List ℕ) (start : ℕ) (parts : List (Part
     → StandsFor parts (front ++ line_of parts x) x
 stands_after front start [] x s adjacent whole = tt
 stands_after front start (Read slot part ∷ parts) x s adjacent whole =
-    let text = spelling slot.content slot.width (part x) in
-    let len = length-spelling slot.content slot.width (part x) whole.0 in
-    let here : slot.start ≡ start = grind (arith, nat_tests) in
-    let rest : are_adjacent (start + slot.width) parts ≡ true = grind (arith, nat_tests) in
-    let found : field (front ++ (text ++ line_of parts x)) slot.start slot.width ≡ text = field_at front text (line_of parts x) slot.start slot.width (here ∙ s) (sym len) in
-    let more = stands_after (front ++ text) (start + slot.width) parts x (omega (arith, length-append front text)) rest whole.1 in
-    (ap (value_of slot.content) found ∙ value-spelling slot.content slot.width (part x) whole.0, rw append_assoc at more)
-stands_after front start (Kept from width part ∷ parts) x s adjacent whole =
-    let text = padded width (part x) in
-    let full = padded_full width (part x) whole.0 in
-    let len : length text ≡ width = ap length full ∙ whole.0 in
-    let here : from ≡ start = grind (arith, nat_tests) in
-    let rest : are_adjacent (start + width) parts ≡ true = grind (arith, nat_tests) in
-    let found : field (front ++ (text ++ line_of parts x)) from width ≡ text = field_at front text (line_of parts x) from width (here ∙ s) (sym len) in
-    let more = stands_after (front ++ text) (start + width) parts x (omega (arith, length-append front text)) rest whole.1 in
+    let text = spelling slot.content slot.column.width (part x) in
+    let len = length-spelling slot.content slot.column.width (part x) whole.0 in
+    let here : slot.column.start ≡ start = grind (arith, nat_tests) in
+    let rest : are_adjacent (start + slot.column.width) parts ≡ true = grind (arith, nat_tests) in
+    let found : field (front ++ (text ++ line_of parts x)) slot.column.start slot.column.width ≡ text = field_at front text (line_of parts x) slot.column.start slot.column.width (here ∙ s) (sym len) in
+    let more = stands_after (front ++ text) (start + slot.column.width) parts x (omega (arith, length-append front text)) rest whole.1 in
+    (ap (value_of slot.content) found ∙ value-spelling slot.content slot.column.width (part x) whole.0, rw append_assoc at more)
+stands_after front start (Kept column part ∷ parts) x s adjacent whole =
+    let text = padded column.width (part x) in
+    let full = padded_full column.width (part x) whole.0 in
+    let len : length text ≡ column.width = ap length full ∙ whole.0 in
+    let here : column.start ≡ start = grind (arith, nat_tests) in
+    let rest : are_adjacent (start + column.width) parts ≡ true = grind (arith, nat_tests) in
+    let found : field (front ++ (text ++ line_of parts x)) column.start column.width ≡ text = field_at front text (line_of parts x) column.start column.width (here ∙ s) (sym len) in
+    let more = stands_after (front ++ text) (start + column.width) parts x (omega (arith, length-append front text)) rest whole.1 in
     (sym (found ∙ full), rw append_assoc at more)
-stands_after front start (Written from width text ∷ parts) x s adjacent whole =
-    let fits : length text ≤ width = grind (arith, nat_tests) in
-    let rest : are_adjacent (start + width) parts ≡ true = grind (arith, nat_tests) in
-    let more = stands_after (front ++ padded width text) (start + width) parts x (omega (arith, length-append front (padded width text), length-padded width text fits)) rest whole in
+stands_after front start (Written column text ∷ parts) x s adjacent whole =
+    let fits : length text ≤ column.width = grind (arith, nat_tests) in
+    let rest : are_adjacent (start + column.width) parts ≡ true = grind (arith, nat_tests) in
+    let more = stands_after (front ++ padded column.width text) (start + column.width) parts x (omega (arith, length-append front (padded column.width text), length-padded column.width text fits)) rest whole in
     rw append_assoc at more
 
 -- the line that is written for a record stands for it
@@ -127,15 +127,15 @@ no_faults [] line x h = refl
 no_faults (Read slot part ∷ parts) line x h =
     let some : is_some (reading line slot) ≡ true = ap is_some h.0 in
     rw some (no_faults parts line x h.1)
-no_faults (Kept start width part ∷ parts) line x h = no_faults parts line x h.1
-no_faults (Written start width text ∷ parts) line x h = no_faults parts line x h
+no_faults (Kept column part ∷ parts) line x h = no_faults parts line x h.1
+no_faults (Written column text ∷ parts) line x h = no_faults parts line x h
 
 -- what a record has in the fields that are read or kept
 abbrev pub values : {X : Type 0} → List (Part X) → X → List Value
 values [] x = []
 values (Read slot part ∷ parts) x = part x ∷ values parts x
-values (Kept start width part ∷ parts) x = Bytes (part x) ∷ values parts x
-values (Written start width text ∷ parts) x = values parts x
+values (Kept column part ∷ parts) x = Bytes (part x) ∷ values parts x
+values (Written column text ∷ parts) x = values parts x
 
 some_is : {A : Type 0} (o : Option A) (x y : A) → o ≡ Some x → o ≡ Some y → x ≡ y
 some_is o x y p q = cc
@@ -144,8 +144,8 @@ some_is o x y p q = cc
 pub same_values : {X : Type 0} (parts : List (Part X)) (line : List ℕ) (x y : X) → StandsFor parts line x → StandsFor parts line y → values parts x ≡ values parts y
 same_values [] line x y h k = refl
 same_values (Read slot part ∷ parts) line x y h k = rw (some_is (reading line slot) (part x) (part y) h.0 k.0, same_values parts line x y h.1 k.1) refl
-same_values (Kept start width part ∷ parts) line x y h k = rw (h.0 ∙ sym k.0, same_values parts line x y h.1 k.1) refl
-same_values (Written start width text ∷ parts) line x y h k = same_values parts line x y h k
+same_values (Kept column part ∷ parts) line x y h k = rw (h.0 ∙ sym k.0, same_values parts line x y h.1 k.1) refl
+same_values (Written column text ∷ parts) line x y h k = same_values parts line x y h k
 
 -- a line that was written is read as what was written
 pub read_again : {X : Type 0} (parts : List (Part X)) (line : List ℕ) (x y : X) → StandsFor parts line y

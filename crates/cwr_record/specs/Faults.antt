@@ -20,7 +20,7 @@ fault_number (Kind code) = 6
 fault_number (OneOf first second) = 6
 
 abbrev pub fault_of : Slot → FieldFault
-fault_of s = record { start = s.start; number = fault_number s.content }
+fault_of s = record { start = s.column.start; number = fault_number s.content }
 
 -- the faults of the line: one for each field that stands for no value
 abbrev pub faults : List ℕ → List Slot → List FieldFault
@@ -39,5 +39,5 @@ IsLeastFault line slots f = Contains (faults line slots) f × AllByRecursion (Is
 abbrev pub checked : {X : Type 0} → List (Part X) → List Slot
 checked [] = []
 checked (Read s part ∷ parts) = s ∷ checked parts
-checked (Kept start width part ∷ parts) = checked parts
-checked (Written start width text ∷ parts) = checked parts
+checked (Kept column part ∷ parts) = checked parts
+checked (Written column text ∷ parts) = checked parts

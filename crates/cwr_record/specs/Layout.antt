@@ -1,13 +1,15 @@
 -- A record's layout is a table of the fields of its line (CWR 2.2, record layouts).
 use Rattle.std.specs.Prelude.{◌≡◌, ℕ, Bool, ◌||◌, List, [], ◌∷◌, Option, Some, None, option_map, if◌then◌else◌}
 use Rattle.std.specs.Str.{bytes_eq}
-use Rattle.cwr_field.specs.Layout.{field, is_blank}
+use Rattle.cwr_field.specs.Layout.{is_blank}
 use Rattle.cwr_field.specs.Number.{number_of}
 use Rattle.cwr_field.specs.Share.{share_of}
 use Rattle.cwr_field.specs.Calendar.{day_of, time_of}
 use Rattle.cwr_field.specs.Iswc.{iswc_of}
 use Rattle.cwr_field.specs.declared.codes.Iswc.{Iswc}
 use Rattle.cwr_field.specs.declared.codes.Iswc.TheVariants.{Blank, Valid, Wrong}
+use Rattle.cwr_record.specs.Columns.{field_at}
+use Rattle.cwr_record.specs.declared.columns.Column.{Column}
 use Rattle.cwr_record.specs.declared.slot.Slot.{Slot}
 use Rattle.cwr_record.specs.declared.slot.Content.{Content}
 use Rattle.cwr_record.specs.declared.slot.Content.TheVariants.{Kind, OneOf, Digits, Share, Day, Time, OptionalDay, OptionalTime, Code}
@@ -48,18 +50,18 @@ value_of Code bytes = code_value (iswc_of bytes)
 
 -- what the line has in a field
 abbrev pub reading : List ℕ → Slot → Option Value
-reading line s = value_of s.content (field line s.start s.width)
+reading line s = value_of s.content (field_at line s.column)
 
 -- a row of a table, of records of a type: a field that is read, and the part of the record that it stands for;
 -- a text that is kept as it stands; or a text that is written and never read
 pub data Part (X : Type 0) : Type 0 where
   Read : Slot → (X → Value) → Part X
-  Kept : ℕ → ℕ → (X → List ℕ) → Part X
-  Written : ℕ → ℕ → List ℕ → Part X
+  Kept : Column → (X → List ℕ) → Part X
+  Written : Column → List ℕ → Part X
 
 -- the line stands for the record: each field that is read or kept is that part of it
 abbrev pub StandsFor : {X : Type 0} → List (Part X) → List ℕ → X → Type 0
 StandsFor [] line x = Unit {0}
 StandsFor (Read s part ∷ parts) line x = (reading line s ≡ Some (part x)) × StandsFor parts line x
-StandsFor (Kept start width part ∷ parts) line x = (part x ≡ field line start width) × StandsFor parts line x
-StandsFor (Written start width text ∷ parts) line x = StandsFor parts line x
+StandsFor (Kept column part ∷ parts) line x = (part x ≡ field_at line column) × StandsFor parts line x
+StandsFor (Written column text ∷ parts) line x = StandsFor parts line x

@@ -1,3 +1,4 @@
+pub mod Columns
 pub mod Layout
 pub mod Rows
 pub mod Kinds
@@ -11,6 +12,7 @@ pub mod Lines
 pub mod RecordTypes
 pub mod Parties
 pub mod Territory
+pub mod LineOf
 pub mod Stamp
 pub mod Readable
 pub mod Ranges

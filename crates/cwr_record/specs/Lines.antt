@@ -18,9 +18,9 @@ spelling Code width (Maybe (Some n)) = iswc_text n
 spelling content width (Maybe (Some n)) = number_text width n
 
 abbrev pub text_of : {X : Type 0} → X → Part X → List ℕ
-text_of x (Read s part) = spelling s.content s.width (part x)
-text_of x (Kept start width part) = padded width (part x)
-text_of x (Written start width text) = padded width text
+text_of x (Read s part) = spelling s.content s.column.width (part x)
+text_of x (Kept column part) = padded column.width (part x)
+text_of x (Written column text) = padded column.width text
 
 -- the line that is written for a record, without an end: the texts of all rows, one after another
 abbrev pub line_of : {X : Type 0} → List (Part X) → X → List ℕ
@@ -29,9 +29,9 @@ line_of parts x = flat_map (text_of x) parts
 -- each row begins where the one before it ends
 abbrev pub are_adjacent : {X : Type 0} → ℕ → List (Part X) → Bool
 are_adjacent start [] = true
-are_adjacent start (Read s part ∷ parts) = (s.start == start) && are_adjacent (start + s.width) parts
-are_adjacent start (Kept from width part ∷ parts) = (from == start) && are_adjacent (start + width) parts
-are_adjacent start (Written from width text ∷ parts) = (from == start) && nat_le (length text) width && are_adjacent (start + width) parts
+are_adjacent start (Read s part ∷ parts) = (s.column.start == start) && are_adjacent (start + s.column.width) parts
+are_adjacent start (Kept column part ∷ parts) = (column.start == start) && are_adjacent (start + column.width) parts
+are_adjacent start (Written column text ∷ parts) = (column.start == start) && nat_le (length text) column.width && are_adjacent (start + column.width) parts
 
 -- what a writer asks of a value: a number has no more digits than its field, a share is at most the whole, which
 -- is 10000, and a code has nine digits
@@ -44,9 +44,9 @@ FitsField content width value = Unit {0}
 -- each part of the record can be written
 abbrev pub Fits : {X : Type 0} → List (Part X) → X → Type 0
 Fits [] x = Unit {0}
-Fits (Read s part ∷ parts) x = FitsField s.content s.width (part x) × Fits parts x
-Fits (Kept start width part ∷ parts) x = Fits parts x
-Fits (Written start width text ∷ parts) x = Fits parts x
+Fits (Read s part ∷ parts) x = FitsField s.content s.column.width (part x) × Fits parts x
+Fits (Kept column part ∷ parts) x = Fits parts x
+Fits (Written column text ∷ parts) x = Fits parts x
 
 -- the value is one that the field can hold
 abbrev pub IsHeld : Content → ℕ → Value → Type 0
@@ -68,6 +68,6 @@ IsHeld content width value = ⊥
 -- texts have their widths, and its days and times are of the calendar, by their types.
 abbrev pub IsWhole : {X : Type 0} → List (Part X) → X → Type 0
 IsWhole [] x = Unit {0}
-IsWhole (Read s part ∷ parts) x = IsHeld s.content s.width (part x) × IsWhole parts x
-IsWhole (Kept start width part ∷ parts) x = (length (part x) ≡ width) × IsWhole parts x
-IsWhole (Written start width text ∷ parts) x = IsWhole parts x
+IsWhole (Read s part ∷ parts) x = IsHeld s.content s.column.width (part x) × IsWhole parts x
+IsWhole (Kept column part ∷ parts) x = (length (part x) ≡ column.width) × IsWhole parts x
+IsWhole (Written column text ∷ parts) x = IsWhole parts x

@@ -1,8 +1,8 @@
 -- Interested parties, and the shares that they own and collect, in any record that names them (CWR 2.2).
--- Positions are counted from 1.
-use Rattle.std.specs.Prelude.{ℕ, Bool, true, false, List, [], ◌∷◌, Option, map}
-use Rattle.cwr_field.specs.Layout.{field}
+use Rattle.std.specs.Prelude.{ℕ, Bool, true, false, List, [], ◌∷◌, Option}
 use Rattle.cwr_field.specs.Share.{share_of}
+use Rattle.cwr_record.specs.Columns as column
+use Rattle.cwr_record.specs.declared.columns.Column.{Column}
 use Rattle.cwr_record.specs.declared.record_type.RecordType.{RecordType}
 use Rattle.cwr_record.specs.declared.record_type.RecordType.TheVariants.{Spu, Spt, Opu, Swr, Swt, Owr}
 
@@ -21,36 +21,72 @@ has_collection Swt = true
 has_collection _ = false
 
 -- Interested Party #
-abbrev pub party_start : RecordType → ℕ
-party_start Spu = 22
-party_start Opu = 22
-party_start _ = 20
+abbrev pub party_column : RecordType → Column
+party_column Spu = column.publisher_party
+party_column Opu = column.publisher_party
+party_column Spt = column.publisher_territory_party
+party_column Swt = column.writer_territory_party
+party_column _ = column.writer_party
+
+-- a column for each right
+pub record RightColumns : Type 0 where
+  pub performing : Column
+  pub mechanical : Column
+  pub synchronization : Column
+
+-- the shares that these columns hold
+abbrev pub shares_at : List ℕ → RightColumns → List (Option ℕ)
+shares_at line columns =
+    share_of (column.field_at line columns.performing)
+    ∷ share_of (column.field_at line columns.mechanical)
+    ∷ share_of (column.field_at line columns.synchronization)
+    ∷ []
+
+abbrev pub publisher_ownership : RightColumns
+publisher_ownership = record {
+  performing = column.publisher_performing_ownership;
+  mechanical = column.publisher_mechanical_ownership;
+  synchronization = column.publisher_synchronization_ownership;
+}
+
+abbrev pub writer_ownership : RightColumns
+writer_ownership = record {
+  performing = column.writer_performing_ownership;
+  mechanical = column.writer_mechanical_ownership;
+  synchronization = column.writer_synchronization_ownership;
+}
 
 -- PR Ownership Share, MR Ownership Share, SR Ownership Share
-abbrev pub ownership_starts : RecordType → List ℕ
-ownership_starts Spu = 116 ∷ 124 ∷ 132 ∷ []
-ownership_starts Opu = 116 ∷ 124 ∷ 132 ∷ []
-ownership_starts _ = 130 ∷ 138 ∷ 146 ∷ []
+abbrev pub ownership_columns : RecordType → RightColumns
+ownership_columns Spu = publisher_ownership
+ownership_columns Opu = publisher_ownership
+ownership_columns _ = writer_ownership
 
--- the shares that the fields of five bytes from these positions hold
-abbrev pub shares_at : List ℕ → List ℕ → List (Option ℕ)
-shares_at line starts = map (λ start. share_of (field line start 5)) starts
+abbrev pub publisher_collection : RightColumns
+publisher_collection = record {
+  performing = column.publisher_territory_performing_collection;
+  mechanical = column.publisher_territory_mechanical_collection;
+  synchronization = column.publisher_territory_synchronization_collection;
+}
+
+abbrev pub writer_collection : RightColumns
+writer_collection = record {
+  performing = column.writer_territory_performing_collection;
+  mechanical = column.writer_territory_mechanical_collection;
+  synchronization = column.writer_territory_synchronization_collection;
+}
 
 -- PR Collection Share, MR Collection Share, SR Collection Share
-abbrev pub collection_starts : RecordType → List ℕ
-collection_starts Spt = 35 ∷ 40 ∷ 45 ∷ []
-collection_starts _ = 29 ∷ 34 ∷ 39 ∷ []
+abbrev pub collection_columns : RecordType → RightColumns
+collection_columns Spt = publisher_collection
+collection_columns _ = writer_collection
 
 -- Inclusion/Exclusion Indicator
-abbrev pub indicator_start : RecordType → ℕ
-indicator_start Spt = 50
-indicator_start _ = 44
+abbrev pub indicator_column : RecordType → Column
+indicator_column Spt = column.publisher_territory_indicator
+indicator_column _ = column.writer_territory_indicator
 
 -- TIS Numeric Code
-abbrev pub territory_start : RecordType → ℕ
-territory_start Spt = 51
-territory_start _ = 45
-
--- Publisher Interested Party # of a Publisher for Writer
-abbrev pub link_publisher_start : ℕ
-link_publisher_start = 20
+abbrev pub territory_column : RecordType → Column
+territory_column Spt = column.publisher_territory_territory
+territory_column _ = column.writer_territory_territory

@@ -7,8 +7,8 @@ use Rattle.cwr_record.specs.declared.pieces.Piece.{Piece}
 use Rattle.cwr_record.specs.declared.pieces.Piece.TheVariants.{Text, Digits, Share, Day, Time, OptionalDay, OptionalTime, Code}
 
 abbrev pub piece_text : Piece → List ℕ
-piece_text (Text text width) = padded width text.now
-piece_text (Digits value width) = number_text width value
+piece_text (Text text column) = padded column.width text.now
+piece_text (Digits value column) = number_text column.width value
 piece_text (Share value) = number_text 5 value
 piece_text (Day day) = number_text 8 day
 piece_text (Time time) = number_text 6 time
@@ -21,8 +21,8 @@ piece_text (Code (Some n)) = iswc_text n
 
 -- the bytes that the field takes
 abbrev pub piece_width : Piece → ℕ
-piece_width (Text text width) = width
-piece_width (Digits value width) = width
+piece_width (Text text column) = column.width
+piece_width (Digits value column) = column.width
 piece_width (Share value) = 5
 piece_width (Day day) = 8
 piece_width (Time time) = 6
@@ -31,8 +31,8 @@ piece_width (OptionalTime time) = 6
 piece_width (Code n) = 11
 
 abbrev pub FitsPiece : Piece → Type 0
-FitsPiece (Text text width) = length text.now ≤ width
-FitsPiece (Digits value width) = (value < 10 ^ width) × (width ≤ 18)
+FitsPiece (Text text column) = length text.now ≤ column.width
+FitsPiece (Digits value column) = (value < 10 ^ column.width) × (column.width ≤ 18)
 FitsPiece (Share value) = value ≤ 10000
 FitsPiece (Code (Some n)) = n < 10 ^ 9
 FitsPiece piece = Unit {0}

@@ -1,9 +1,9 @@
--- The record types, and where a record of a type has its parties and shares. Positions are counted from 1.
+-- The record types.
 use Rattle.std.specs.Prelude.{ℕ, Bool, ◌||◌, List, codes, if◌then◌else◌}
 use Rattle.std.specs.Str.{bytes_eq}
 use Rattle.std.specs.List.{list_all}
 use Rattle.std.specs.Char.{is_ascii_uppercase}
-use Rattle.cwr_field.specs.Layout.{field}
+use Rattle.cwr_record.specs.Columns.{field_at, every_record_type}
 use Rattle.cwr_record.specs.declared.record_type.RecordType.{RecordType}
 use Rattle.cwr_record.specs.declared.record_type.RecordType.TheVariants.{Hdr, Grh, Grt, Trl, Nwr, Rev, Ack, Spu, Spt, Opu, Swr, Swt, Pwr, Owr, Alt, Xrf, Other, Carried, Bad}
 
@@ -34,6 +34,6 @@ type_named name =
     else if list_all is_ascii_uppercase name then Carried
     else Bad
 
--- a line's type is named by its first three bytes
+-- the type that a line names
 abbrev pub type_of : List ℕ → RecordType
-type_of line = type_named (field line 1 3)
+type_of line = type_named (field_at line every_record_type)

@@ -1,6 +1,7 @@
 -- A work's writers, where they collect, and their publishers (CWR 2.2): SWR, OWR, SWT, PWR.
 use Rattle.std.specs.Prelude.{List, [], ◌∷◌, codes}
 use Rattle.cwr_record.specs.Layout.{Part}
+use Rattle.cwr_record.specs.Columns as column
 use Rattle.cwr_record.specs.Rows.{kind, one_of, number, share, text}
 use Rattle.cwr_record.specs.Kinds.{writer_kind_code}
 use Rattle.cwr_record.specs.declared.writers.Writer.{Writer}
@@ -11,48 +12,48 @@ use Rattle.cwr_record.specs.declared.writers.Link.{Link}
 abbrev pub writer : List (Part Writer)
 writer =
     one_of (codes "SWR") (codes "OWR") (λ x. writer_kind_code x.kind)  -- Record Type
-    ∷ number 4 8 (λ x. x.prefix.transaction)  -- Transaction Sequence #
-    ∷ number 12 8 (λ x. x.prefix.detail)  -- Record Sequence #
-    ∷ text 20 9 (λ x. x.party)  -- Interested Party #
-    ∷ text 29 45 (λ x. x.last_name)  -- Writer Last Name
-    ∷ text 74 30 (λ x. x.first_name)  -- Writer First Name
-    ∷ text 104 1 (λ x. x.unknown_indicator)  -- Writer Unknown Indicator
-    ∷ text 105 2 (λ x. x.designation)  -- Writer Designation Code
-    ∷ text 107 9 (λ x. x.tax_id)  -- Tax ID #
-    ∷ text 116 11 (λ x. x.ipi_name_number)  -- Writer IPI Name #
-    ∷ text 127 3 (λ x. x.performing_society)  -- PR Affiliation Society #
-    ∷ share 130 (λ x. x.performing_ownership)  -- PR Ownership Share
-    ∷ text 135 3 (λ x. x.mechanical_society)  -- MR Affiliation Society #
-    ∷ share 138 (λ x. x.mechanical_ownership)  -- MR Ownership Share
-    ∷ text 143 3 (λ x. x.synchronization_society)  -- SR Affiliation Society #
-    ∷ share 146 (λ x. x.synchronization_ownership)  -- SR Ownership Share
+    ∷ number column.prefix_transaction (λ x. x.prefix.transaction)  -- Transaction Sequence #
+    ∷ number column.prefix_detail (λ x. x.prefix.detail)  -- Record Sequence #
+    ∷ text column.writer_party (λ x. x.party)  -- Interested Party #
+    ∷ text column.writer_last_name (λ x. x.last_name)  -- Writer Last Name
+    ∷ text column.writer_first_name (λ x. x.first_name)  -- Writer First Name
+    ∷ text column.writer_unknown_indicator (λ x. x.unknown_indicator)  -- Writer Unknown Indicator
+    ∷ text column.writer_designation (λ x. x.designation)  -- Writer Designation Code
+    ∷ text column.writer_tax_id (λ x. x.tax_id)  -- Tax ID #
+    ∷ text column.writer_ipi_name_number (λ x. x.ipi_name_number)  -- Writer IPI Name #
+    ∷ text column.writer_performing_society (λ x. x.performing_society)  -- PR Affiliation Society #
+    ∷ share column.writer_performing_ownership (λ x. x.performing_ownership)  -- PR Ownership Share
+    ∷ text column.writer_mechanical_society (λ x. x.mechanical_society)  -- MR Affiliation Society #
+    ∷ share column.writer_mechanical_ownership (λ x. x.mechanical_ownership)  -- MR Ownership Share
+    ∷ text column.writer_synchronization_society (λ x. x.synchronization_society)  -- SR Affiliation Society #
+    ∷ share column.writer_synchronization_ownership (λ x. x.synchronization_ownership)  -- SR Ownership Share
     ∷ []
 
 -- SWT, Writer Territory of Control; from byte 49 the layout is that of this registry
 abbrev pub writer_territory : List (Part WriterTerritory)
 writer_territory =
     kind (codes "SWT")  -- Record Type
-    ∷ number 4 8 (λ x. x.prefix.transaction)  -- Transaction Sequence #
-    ∷ number 12 8 (λ x. x.prefix.detail)  -- Record Sequence #
-    ∷ text 20 9 (λ x. x.party)  -- Interested Party #
-    ∷ share 29 (λ x. x.performing_collection)  -- PR Collection Share
-    ∷ share 34 (λ x. x.mechanical_collection)  -- MR Collection Share
-    ∷ share 39 (λ x. x.synchronization_collection)  -- SR Collection Share
-    ∷ text 44 1 (λ x. x.indicator)  -- Inclusion/Exclusion Indicator
-    ∷ text 45 4 (λ x. x.territory)  -- TIS Numeric Code
-    ∷ text 49 1 (λ x. x.shares_change)  -- Shares Change
-    ∷ text 50 3 (λ x. x.sequence)  -- Sequence #
+    ∷ number column.prefix_transaction (λ x. x.prefix.transaction)  -- Transaction Sequence #
+    ∷ number column.prefix_detail (λ x. x.prefix.detail)  -- Record Sequence #
+    ∷ text column.writer_territory_party (λ x. x.party)  -- Interested Party #
+    ∷ share column.writer_territory_performing_collection (λ x. x.performing_collection)  -- PR Collection Share
+    ∷ share column.writer_territory_mechanical_collection (λ x. x.mechanical_collection)  -- MR Collection Share
+    ∷ share column.writer_territory_synchronization_collection (λ x. x.synchronization_collection)  -- SR Collection Share
+    ∷ text column.writer_territory_indicator (λ x. x.indicator)  -- Inclusion/Exclusion Indicator
+    ∷ text column.writer_territory_territory (λ x. x.territory)  -- TIS Numeric Code
+    ∷ text column.writer_territory_shares_change (λ x. x.shares_change)  -- Shares Change
+    ∷ text column.writer_territory_sequence (λ x. x.sequence)  -- Sequence #
     ∷ []
 
 -- PWR, Publisher for Writer; from byte 74 the layout is that of this registry
 abbrev pub link : List (Part Link)
 link =
     kind (codes "PWR")  -- Record Type
-    ∷ number 4 8 (λ x. x.prefix.transaction)  -- Transaction Sequence #
-    ∷ number 12 8 (λ x. x.prefix.detail)  -- Record Sequence #
-    ∷ text 20 9 (λ x. x.publisher_party)  -- Publisher IP #
-    ∷ text 29 45 (λ x. x.publisher_name)  -- Publisher Name
-    ∷ text 74 14 (λ x. x.submitter_agreement)  -- Submitter Agreement Number
-    ∷ text 88 14 (λ x. x.society_agreement)  -- Society-Assigned Agreement Number
-    ∷ text 102 9 (λ x. x.writer_party)  -- Writer IP #
+    ∷ number column.prefix_transaction (λ x. x.prefix.transaction)  -- Transaction Sequence #
+    ∷ number column.prefix_detail (λ x. x.prefix.detail)  -- Record Sequence #
+    ∷ text column.link_publisher_party (λ x. x.publisher_party)  -- Publisher IP #
+    ∷ text column.link_publisher_name (λ x. x.publisher_name)  -- Publisher Name
+    ∷ text column.link_submitter_agreement (λ x. x.submitter_agreement)  -- Submitter Agreement Number
+    ∷ text column.link_society_agreement (λ x. x.society_agreement)  -- Society-Assigned Agreement Number
+    ∷ text column.link_writer_party (λ x. x.writer_party)  -- Writer IP #
     ∷ []

@@ -10,6 +10,7 @@ ghost use Rattle.cwr_record.specs.declared.acknowledgement.Message.{Message};
 
 use crate::pieces::{Piece, put_line};
 use crate::prefix::Prefix;
+use crate::record_type::RecordType;
 use crate::slot::{Content, FieldFault, Slot, check, slots};
 use crate::values::{day_at, number_at, text_at, time_at};
 use cwr_field::{Clock, Day, Memory};
@@ -18,39 +19,39 @@ use std::alloc::Allocator;
 /// The acknowledgement of a transaction: ACK, Acknowledgement of Transaction.
 #[derive(Clone, Copy, Debug, PartialEq, Eq)]
 pub struct Ack {
-    /// The place of this record in the acknowledgement file, bytes 4 to 19.
+    /// The place of this record in the acknowledgement file.
     pub prefix: Prefix,
-    /// Creation date of the acknowledged file, bytes 20 to 27.
+    /// Creation date of the acknowledged file, at [`Ack::CREATION_DATE`].
     pub creation_date: Day,
-    /// Creation time of the acknowledged file, bytes 28 to 33.
+    /// Creation time of the acknowledged file, at [`Ack::CREATION_TIME`].
     pub creation_time: Clock,
-    /// Group id in the acknowledged file, bytes 34 to 38.
+    /// Group id in the acknowledged file, at [`Ack::ORIGINAL_GROUP`].
     pub original_group: u32,
-    /// Transaction sequence in the acknowledged file, bytes 39 to 46.
+    /// Transaction sequence in the acknowledged file, at [`Ack::ORIGINAL_TRANSACTION`].
     pub original_transaction: u32,
-    /// Transaction type in the acknowledged file, bytes 47 to 49.
+    /// Transaction type in the acknowledged file, at [`Ack::ORIGINAL_TYPE`].
     pub original_type: [u8; 3],
-    /// Creation title, bytes 50 to 109.
+    /// Creation title, at [`Ack::TITLE`].
     pub title: [u8; 60],
-    /// Submitter creation number, bytes 110 to 129.
+    /// Submitter creation number, at [`Ack::SUBMITTER_NUMBER`].
     pub submitter_number: [u8; 20],
-    /// Recipient creation number, bytes 130 to 149.
+    /// Recipient creation number, at [`Ack::RECIPIENT_NUMBER`].
     pub recipient_number: [u8; 20],
-    /// Processing date, bytes 150 to 157.
+    /// Processing date, at [`Ack::PROCESSING_DATE`].
     pub processing_date: Day,
-    /// Transaction status, bytes 158 and 159.
+    /// Transaction status, at [`Ack::STATUS`].
     pub status: [u8; 2],
 }
 
 const ACK: [Slot; 8] = slots! {
-    1, 3: Content::Kind(*b"ACK");
-    4, 8: Content::Digits;
-    12, 8: Content::Digits;
-    20, 8: Content::Day;
-    28, 6: Content::Time;
-    34, 5: Content::Digits;
-    39, 8: Content::Digits;
-    150, 8: Content::Day;
+    RecordType::COLUMN: Content::Kind(*b"ACK");
+    Prefix::TRANSACTION: Content::Digits;
+    Prefix::DETAIL: Content::Digits;
+    Ack::CREATION_DATE: Content::Day;
+    Ack::CREATION_TIME: Content::Time;
+    Ack::ORIGINAL_GROUP: Content::Digits;
+    Ack::ORIGINAL_TRANSACTION: Content::Digits;
+    Ack::PROCESSING_DATE: Content::Day;
 };
 
 /// The acknowledgement that a line is.
@@ -73,19 +74,19 @@ fn ack_at(line: &[u8]) -> Ack
 {
     Ack {
         prefix: Prefix {
-            transaction: number_at(line, 4, 8),
-            detail: number_at(line, 12, 8),
+            transaction: number_at(line, Prefix::TRANSACTION),
+            detail: number_at(line, Prefix::DETAIL),
         },
-        creation_date: day_at(line, 20),
-        creation_time: time_at(line, 28),
-        original_group: number_at(line, 34, 5),
-        original_transaction: number_at(line, 39, 8),
-        original_type: text_at(line, 47),
-        title: text_at(line, 50),
-        submitter_number: text_at(line, 110),
-        recipient_number: text_at(line, 130),
-        processing_date: day_at(line, 150),
-        status: text_at(line, 158),
+        creation_date: day_at(line, Ack::CREATION_DATE),
+        creation_time: time_at(line, Ack::CREATION_TIME),
+        original_group: number_at(line, Ack::ORIGINAL_GROUP),
+        original_transaction: number_at(line, Ack::ORIGINAL_TRANSACTION),
+        original_type: text_at(line, Ack::ORIGINAL_TYPE),
+        title: text_at(line, Ack::TITLE),
+        submitter_number: text_at(line, Ack::SUBMITTER_NUMBER),
+        recipient_number: text_at(line, Ack::RECIPIENT_NUMBER),
+        processing_date: day_at(line, Ack::PROCESSING_DATE),
+        status: text_at(line, Ack::STATUS),
     }
 }
 
@@ -102,19 +103,19 @@ pub fn write_ack<A: Allocator>(out: &mut Vec<u8, A>, ack: &Ack) -> Result<(), Me
     put_line(
         out,
         &[
-            Piece::Text(b"ACK", 3),
-            Piece::Digits(ack.prefix.transaction, 8),
-            Piece::Digits(ack.prefix.detail, 8),
+            Piece::Text(b"ACK", RecordType::COLUMN),
+            Piece::Digits(ack.prefix.transaction, Prefix::TRANSACTION),
+            Piece::Digits(ack.prefix.detail, Prefix::DETAIL),
             Piece::Day(ack.creation_date),
             Piece::Time(ack.creation_time),
-            Piece::Digits(ack.original_group, 5),
-            Piece::Digits(ack.original_transaction, 8),
-            Piece::Text(&ack.original_type, 3),
-            Piece::Text(&ack.title, 60),
-            Piece::Text(&ack.submitter_number, 20),
-            Piece::Text(&ack.recipient_number, 20),
+            Piece::Digits(ack.original_group, Ack::ORIGINAL_GROUP),
+            Piece::Digits(ack.original_transaction, Ack::ORIGINAL_TRANSACTION),
+            Piece::Text(&ack.original_type, Ack::ORIGINAL_TYPE),
+            Piece::Text(&ack.title, Ack::TITLE),
+            Piece::Text(&ack.submitter_number, Ack::SUBMITTER_NUMBER),
+            Piece::Text(&ack.recipient_number, Ack::RECIPIENT_NUMBER),
             Piece::Day(ack.processing_date),
-            Piece::Text(&ack.status, 2),
+            Piece::Text(&ack.status, Ack::STATUS),
         ],
     )
 }
@@ -122,28 +123,28 @@ pub fn write_ack<A: Allocator>(out: &mut Vec<u8, A>, ack: &Ack) -> Result<(), Me
 /// A message of an acknowledgement: MSG, Message. It says what is wrong with a record of the acknowledged transaction.
 #[derive(Clone, Copy, Debug, PartialEq, Eq)]
 pub struct Message {
-    /// The place of this record in the acknowledgement file, bytes 4 to 19.
+    /// The place of this record in the acknowledgement file.
     pub prefix: Prefix,
-    /// Message type, byte 20.
+    /// Message type, at [`Message::MESSAGE_TYPE`].
     pub message_type: [u8; 1],
-    /// Record sequence in the acknowledged transaction, bytes 21 to 28.
+    /// Record sequence in the acknowledged transaction, at [`Message::ORIGINAL_RECORD`].
     pub original_record: u32,
-    /// Type of that record, bytes 29 to 31.
+    /// Type of that record, at [`Message::RECORD_TYPE`].
     pub record_type: [u8; 3],
-    /// Message level, byte 32.
+    /// Message level, at [`Message::MESSAGE_LEVEL`].
     pub message_level: [u8; 1],
-    /// Validation number, bytes 33 to 35.
+    /// Validation number, at [`Message::VALIDATION_NUMBER`].
     pub validation_number: u16,
-    /// Message text, bytes 36 to 185.
+    /// Message text, at [`Message::TEXT`].
     pub text: [u8; 150],
 }
 
 const MESSAGE: [Slot; 5] = slots! {
-    1, 3: Content::Kind(*b"MSG");
-    4, 8: Content::Digits;
-    12, 8: Content::Digits;
-    21, 8: Content::Digits;
-    33, 3: Content::Digits;
+    RecordType::COLUMN: Content::Kind(*b"MSG");
+    Prefix::TRANSACTION: Content::Digits;
+    Prefix::DETAIL: Content::Digits;
+    Message::ORIGINAL_RECORD: Content::Digits;
+    Message::VALIDATION_NUMBER: Content::Digits;
 };
 
 /// The message that a line is.
@@ -166,15 +167,15 @@ fn message_at(line: &[u8]) -> Message
 {
     Message {
         prefix: Prefix {
-            transaction: number_at(line, 4, 8),
-            detail: number_at(line, 12, 8),
+            transaction: number_at(line, Prefix::TRANSACTION),
+            detail: number_at(line, Prefix::DETAIL),
         },
-        message_type: text_at(line, 20),
-        original_record: number_at(line, 21, 8),
-        record_type: text_at(line, 29),
-        message_level: text_at(line, 32),
-        validation_number: number_at(line, 33, 3) as u16,
-        text: text_at(line, 36),
+        message_type: text_at(line, Message::MESSAGE_TYPE),
+        original_record: number_at(line, Message::ORIGINAL_RECORD),
+        record_type: text_at(line, Message::RECORD_TYPE),
+        message_level: text_at(line, Message::MESSAGE_LEVEL),
+        validation_number: number_at(line, Message::VALIDATION_NUMBER) as u16,
+        text: text_at(line, Message::TEXT),
     }
 }
 
@@ -191,15 +192,15 @@ pub fn write_message<A: Allocator>(out: &mut Vec<u8, A>, message: &Message) -> R
     put_line(
         out,
         &[
-            Piece::Text(b"MSG", 3),
-            Piece::Digits(message.prefix.transaction, 8),
-            Piece::Digits(message.prefix.detail, 8),
-            Piece::Text(&message.message_type, 1),
-            Piece::Digits(message.original_record, 8),
-            Piece::Text(&message.record_type, 3),
-            Piece::Text(&message.message_level, 1),
-            Piece::Digits(message.validation_number as u32, 3),
-            Piece::Text(&message.text, 150),
+            Piece::Text(b"MSG", RecordType::COLUMN),
+            Piece::Digits(message.prefix.transaction, Prefix::TRANSACTION),
+            Piece::Digits(message.prefix.detail, Prefix::DETAIL),
+            Piece::Text(&message.message_type, Message::MESSAGE_TYPE),
+            Piece::Digits(message.original_record, Message::ORIGINAL_RECORD),
+            Piece::Text(&message.record_type, Message::RECORD_TYPE),
+            Piece::Text(&message.message_level, Message::MESSAGE_LEVEL),
+            Piece::Digits(message.validation_number as u32, Message::VALIDATION_NUMBER),
+            Piece::Text(&message.text, Message::TEXT),
         ],
     )
 }

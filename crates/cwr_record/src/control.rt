@@ -11,6 +11,7 @@ ghost use Rattle.cwr_record.specs.declared.control.GroupTrailer.{GroupTrailer};
 ghost use Rattle.cwr_record.specs.declared.control.FileTrailer.{FileTrailer};
 
 use crate::pieces::{Piece, put_line};
+use crate::record_type::RecordType;
 use crate::slot::{Content, FieldFault, Slot, check, slots};
 use crate::values::{day_at, number_at, text_at, time_at};
 use cwr_field::{Clock, Day, Memory};
@@ -19,30 +20,30 @@ use std::alloc::Allocator;
 /// The head of a file: HDR, Transmission Header.
 #[derive(Clone, Copy, Debug, PartialEq, Eq)]
 pub struct Header {
-    /// Sender type and sender id, bytes 4 to 14.
+    /// Sender type and sender id, at [`Header::SENDER`].
     pub sender: [u8; 11],
-    /// Sender name, bytes 15 to 59.
+    /// Sender name, at [`Header::NAME`].
     pub name: [u8; 45],
-    /// Creation date, bytes 65 to 72.
+    /// Creation date, at [`Header::CREATION_DATE`].
     pub creation_date: Day,
-    /// Creation time, bytes 73 to 78.
+    /// Creation time, at [`Header::CREATION_TIME`].
     pub creation_time: Clock,
-    /// Transmission date, bytes 79 to 86.
+    /// Transmission date, at [`Header::TRANSMISSION_DATE`].
     pub transmission_date: Day,
-    /// Character set, bytes 87 to 101.
+    /// Character set, at [`Header::CHARACTER_SET`].
     pub character_set: [u8; 15],
 }
 
 const HEADER: [Slot; 4] = slots! {
-    1, 3: Content::Kind(*b"HDR");
-    65, 8: Content::Day;
-    73, 6: Content::Time;
-    79, 8: Content::Day;
+    RecordType::COLUMN: Content::Kind(*b"HDR");
+    Header::CREATION_DATE: Content::Day;
+    Header::CREATION_TIME: Content::Time;
+    Header::TRANSMISSION_DATE: Content::Day;
 };
 
 /// The file header that a line is.
 ///
-/// The EDI version and what stands past byte 101 are not read. An error is the line's least fault.
+/// The EDI version and what stands past the character set are not read. An error is the line's least fault.
 pub fn read_header(line: &[u8]) -> Result<Header, FieldFault>
     ensures ok { IfOk result (StandsFor table.header line.now) }
     ensures fault { IfErr result (IsLeastFault line.now (checked table.header)) }
@@ -59,12 +60,12 @@ fn header_at(line: &[u8]) -> Header
     ensures { StandsFor table.header line.now result }
 {
     Header {
-        sender: text_at(line, 4),
-        name: text_at(line, 15),
-        creation_date: day_at(line, 65),
-        creation_time: time_at(line, 73),
-        transmission_date: day_at(line, 79),
-        character_set: text_at(line, 87),
+        sender: text_at(line, Header::SENDER),
+        name: text_at(line, Header::NAME),
+        creation_date: day_at(line, Header::CREATION_DATE),
+        creation_time: time_at(line, Header::CREATION_TIME),
+        transmission_date: day_at(line, Header::TRANSMISSION_DATE),
+        character_set: text_at(line, Header::CHARACTER_SET),
     }
 }
 
@@ -80,18 +81,18 @@ pub fn write_header<A: Allocator>(out: &mut Vec<u8, A>, header: &Header) -> Resu
     put_line(
         out,
         &[
-            Piece::Text(b"HDR", 3),
-            Piece::Text(&header.sender, 11),
-            Piece::Text(&header.name, 45),
-            Piece::Text(b"01.10", 5),
+            Piece::Text(b"HDR", RecordType::COLUMN),
+            Piece::Text(&header.sender, Header::SENDER),
+            Piece::Text(&header.name, Header::NAME),
+            Piece::Text(b"01.10", Header::STANDARD_VERSION),
             Piece::Day(header.creation_date),
             Piece::Time(header.creation_time),
             Piece::Day(header.transmission_date),
-            Piece::Text(&header.character_set, 15),
-            Piece::Text(b"2.2", 3),
-            Piece::Text(b"001", 3),
-            Piece::Text(b"CWR REGISTRY", 30),
-            Piece::Text(b"1.0", 30),
+            Piece::Text(&header.character_set, Header::CHARACTER_SET),
+            Piece::Text(b"2.2", Header::VERSION),
+            Piece::Text(b"001", Header::REVISION),
+            Piece::Text(b"CWR REGISTRY", Header::SOFTWARE_PACKAGE),
+            Piece::Text(b"1.0", Header::SOFTWARE_VERSION),
         ],
     )
 }
@@ -99,21 +100,21 @@ pub fn write_header<A: Allocator>(out: &mut Vec<u8, A>, header: &Header) -> Resu
 /// The head of a group: GRH, Group Header.
 #[derive(Clone, Copy, Debug, PartialEq, Eq)]
 pub struct GroupHead {
-    /// Transaction type of the group, bytes 4 to 6.
+    /// Transaction type of the group, at [`GroupHead::TRANSACTION_TYPE`].
     pub transaction_type: [u8; 3],
-    /// Group id, bytes 7 to 11: 1 for the first group of a file, and one more for each next one.
+    /// Group id, at [`GroupHead::GROUP`]: 1 for the first group of a file, and one more for each next one.
     pub group: u32,
-    /// Version number of the transaction type, bytes 12 to 16.
+    /// Version number of the transaction type, at [`GroupHead::VERSION`].
     pub version: [u8; 5],
-    /// Batch request, bytes 17 to 26.
+    /// Batch request, at [`GroupHead::BATCH_REQUEST`].
     pub batch_request: [u8; 10],
-    /// Submission or distribution type, bytes 27 and 28.
+    /// Submission or distribution type, at [`GroupHead::SUBMISSION_TYPE`].
     pub submission_type: [u8; 2],
 }
 
 const GROUP_HEAD: [Slot; 2] = slots! {
-    1, 3: Content::Kind(*b"GRH");
-    7, 5: Content::Digits;
+    RecordType::COLUMN: Content::Kind(*b"GRH");
+    GroupHead::GROUP: Content::Digits;
 };
 
 /// The group header that a line is.
@@ -135,11 +136,11 @@ fn group_head_at(line: &[u8]) -> GroupHead
     ensures { StandsFor table.group_head line.now result }
 {
     GroupHead {
-        transaction_type: text_at(line, 4),
-        group: number_at(line, 7, 5),
-        version: text_at(line, 12),
-        batch_request: text_at(line, 17),
-        submission_type: text_at(line, 27),
+        transaction_type: text_at(line, GroupHead::TRANSACTION_TYPE),
+        group: number_at(line, GroupHead::GROUP),
+        version: text_at(line, GroupHead::VERSION),
+        batch_request: text_at(line, GroupHead::BATCH_REQUEST),
+        submission_type: text_at(line, GroupHead::SUBMISSION_TYPE),
     }
 }
 
@@ -156,12 +157,12 @@ pub fn write_group_head<A: Allocator>(out: &mut Vec<u8, A>, head: &GroupHead) ->
     put_line(
         out,
         &[
-            Piece::Text(b"GRH", 3),
-            Piece::Text(&head.transaction_type, 3),
-            Piece::Digits(head.group, 5),
-            Piece::Text(&head.version, 5),
-            Piece::Text(&head.batch_request, 10),
-            Piece::Text(&head.submission_type, 2),
+            Piece::Text(b"GRH", RecordType::COLUMN),
+            Piece::Text(&head.transaction_type, GroupHead::TRANSACTION_TYPE),
+            Piece::Digits(head.group, GroupHead::GROUP),
+            Piece::Text(&head.version, GroupHead::VERSION),
+            Piece::Text(&head.batch_request, GroupHead::BATCH_REQUEST),
+            Piece::Text(&head.submission_type, GroupHead::SUBMISSION_TYPE),
         ],
     )
 }
@@ -169,24 +170,24 @@ pub fn write_group_head<A: Allocator>(out: &mut Vec<u8, A>, head: &GroupHead) ->
 /// The end of a group: GRT, Group Trailer.
 #[derive(Clone, Copy, Debug, PartialEq, Eq, Hash)]
 pub struct GroupTrailer {
-    /// Group id, bytes 4 to 8: that of the group's head.
+    /// Group id, at [`GroupTrailer::GROUP`]: that of the group's head.
     pub group: u32,
-    /// Transaction count, bytes 9 to 16: how many transactions the group has.
+    /// Transaction count, at [`GroupTrailer::TRANSACTIONS`]: how many transactions the group has.
     pub transactions: u32,
-    /// Record count, bytes 17 to 24: how many records the group has, its head and its trailer included.
+    /// Record count, at [`GroupTrailer::RECORDS`]: how many records the group has, its head and its trailer included.
     pub records: u32,
 }
 
 const GROUP_TRAILER: [Slot; 4] = slots! {
-    1, 3: Content::Kind(*b"GRT");
-    4, 5: Content::Digits;
-    9, 8: Content::Digits;
-    17, 8: Content::Digits;
+    RecordType::COLUMN: Content::Kind(*b"GRT");
+    GroupTrailer::GROUP: Content::Digits;
+    GroupTrailer::TRANSACTIONS: Content::Digits;
+    GroupTrailer::RECORDS: Content::Digits;
 };
 
 /// The group trailer that a line is.
 ///
-/// What stands past byte 24 is not read. An error is the line's least fault.
+/// What stands past the record count is not read. An error is the line's least fault.
 pub fn read_group_trailer(line: &[u8]) -> Result<GroupTrailer, FieldFault>
     ensures ok { IfOk result (StandsFor table.group_trailer line.now) }
     ensures fault { IfErr result (IsLeastFault line.now (checked table.group_trailer)) }
@@ -203,9 +204,9 @@ fn group_trailer_at(line: &[u8]) -> GroupTrailer
     ensures { StandsFor table.group_trailer line.now result }
 {
     GroupTrailer {
-        group: number_at(line, 4, 5),
-        transactions: number_at(line, 9, 8),
-        records: number_at(line, 17, 8),
+        group: number_at(line, GroupTrailer::GROUP),
+        transactions: number_at(line, GroupTrailer::TRANSACTIONS),
+        records: number_at(line, GroupTrailer::RECORDS),
     }
 }
 
@@ -225,11 +226,11 @@ pub fn write_group_trailer<A: Allocator>(
     put_line(
         out,
         &[
-            Piece::Text(b"GRT", 3),
-            Piece::Digits(trailer.group, 5),
-            Piece::Digits(trailer.transactions, 8),
-            Piece::Digits(trailer.records, 8),
-            Piece::Text(b"", 13),
+            Piece::Text(b"GRT", RecordType::COLUMN),
+            Piece::Digits(trailer.group, GroupTrailer::GROUP),
+            Piece::Digits(trailer.transactions, GroupTrailer::TRANSACTIONS),
+            Piece::Digits(trailer.records, GroupTrailer::RECORDS),
+            Piece::Text(b"", GroupTrailer::MONETARY_VALUE),
         ],
     )
 }
@@ -237,19 +238,19 @@ pub fn write_group_trailer<A: Allocator>(
 /// The end of a file: TRL, Transmission Trailer.
 #[derive(Clone, Copy, Debug, PartialEq, Eq, Hash)]
 pub struct FileTrailer {
-    /// Group count, bytes 4 to 8: how many groups the file has.
+    /// Group count, at [`FileTrailer::GROUPS`]: how many groups the file has.
     pub groups: u32,
-    /// Transaction count, bytes 9 to 16: how many transactions the file has.
+    /// Transaction count, at [`FileTrailer::TRANSACTIONS`]: how many transactions the file has.
     pub transactions: u32,
-    /// Record count, bytes 17 to 24: how many records the file has, its header and its trailer included.
+    /// Record count, at [`FileTrailer::RECORDS`]: how many records the file has, its header and its trailer included.
     pub records: u32,
 }
 
 const FILE_TRAILER: [Slot; 4] = slots! {
-    1, 3: Content::Kind(*b"TRL");
-    4, 5: Content::Digits;
-    9, 8: Content::Digits;
-    17, 8: Content::Digits;
+    RecordType::COLUMN: Content::Kind(*b"TRL");
+    FileTrailer::GROUPS: Content::Digits;
+    FileTrailer::TRANSACTIONS: Content::Digits;
+    FileTrailer::RECORDS: Content::Digits;
 };
 
 /// The file trailer that a line is.
@@ -271,9 +272,9 @@ fn file_trailer_at(line: &[u8]) -> FileTrailer
     ensures { StandsFor table.file_trailer line.now result }
 {
     FileTrailer {
-        groups: number_at(line, 4, 5),
-        transactions: number_at(line, 9, 8),
-        records: number_at(line, 17, 8),
+        groups: number_at(line, FileTrailer::GROUPS),
+        transactions: number_at(line, FileTrailer::TRANSACTIONS),
+        records: number_at(line, FileTrailer::RECORDS),
     }
 }
 
@@ -293,10 +294,10 @@ pub fn write_file_trailer<A: Allocator>(
     put_line(
         out,
         &[
-            Piece::Text(b"TRL", 3),
-            Piece::Digits(trailer.groups, 5),
-            Piece::Digits(trailer.transactions, 8),
-            Piece::Digits(trailer.records, 8),
+            Piece::Text(b"TRL", RecordType::COLUMN),
+            Piece::Digits(trailer.groups, FileTrailer::GROUPS),
+            Piece::Digits(trailer.transactions, FileTrailer::TRANSACTIONS),
+            Piece::Digits(trailer.records, FileTrailer::RECORDS),
         ],
     )
 }

@@ -14,18 +14,24 @@
 //! blanks followed it. A writer appends the line, or leaves the vector as it was where memory is refused. A line that
 //! was written is read as the value that was written.
 //!
-//! [`party_of`], [`publisher_of`], [`ownership_of`], [`collection_of`], [`indicator_of`] and [`territory_of`] read one
-//! field of a line, whatever its other fields hold, and take no memory.
+//! Where a field stands is a [`Column`]: each struct has one for each of its fields, as [`WorkHead::TITLE`], and
+//! [`field_at`] gives what a line has there, whatever its other fields hold. [`party_of`], [`publisher_of`],
+//! [`ownership_of`], [`collection_of`], [`indicator_of`] and [`territory_of`] read by it what each type of record has in
+//! columns of its own. None of these takes memory.
 //!
 //! Positions are bytes counted from 1, and a blank is byte 32. A text is an array of its field's width, blanks
 //! included. A share is in hundredths of one per cent, so that 10000 is the whole.
 //!
-//! The layouts stand in `specs/`, one table for each struct. There `StandsFor table line x` says that each field of
-//! the line is that part of `x`, `IsLeastFault` which fault is answered, and `line_of table x` is the line written.
+//! The layouts stand in `specs/`, one table for each struct, which names the columns of `specs/Columns.antt`. There
+//! `StandsFor table line x` says that each field of the line is that part of `x`, `IsLeastFault` which fault is
+//! answered, and `line_of table x` is the line written. [`laws`] says that the tables and the readers of single fields
+//! agree.
 #![tactic(auto)]
 
 mod acknowledgement;
+mod columns;
 mod control;
+pub mod laws;
 mod parties;
 mod pieces;
 mod prefix;
@@ -39,6 +45,7 @@ mod works;
 mod writers;
 
 pub use acknowledgement::{Ack, Message, read_ack, read_message, write_ack, write_message};
+pub use columns::{Column, field_at};
 pub use control::{
     FileTrailer, GroupHead, GroupTrailer, Header, read_file_trailer, read_group_head,
     read_group_trailer, read_header, write_file_trailer, write_group_head, write_group_trailer,
@@ -53,7 +60,7 @@ pub use publishers::{
     write_publisher, write_publisher_territory,
 };
 pub use record_type::{RecordType, type_of};
-pub use slot::FieldFault;
+pub use slot::{FieldFault, is_no_day};
 pub use stamp::Stamp;
 pub use status::Status;
 pub use works::{

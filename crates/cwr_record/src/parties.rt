@@ -1,106 +1,124 @@
-ghost use Rattle.std.specs.Prelude.{◌≡◌, ◌≤◌, ◌||◌, [], ◌∷◌, length, slice_index, IsTrue};
-ghost use Rattle.cwr_field.specs.Layout.{field, party_of};
-ghost use Rattle.cwr_record.specs.Parties.{has_ownership, has_collection, party_start, ownership_starts, collection_starts, indicator_start, territory_start, link_publisher_start, shares_at};
+ghost use Rattle.std.specs.Prelude.{◌≡◌, ◌≤◌, ◌||◌, length, slice_index, IsTrue};
+ghost use Rattle.cwr_field.specs.Layout.{party_of};
+ghost use Rattle.cwr_record.specs.Columns.{field_at, link_publisher_party};
+ghost use Rattle.cwr_record.specs.Parties.{has_ownership, has_collection, party_column, ownership_columns, collection_columns, indicator_column, territory_column, shares_at};
+ghost use Rattle.cwr_record.specs.Ranges.{is_in_line};
 ghost use Rattle.cwr_record.specs.Territory.{territory_of, without_leading, without_trailing, some_number};
 
+use crate::columns::{Column, field_at};
+use crate::publishers::{Publisher, PublisherTerritory};
 use crate::record_type::RecordType;
+use crate::writers::{Link, Writer, WriterTerritory};
 use cwr_field::{cut, digits, party, share};
 
-/// The shares of a line whose fields of five bytes start at these positions.
+/// The shares of a line in these columns.
 fn shares_at(
     line: &[u8],
-    performing: usize,
-    mechanical: usize,
-    synchronization: usize,
+    performing: Column,
+    mechanical: Column,
+    synchronization: Column,
 ) -> [Option<u16>; 3]
-    requires performing { (1 ≤ performing) × (performing ≤ 4096) }
-    requires mechanical { (1 ≤ mechanical) × (mechanical ≤ 4096) }
-    requires synchronization { (1 ≤ synchronization) × (synchronization ≤ 4096) }
-    ensures { result ≡ shares_at line.now (performing ∷ mechanical ∷ synchronization ∷ []) }
+    requires performing { IsTrue (is_in_line performing) × (performing.width ≡ 5) }
+    requires mechanical { IsTrue (is_in_line mechanical) × (mechanical.width ≡ 5) }
+    requires synchronization { IsTrue (is_in_line synchronization) × (synchronization.width ≡ 5) }
+    ensures { result ≡ shares_at line.now (record { performing = performing; mechanical = mechanical; synchronization = synchronization }) }
 {
     [
-        share(cut(line, performing, 5)),
-        share(cut(line, mechanical, 5)),
-        share(cut(line, synchronization, 5)),
+        share(field_at(line, performing)),
+        share(field_at(line, mechanical)),
+        share(field_at(line, synchronization)),
     ]
 }
 
 /// The interested party number of an SPU, OPU, SPT, SWR, OWR or SWT line of that type: its nine bytes, or `None`
 /// where they are blank.
-///
-/// It stands in bytes 22 to 30 of SPU and OPU, and in bytes 20 to 28 of the others.
 pub fn party_of(line: &[u8], record_type: RecordType) -> Option<[u8; 9]>
     requires { IsTrue (has_ownership record_type || has_collection record_type) }
-    ensures { result ≡ party_of (field line.now (party_start record_type) 9) }
+    ensures { result ≡ party_of (field_at line.now (party_column record_type)) }
 {
-    let start = match record_type {
-        RecordType::Spu | RecordType::Opu => 22,
-        _ => 20,
+    let column = match record_type {
+        RecordType::Spu | RecordType::Opu => Publisher::PARTY,
+        RecordType::Spt => PublisherTerritory::PARTY,
+        RecordType::Swt => WriterTerritory::PARTY,
+        _ => Writer::PARTY,
     };
-    party(cut(line, start, 9))
+    party(field_at(line, column))
 }
 
 /// The ownership shares of an SPU, OPU, SWR or OWR line of that type: performing, mechanical and synchronization
 /// right, in hundredths of one per cent. A field that holds no share is `None`; blanks are 0.
-///
-/// They stand in bytes 116 to 120, 124 to 128 and 132 to 136 of SPU and OPU, and in bytes 130 to 134, 138 to 142 and
-/// 146 to 150 of SWR and OWR.
 pub fn ownership_of(line: &[u8], record_type: RecordType) -> [Option<u16>; 3]
     requires { IsTrue (has_ownership record_type) }
-    ensures { result ≡ shares_at line.now (ownership_starts record_type) }
+    ensures { result ≡ shares_at line.now (ownership_columns record_type) }
 {
     match record_type {
-        RecordType::Spu | RecordType::Opu => shares_at(line, 116, 124, 132),
-        _ => shares_at(line, 130, 138, 146),
+        RecordType::Spu | RecordType::Opu => shares_at(
+            line,
+            Publisher::PERFORMING_OWNERSHIP,
+            Publisher::MECHANICAL_OWNERSHIP,
+            Publisher::SYNCHRONIZATION_OWNERSHIP,
+        ),
+        _ => shares_at(
+            line,
+            Writer::PERFORMING_OWNERSHIP,
+            Writer::MECHANICAL_OWNERSHIP,
+            Writer::SYNCHRONIZATION_OWNERSHIP,
+        ),
     }
 }
 
-/// The interested party number of the publisher that a PWR line names, bytes 20 to 28, or `None` where they are blank.
+/// The interested party number of the publisher that a PWR line names, or `None` where it is blank.
 pub fn publisher_of(line: &[u8]) -> Option<[u8; 9]>
-    ensures { result ≡ party_of (field line.now link_publisher_start 9) }
+    ensures { result ≡ party_of (field_at line.now link_publisher_party) }
 {
-    party(cut(line, 20, 9))
+    party(field_at(line, Link::PUBLISHER_PARTY))
 }
 
 /// The collection shares of an SPT or SWT line of that type: performing, mechanical and synchronization right, in
 /// hundredths of one per cent. A field that holds no share is `None`; blanks are 0.
-///
-/// They stand in bytes 35 to 39, 40 to 44 and 45 to 49 of SPT, and in bytes 29 to 33, 34 to 38 and 39 to 43 of SWT.
 pub fn collection_of(line: &[u8], record_type: RecordType) -> [Option<u16>; 3]
     requires { IsTrue (has_collection record_type) }
-    ensures { result ≡ shares_at line.now (collection_starts record_type) }
+    ensures { result ≡ shares_at line.now (collection_columns record_type) }
 {
     match record_type {
-        RecordType::Spt => shares_at(line, 35, 40, 45),
-        _ => shares_at(line, 29, 34, 39),
+        RecordType::Spt => shares_at(
+            line,
+            PublisherTerritory::PERFORMING_COLLECTION,
+            PublisherTerritory::MECHANICAL_COLLECTION,
+            PublisherTerritory::SYNCHRONIZATION_COLLECTION,
+        ),
+        _ => shares_at(
+            line,
+            WriterTerritory::PERFORMING_COLLECTION,
+            WriterTerritory::MECHANICAL_COLLECTION,
+            WriterTerritory::SYNCHRONIZATION_COLLECTION,
+        ),
     }
 }
 
-/// The inclusion or exclusion indicator of an SPT or SWT line of that type: byte 50 of SPT, byte 44 of SWT.
+/// The inclusion or exclusion indicator of an SPT or SWT line of that type, one byte.
 pub fn indicator_of(line: &[u8], record_type: RecordType) -> u8
     requires { IsTrue (has_collection record_type) }
-    ensures { result ≡ slice_index (field line.now (indicator_start record_type) 1) 0 }
+    ensures { result ≡ slice_index (field_at line.now (indicator_column record_type)) 0 }
 {
-    let start = match record_type {
-        RecordType::Spt => 50,
-        _ => 44,
+    let column = match record_type {
+        RecordType::Spt => PublisherTerritory::INDICATOR,
+        _ => WriterTerritory::INDICATOR,
     };
-    cut(line, start, 1).byte(0)
+    field_at(line, column).byte(0)
 }
 
 /// The territory (TIS) of an SPT or SWT line of that type: the number of the one to four digits that remain of its
 /// field once blanks before and after are removed, or `None` where anything else remains.
-///
-/// The field is bytes 51 to 54 of SPT, and bytes 45 to 48 of SWT.
 pub fn territory_of(line: &[u8], record_type: RecordType) -> Option<u16>
     requires { IsTrue (has_collection record_type) }
-    ensures { result ≡ territory_of (field line.now (territory_start record_type) 4) }
+    ensures { result ≡ territory_of (field_at line.now (territory_column record_type)) }
 {
-    let start = match record_type {
-        RecordType::Spt => 51,
-        _ => 45,
+    let column = match record_type {
+        RecordType::Spt => PublisherTerritory::TERRITORY,
+        _ => WriterTerritory::TERRITORY,
     };
-    let code = cut(line, start, 4).bytes::<4>();
+    let code = field_at(line, column).bytes::<4>();
     some_number(without_trailing(without_leading(&code)))
 }
 

@@ -5,16 +5,17 @@ ghost use Rattle.std.specs.List.{flat_map, AllByRecursion};
 ghost use Rattle.cwr_field.specs.Iswc.{iswc_text};
 ghost use Rattle.cwr_record.specs.Pieces.{piece_text, piece_width, FitsPiece};
 
+use crate::columns::Column;
 use cwr_field::{Clock, Day, Memory, check_digit, put_digits, put_text};
 use std::alloc::Allocator;
 
 /// A field that is written.
 #[derive(Clone, Copy)]
 pub(crate) enum Piece<'a> {
-    /// A text, and blanks up to the width.
-    Text(&'a [u8], usize),
-    /// A number in so many digits.
-    Digits(u32, usize),
+    /// A text, and blanks up to the width of its column.
+    Text(&'a [u8], Column),
+    /// A number in as many digits as its column has.
+    Digits(u32, Column),
     /// A share in five digits.
     Share(u16),
     /// A date.
@@ -53,8 +54,8 @@ fn put_piece<A: Allocator>(out: &mut Vec<u8, A>, piece: &Piece) -> Result<(), Me
     ensures full { OnErr result (vec_capacity out.old < vec_len out.old + piece_width piece.now) }
 {
     match *piece {
-        Piece::Text(text, width) => put_text(out, text, width),
-        Piece::Digits(value, width) => put_digits(out, value as u64, width),
+        Piece::Text(text, column) => put_text(out, text, column.width),
+        Piece::Digits(value, column) => put_digits(out, value as u64, column.width),
         Piece::Share(share) => put_digits(out, share as u64, 5),
         Piece::Day(day) => put_digits(out, day.number() as u64, 8),
         Piece::Time(time) => put_digits(out, time.number() as u64, 6),

@@ -1,6 +1,6 @@
 ghost use Rattle.std.specs.Prelude.{◌≡◌, ◌++◌, IfOk, IfErr, OnOk, OnErr, vec_len, vec_capacity, ◌<◌, ◌+◌, codes, IsSome, Some};
 ghost use Rattle.std.specs.List.{AllByRecursion};
-ghost use Rattle.cwr_field.specs.Layout.{field};
+ghost use Rattle.cwr_record.specs.Columns.{field_at, every_record_type};
 ghost use Rattle.cwr_record.specs.Kinds.{publisher_kind_code};
 ghost use Rattle.cwr_record.specs.declared.slot.Content.TheVariants as content;
 ghost use Rattle.cwr_record.specs.Layout.{StandsFor, value_of, Bytes};
@@ -13,6 +13,7 @@ ghost use Rattle.cwr_record.specs.declared.publishers.PublisherTerritory.{Publis
 
 use crate::pieces::{Piece, put_line};
 use crate::prefix::Prefix;
+use crate::record_type::RecordType;
 use crate::slot::{Content, FieldFault, Slot, check, slots};
 use crate::values::{is_first, number_at, share_at, text_at};
 use cwr_field::Memory;
@@ -41,8 +42,8 @@ impl PublisherKind {
 
 /// The kind of a publisher whose record type was checked.
 fn publisher_kind_at(line: &[u8]) -> PublisherKind
-    requires { IsSome (value_of (content.OneOf (codes "SPU") (codes "OPU")) (field line.now 1 3)) }
-    ensures { value_of (content.OneOf (codes "SPU") (codes "OPU")) (field line.now 1 3) ≡ Some (Bytes (publisher_kind_code result)) }
+    requires { IsSome (value_of (content.OneOf (codes "SPU") (codes "OPU")) (field_at line.now every_record_type)) }
+    ensures { value_of (content.OneOf (codes "SPU") (codes "OPU")) (field_at line.now every_record_type) ≡ Some (Bytes (publisher_kind_code result)) }
 {
     if is_first(line, *b"SPU", *b"OPU") {
         PublisherKind::Spu
@@ -54,47 +55,47 @@ fn publisher_kind_at(line: &[u8]) -> PublisherKind
 /// A publisher of a work: SPU, Publisher Controlled by Submitter, or OPU, Other Publisher.
 #[derive(Clone, Copy, Debug, PartialEq, Eq)]
 pub struct Publisher {
-    /// Which record of which transaction it is, bytes 4 to 19.
+    /// Which record of which transaction it is.
     pub prefix: Prefix,
-    /// The record type, bytes 1 to 3.
+    /// The record type, at [`RecordType::COLUMN`].
     pub kind: PublisherKind,
-    /// Publisher sequence, bytes 20 and 21.
+    /// Publisher sequence, at [`Publisher::SEQUENCE`].
     pub sequence: [u8; 2],
-    /// Interested party number, bytes 22 to 30.
+    /// Interested party number, at [`Publisher::PARTY`].
     pub party: [u8; 9],
-    /// Publisher name, bytes 31 to 75.
+    /// Publisher name, at [`Publisher::NAME`].
     pub name: [u8; 45],
-    /// Unknown indicator, byte 76.
+    /// Unknown indicator, at [`Publisher::UNKNOWN_INDICATOR`].
     pub unknown_indicator: [u8; 1],
-    /// Publisher type, bytes 77 and 78.
+    /// Publisher type, at [`Publisher::PUBLISHER_TYPE`].
     pub publisher_type: [u8; 2],
-    /// Tax id, bytes 79 to 87.
+    /// Tax id, at [`Publisher::TAX_ID`].
     pub tax_id: [u8; 9],
-    /// IPI name number, bytes 88 to 98.
+    /// IPI name number, at [`Publisher::IPI_NAME_NUMBER`].
     pub ipi_name_number: [u8; 11],
-    /// Submitter agreement number, bytes 99 to 112.
+    /// Submitter agreement number, at [`Publisher::SUBMITTER_AGREEMENT`].
     pub submitter_agreement: [u8; 14],
-    /// Society of the performing right, bytes 113 to 115.
+    /// Society of the performing right, at [`Publisher::PERFORMING_SOCIETY`].
     pub performing_society: [u8; 3],
-    /// Ownership share of the performing right, bytes 116 to 120, in hundredths of one per cent.
+    /// Ownership share of the performing right, at [`Publisher::PERFORMING_OWNERSHIP`], in hundredths of one per cent.
     pub performing_ownership: u16,
-    /// Society of the mechanical right, bytes 121 to 123.
+    /// Society of the mechanical right, at [`Publisher::MECHANICAL_SOCIETY`].
     pub mechanical_society: [u8; 3],
-    /// Ownership share of the mechanical right, bytes 124 to 128, in hundredths of one per cent.
+    /// Ownership share of the mechanical right, at [`Publisher::MECHANICAL_OWNERSHIP`], in hundredths of one per cent.
     pub mechanical_ownership: u16,
-    /// Society of the synchronization right, bytes 129 to 131.
+    /// Society of the synchronization right, at [`Publisher::SYNCHRONIZATION_SOCIETY`].
     pub synchronization_society: [u8; 3],
-    /// Ownership share of the synchronization right, bytes 132 to 136, in hundredths of one per cent.
+    /// Ownership share of the synchronization right, at [`Publisher::SYNCHRONIZATION_OWNERSHIP`], in hundredths of one per cent.
     pub synchronization_ownership: u16,
 }
 
 const PUBLISHER: [Slot; 6] = slots! {
-    1, 3: Content::OneOf(*b"SPU", *b"OPU");
-    4, 8: Content::Digits;
-    12, 8: Content::Digits;
-    116, 5: Content::Share;
-    124, 5: Content::Share;
-    132, 5: Content::Share;
+    RecordType::COLUMN: Content::OneOf(*b"SPU", *b"OPU");
+    Prefix::TRANSACTION: Content::Digits;
+    Prefix::DETAIL: Content::Digits;
+    Publisher::PERFORMING_OWNERSHIP: Content::Share;
+    Publisher::MECHANICAL_OWNERSHIP: Content::Share;
+    Publisher::SYNCHRONIZATION_OWNERSHIP: Content::Share;
 };
 
 /// The publisher that a line is.
@@ -117,24 +118,24 @@ fn publisher_at(line: &[u8]) -> Publisher
 {
     Publisher {
         prefix: Prefix {
-            transaction: number_at(line, 4, 8),
-            detail: number_at(line, 12, 8),
+            transaction: number_at(line, Prefix::TRANSACTION),
+            detail: number_at(line, Prefix::DETAIL),
         },
         kind: publisher_kind_at(line),
-        sequence: text_at(line, 20),
-        party: text_at(line, 22),
-        name: text_at(line, 31),
-        unknown_indicator: text_at(line, 76),
-        publisher_type: text_at(line, 77),
-        tax_id: text_at(line, 79),
-        ipi_name_number: text_at(line, 88),
-        submitter_agreement: text_at(line, 99),
-        performing_society: text_at(line, 113),
-        performing_ownership: share_at(line, 116),
-        mechanical_society: text_at(line, 121),
-        mechanical_ownership: share_at(line, 124),
-        synchronization_society: text_at(line, 129),
-        synchronization_ownership: share_at(line, 132),
+        sequence: text_at(line, Publisher::SEQUENCE),
+        party: text_at(line, Publisher::PARTY),
+        name: text_at(line, Publisher::NAME),
+        unknown_indicator: text_at(line, Publisher::UNKNOWN_INDICATOR),
+        publisher_type: text_at(line, Publisher::PUBLISHER_TYPE),
+        tax_id: text_at(line, Publisher::TAX_ID),
+        ipi_name_number: text_at(line, Publisher::IPI_NAME_NUMBER),
+        submitter_agreement: text_at(line, Publisher::SUBMITTER_AGREEMENT),
+        performing_society: text_at(line, Publisher::PERFORMING_SOCIETY),
+        performing_ownership: share_at(line, Publisher::PERFORMING_OWNERSHIP),
+        mechanical_society: text_at(line, Publisher::MECHANICAL_SOCIETY),
+        mechanical_ownership: share_at(line, Publisher::MECHANICAL_OWNERSHIP),
+        synchronization_society: text_at(line, Publisher::SYNCHRONIZATION_SOCIETY),
+        synchronization_ownership: share_at(line, Publisher::SYNCHRONIZATION_OWNERSHIP),
     }
 }
 
@@ -154,22 +155,28 @@ pub fn write_publisher<A: Allocator>(
     put_line(
         out,
         &[
-            Piece::Text(publisher.kind.code(), 3),
-            Piece::Digits(publisher.prefix.transaction, 8),
-            Piece::Digits(publisher.prefix.detail, 8),
-            Piece::Text(&publisher.sequence, 2),
-            Piece::Text(&publisher.party, 9),
-            Piece::Text(&publisher.name, 45),
-            Piece::Text(&publisher.unknown_indicator, 1),
-            Piece::Text(&publisher.publisher_type, 2),
-            Piece::Text(&publisher.tax_id, 9),
-            Piece::Text(&publisher.ipi_name_number, 11),
-            Piece::Text(&publisher.submitter_agreement, 14),
-            Piece::Text(&publisher.performing_society, 3),
+            Piece::Text(publisher.kind.code(), RecordType::COLUMN),
+            Piece::Digits(publisher.prefix.transaction, Prefix::TRANSACTION),
+            Piece::Digits(publisher.prefix.detail, Prefix::DETAIL),
+            Piece::Text(&publisher.sequence, Publisher::SEQUENCE),
+            Piece::Text(&publisher.party, Publisher::PARTY),
+            Piece::Text(&publisher.name, Publisher::NAME),
+            Piece::Text(&publisher.unknown_indicator, Publisher::UNKNOWN_INDICATOR),
+            Piece::Text(&publisher.publisher_type, Publisher::PUBLISHER_TYPE),
+            Piece::Text(&publisher.tax_id, Publisher::TAX_ID),
+            Piece::Text(&publisher.ipi_name_number, Publisher::IPI_NAME_NUMBER),
+            Piece::Text(
+                &publisher.submitter_agreement,
+                Publisher::SUBMITTER_AGREEMENT,
+            ),
+            Piece::Text(&publisher.performing_society, Publisher::PERFORMING_SOCIETY),
             Piece::Share(publisher.performing_ownership),
-            Piece::Text(&publisher.mechanical_society, 3),
+            Piece::Text(&publisher.mechanical_society, Publisher::MECHANICAL_SOCIETY),
             Piece::Share(publisher.mechanical_ownership),
-            Piece::Text(&publisher.synchronization_society, 3),
+            Piece::Text(
+                &publisher.synchronization_society,
+                Publisher::SYNCHRONIZATION_SOCIETY,
+            ),
             Piece::Share(publisher.synchronization_ownership),
         ],
     )
@@ -178,38 +185,38 @@ pub fn write_publisher<A: Allocator>(
 /// Where a publisher collects shares: SPT, Publisher Territory of Control.
 #[derive(Clone, Copy, Debug, PartialEq, Eq)]
 pub struct PublisherTerritory {
-    /// Which record of which transaction it is, bytes 4 to 19.
+    /// Which record of which transaction it is.
     pub prefix: Prefix,
-    /// Interested party number, bytes 20 to 28.
+    /// Interested party number, at [`PublisherTerritory::PARTY`].
     pub party: [u8; 9],
-    /// Collection share of the performing right, bytes 35 to 39, in hundredths of one per cent.
+    /// Collection share of the performing right, at [`PublisherTerritory::PERFORMING_COLLECTION`], in hundredths of one per cent.
     pub performing_collection: u16,
-    /// Collection share of the mechanical right, bytes 40 to 44, in hundredths of one per cent.
+    /// Collection share of the mechanical right, at [`PublisherTerritory::MECHANICAL_COLLECTION`], in hundredths of one per cent.
     pub mechanical_collection: u16,
-    /// Collection share of the synchronization right, bytes 45 to 49, in hundredths of one per cent.
+    /// Collection share of the synchronization right, at [`PublisherTerritory::SYNCHRONIZATION_COLLECTION`], in hundredths of one per cent.
     pub synchronization_collection: u16,
-    /// Inclusion or exclusion indicator, byte 50.
+    /// Inclusion or exclusion indicator, at [`PublisherTerritory::INDICATOR`].
     pub indicator: [u8; 1],
-    /// Territory code (TIS), bytes 51 to 54.
+    /// Territory code (TIS), at [`PublisherTerritory::TERRITORY`].
     pub territory: [u8; 4],
-    /// Shares change, byte 55.
+    /// Shares change, at [`PublisherTerritory::SHARES_CHANGE`].
     pub shares_change: [u8; 1],
-    /// Sequence, bytes 56 to 58.
+    /// Sequence, at [`PublisherTerritory::SEQUENCE`].
     pub sequence: [u8; 3],
 }
 
 const PUBLISHER_TERRITORY: [Slot; 6] = slots! {
-    1, 3: Content::Kind(*b"SPT");
-    4, 8: Content::Digits;
-    12, 8: Content::Digits;
-    35, 5: Content::Share;
-    40, 5: Content::Share;
-    45, 5: Content::Share;
+    RecordType::COLUMN: Content::Kind(*b"SPT");
+    Prefix::TRANSACTION: Content::Digits;
+    Prefix::DETAIL: Content::Digits;
+    PublisherTerritory::PERFORMING_COLLECTION: Content::Share;
+    PublisherTerritory::MECHANICAL_COLLECTION: Content::Share;
+    PublisherTerritory::SYNCHRONIZATION_COLLECTION: Content::Share;
 };
 
 /// The publisher's territory that a line is.
 ///
-/// Bytes 29 to 34 are not read. An error is the line's least fault.
+/// What stands between the party and the shares is not read. An error is the line's least fault.
 pub fn read_publisher_territory(line: &[u8]) -> Result<PublisherTerritory, FieldFault>
     ensures ok { IfOk result (StandsFor table.publisher_territory line.now) }
     ensures fault { IfErr result (IsLeastFault line.now (checked table.publisher_territory)) }
@@ -227,17 +234,17 @@ fn publisher_territory_at(line: &[u8]) -> PublisherTerritory
 {
     PublisherTerritory {
         prefix: Prefix {
-            transaction: number_at(line, 4, 8),
-            detail: number_at(line, 12, 8),
+            transaction: number_at(line, Prefix::TRANSACTION),
+            detail: number_at(line, Prefix::DETAIL),
         },
-        party: text_at(line, 20),
-        performing_collection: share_at(line, 35),
-        mechanical_collection: share_at(line, 40),
-        synchronization_collection: share_at(line, 45),
-        indicator: text_at(line, 50),
-        territory: text_at(line, 51),
-        shares_change: text_at(line, 55),
-        sequence: text_at(line, 56),
+        party: text_at(line, PublisherTerritory::PARTY),
+        performing_collection: share_at(line, PublisherTerritory::PERFORMING_COLLECTION),
+        mechanical_collection: share_at(line, PublisherTerritory::MECHANICAL_COLLECTION),
+        synchronization_collection: share_at(line, PublisherTerritory::SYNCHRONIZATION_COLLECTION),
+        indicator: text_at(line, PublisherTerritory::INDICATOR),
+        territory: text_at(line, PublisherTerritory::TERRITORY),
+        shares_change: text_at(line, PublisherTerritory::SHARES_CHANGE),
+        sequence: text_at(line, PublisherTerritory::SEQUENCE),
     }
 }
 
@@ -257,18 +264,18 @@ pub fn write_publisher_territory<A: Allocator>(
     put_line(
         out,
         &[
-            Piece::Text(b"SPT", 3),
-            Piece::Digits(territory.prefix.transaction, 8),
-            Piece::Digits(territory.prefix.detail, 8),
-            Piece::Text(&territory.party, 9),
-            Piece::Text(b"", 6),
+            Piece::Text(b"SPT", RecordType::COLUMN),
+            Piece::Digits(territory.prefix.transaction, Prefix::TRANSACTION),
+            Piece::Digits(territory.prefix.detail, Prefix::DETAIL),
+            Piece::Text(&territory.party, PublisherTerritory::PARTY),
+            Piece::Text(b"", PublisherTerritory::CONSTANT),
             Piece::Share(territory.performing_collection),
             Piece::Share(territory.mechanical_collection),
             Piece::Share(territory.synchronization_collection),
-            Piece::Text(&territory.indicator, 1),
-            Piece::Text(&territory.territory, 4),
-            Piece::Text(&territory.shares_change, 1),
-            Piece::Text(&territory.sequence, 3),
+            Piece::Text(&territory.indicator, PublisherTerritory::INDICATOR),
+            Piece::Text(&territory.territory, PublisherTerritory::TERRITORY),
+            Piece::Text(&territory.shares_change, PublisherTerritory::SHARES_CHANGE),
+            Piece::Text(&territory.sequence, PublisherTerritory::SEQUENCE),
         ],
     )
 }

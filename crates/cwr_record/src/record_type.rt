@@ -4,9 +4,9 @@ ghost use Rattle.std.specs.Char.{is_ascii_uppercase};
 ghost use Rattle.cwr_record.specs.RecordTypes.{type_of, is_other};
 ghost use Rattle.cwr_record.specs.Parties.{has_ownership, has_collection};
 
-use cwr_field::cut;
+use crate::columns::field_at;
 
-/// The type of a record, which the first three bytes of its line name.
+/// The type of a record, which the first three bytes of its line name: [`RecordType::COLUMN`].
 #[derive(Clone, Copy, Debug, PartialEq, Eq, Hash)]
 pub enum RecordType {
     /// HDR, Transmission Header.
@@ -72,7 +72,7 @@ impl RecordType {
 pub fn type_of(line: &[u8]) -> RecordType
     ensures { result ≡ type_of line.now }
 {
-    let name = cut(line, 1, 3).bytes::<3>();
+    let name = field_at(line, RecordType::COLUMN).bytes::<3>();
     if name == *b"NWR" {
         RecordType::Nwr
     } else if name == *b"REV" {

@@ -3,9 +3,10 @@ ghost use Rattle.std.specs.List.{AllByRecursion};
 ghost use Rattle.cwr_record.specs.Layout.{reading, is_no_day};
 ghost use Rattle.cwr_record.specs.Faults.{fault_number, IsLeastFault};
 ghost use Rattle.cwr_record.specs.Readable.{IsReadable};
-ghost use Rattle.cwr_record.specs.Ranges.{is_in_line, all_in_line, starts_rise};
+ghost use Rattle.cwr_record.specs.Ranges.{is_slot, all_in_line, starts_rise};
 
-use cwr_field::{Field, Iswc, cut, date, digits, iswc, share, time};
+use crate::columns::{Column, field_at};
+use cwr_field::{Field, Iswc, date, digits, iswc, share, time};
 
 /// Eight zeros: the optional date of a work whose copyright date is not known.
 const NO_DAY: [u8; 8] = *b"00000000";
@@ -60,25 +61,24 @@ impl Content {
     }
 }
 
-/// A field of a layout: where it starts, counted from 1, its width in bytes, and what it holds.
+/// A field of a layout: where it stands, and what it holds.
 #[derive(Clone, Copy)]
 pub(crate) struct Slot {
-    pub(crate) start: usize,
-    pub(crate) width: usize,
+    pub(crate) column: Column,
     pub(crate) content: Content,
 }
 
-/// The slots of a layout, one a line: `start, width: content;`.
+/// The slots of a layout, one a line: `column: content;`.
 macro_rules! slots {
-    ($($start:literal, $width:literal: $content:expr;)*) => {
-        [$(Slot { start: $start, width: $width, content: $content }),*]
+    ($($column:path: $content:expr;)*) => {
+        [$(Slot { column: $column, content: $content }),*]
     };
 }
 
 pub(crate) use slots;
 
-/// Whether a field of eight bytes holds blanks or zeros.
-pub(crate) fn is_no_day(text: &Field) -> bool
+/// Whether a field of eight bytes holds blanks or zeros, which stand for no date.
+pub fn is_no_day(text: &Field) -> bool
     requires { length text.now ≡ 8 }
     ensures { result ≡ is_no_day text.now }
 {
@@ -86,11 +86,11 @@ pub(crate) fn is_no_day(text: &Field) -> bool
 }
 
 fn is_readable(line: &[u8], slot: &Slot) -> bool
-    requires { IsTrue (is_in_line slot.now) }
+    requires { IsTrue (is_slot slot.now) }
     ensures value { result ≡ is_some (reading line.now slot.now) }
     ensures readable { IsTrue result → IsReadable line.now slot.now }
 {
-    let text = cut(line, slot.start, slot.width);
+    let text = field_at(line, slot.column);
     match slot.content {
         Content::Kind(code) => text.bytes() == code,
         Content::OneOf(first, second) => {
@@ -119,7 +119,7 @@ pub(crate) fn check(line: &[u8], slots: &[Slot]) -> Result<(), FieldFault>
     for slot in slots {
         if !is_readable(line, slot) {
             return Err(FieldFault {
-                start: slot.start,
+                start: slot.column.start,
                 number: slot.content.fault_number(),
             });
         }

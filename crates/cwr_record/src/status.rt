@@ -15,7 +15,7 @@ pub enum Status {
 }
 
 impl Status {
-    /// Its two letters, bytes 158 and 159 of an ACK record: `AS`, `DU`, `CO` or `RJ`.
+    /// Its two letters, the status of an ACK record: `AS`, `DU`, `CO` or `RJ`.
     pub fn code(self) -> &'static [u8; 2]
         ensures { result.now ≡ status_text self }
     {

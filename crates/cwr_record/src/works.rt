@@ -1,6 +1,6 @@
 ghost use Rattle.std.specs.Prelude.{◌≡◌, ◌++◌, IfOk, IfErr, OnOk, OnErr, vec_len, vec_capacity, ◌<◌, ◌+◌, codes, IsSome, Some};
 ghost use Rattle.std.specs.List.{AllByRecursion};
-ghost use Rattle.cwr_field.specs.Layout.{field};
+ghost use Rattle.cwr_record.specs.Columns.{field_at, every_record_type};
 ghost use Rattle.cwr_record.specs.Kinds.{work_kind_code};
 ghost use Rattle.cwr_record.specs.declared.slot.Content.TheVariants as content;
 ghost use Rattle.cwr_record.specs.Layout.{StandsFor, value_of, Bytes};
@@ -14,6 +14,7 @@ ghost use Rattle.cwr_record.specs.declared.works.CrossRef.{CrossRef};
 
 use crate::pieces::{Piece, put_line};
 use crate::prefix::Prefix;
+use crate::record_type::RecordType;
 use crate::slot::{Content, FieldFault, Slot, check, slots};
 use crate::values::{code_at, is_first, number_at, optional_day_at, optional_time_at, text_at};
 use cwr_field::{Clock, Day, Memory};
@@ -29,7 +30,7 @@ pub enum WorkKind {
 }
 
 impl WorkKind {
-    /// The record type that names it: `NWR` or `REV`, bytes 1 to 3 of its head.
+    /// The record type that names it: `NWR` or `REV`.
     pub fn code(self) -> &'static [u8; 3]
         ensures { result.now ≡ work_kind_code self }
     {
@@ -42,8 +43,8 @@ impl WorkKind {
 
 /// The kind of a registration whose record type was checked.
 fn work_kind_at(line: &[u8]) -> WorkKind
-    requires { IsSome (value_of (content.OneOf (codes "NWR") (codes "REV")) (field line.now 1 3)) }
-    ensures { value_of (content.OneOf (codes "NWR") (codes "REV")) (field line.now 1 3) ≡ Some (Bytes (work_kind_code result)) }
+    requires { IsSome (value_of (content.OneOf (codes "NWR") (codes "REV")) (field_at line.now every_record_type)) }
+    ensures { value_of (content.OneOf (codes "NWR") (codes "REV")) (field_at line.now every_record_type) ≡ Some (Bytes (work_kind_code result)) }
 {
     if is_first(line, *b"NWR", *b"REV") {
         WorkKind::Nwr
@@ -55,53 +56,53 @@ fn work_kind_at(line: &[u8]) -> WorkKind
 /// The head of a work's registration: NWR, New Work Registration, or REV, Revised Registration.
 #[derive(Clone, Copy, Debug, PartialEq, Eq)]
 pub struct WorkHead {
-    /// Which record of which transaction it is, bytes 4 to 19.
+    /// Which record of which transaction it is.
     pub prefix: Prefix,
-    /// The record type, bytes 1 to 3.
+    /// The record type, at [`RecordType::COLUMN`].
     pub kind: WorkKind,
-    /// Work title, bytes 20 to 79.
+    /// Work title, at [`WorkHead::TITLE`].
     pub title: [u8; 60],
-    /// Language code, bytes 80 and 81.
+    /// Language code, at [`WorkHead::LANGUAGE`].
     pub language: [u8; 2],
-    /// Submitter work number, bytes 82 to 95.
+    /// Submitter work number, at [`WorkHead::SUBMITTER_NUMBER`].
     pub submitter_number: [u8; 14],
-    /// Work code (ISWC), bytes 96 to 106: the number of its nine digits, `None` for blanks.
+    /// Work code (ISWC), at [`WorkHead::ISWC`]: the number of its nine digits, `None` for blanks.
     pub iswc: Option<u64>,
-    /// Copyright date, bytes 107 to 114, `None` for blanks and for 00000000.
+    /// Copyright date, at [`WorkHead::COPYRIGHT_DATE`], `None` for blanks and for 00000000.
     pub copyright_date: Option<Day>,
-    /// Copyright number, bytes 115 to 126.
+    /// Copyright number, at [`WorkHead::COPYRIGHT_NUMBER`].
     pub copyright_number: [u8; 12],
-    /// Musical work distribution category, bytes 127 to 129.
+    /// Musical work distribution category, at [`WorkHead::DISTRIBUTION_CATEGORY`].
     pub distribution_category: [u8; 3],
-    /// Duration in hours, minutes and seconds, bytes 130 to 135, `None` for blanks.
+    /// Duration in hours, minutes and seconds, at [`WorkHead::DURATION`], `None` for blanks.
     pub duration: Option<Clock>,
-    /// Recorded indicator, byte 136.
+    /// Recorded indicator, at [`WorkHead::RECORDED_INDICATOR`].
     pub recorded_indicator: [u8; 1],
-    /// Text music relationship, bytes 137 to 139.
+    /// Text music relationship, at [`WorkHead::TEXT_MUSIC_RELATIONSHIP`].
     pub text_music_relationship: [u8; 3],
-    /// Composite type, bytes 140 to 142.
+    /// Composite type, at [`WorkHead::COMPOSITE_TYPE`].
     pub composite_type: [u8; 3],
-    /// Version type, bytes 143 to 145.
+    /// Version type, at [`WorkHead::VERSION_TYPE`].
     pub version_type: [u8; 3],
-    /// Excerpt type, bytes 146 to 148.
+    /// Excerpt type, at [`WorkHead::EXCERPT_TYPE`].
     pub excerpt_type: [u8; 3],
-    /// Music arrangement, bytes 149 to 151.
+    /// Music arrangement, at [`WorkHead::ARRANGEMENT`].
     pub arrangement: [u8; 3],
-    /// Lyric adaptation, bytes 152 to 154.
+    /// Lyric adaptation, at [`WorkHead::LYRIC_ADAPTATION`].
     pub lyric_adaptation: [u8; 3],
-    /// Contact name, bytes 155 to 184.
+    /// Contact name, at [`WorkHead::CONTACT_NAME`].
     pub contact_name: [u8; 30],
-    /// Contact id, bytes 185 to 194.
+    /// Contact id, at [`WorkHead::CONTACT_ID`].
     pub contact_id: [u8; 10],
 }
 
 const WORK_HEAD: [Slot; 6] = slots! {
-    1, 3: Content::OneOf(*b"NWR", *b"REV");
-    4, 8: Content::Digits;
-    12, 8: Content::Digits;
-    96, 11: Content::Code;
-    107, 8: Content::OptionalDay;
-    130, 6: Content::OptionalTime;
+    RecordType::COLUMN: Content::OneOf(*b"NWR", *b"REV");
+    Prefix::TRANSACTION: Content::Digits;
+    Prefix::DETAIL: Content::Digits;
+    WorkHead::ISWC: Content::Code;
+    WorkHead::COPYRIGHT_DATE: Content::OptionalDay;
+    WorkHead::DURATION: Content::OptionalTime;
 };
 
 /// The registration's head that a line is.
@@ -124,27 +125,27 @@ fn work_head_at(line: &[u8]) -> WorkHead
 {
     WorkHead {
         prefix: Prefix {
-            transaction: number_at(line, 4, 8),
-            detail: number_at(line, 12, 8),
+            transaction: number_at(line, Prefix::TRANSACTION),
+            detail: number_at(line, Prefix::DETAIL),
         },
         kind: work_kind_at(line),
-        title: text_at(line, 20),
-        language: text_at(line, 80),
-        submitter_number: text_at(line, 82),
-        iswc: code_at(line, 96),
-        copyright_date: optional_day_at(line, 107),
-        copyright_number: text_at(line, 115),
-        distribution_category: text_at(line, 127),
-        duration: optional_time_at(line, 130),
-        recorded_indicator: text_at(line, 136),
-        text_music_relationship: text_at(line, 137),
-        composite_type: text_at(line, 140),
-        version_type: text_at(line, 143),
-        excerpt_type: text_at(line, 146),
-        arrangement: text_at(line, 149),
-        lyric_adaptation: text_at(line, 152),
-        contact_name: text_at(line, 155),
-        contact_id: text_at(line, 185),
+        title: text_at(line, WorkHead::TITLE),
+        language: text_at(line, WorkHead::LANGUAGE),
+        submitter_number: text_at(line, WorkHead::SUBMITTER_NUMBER),
+        iswc: code_at(line, WorkHead::ISWC),
+        copyright_date: optional_day_at(line, WorkHead::COPYRIGHT_DATE),
+        copyright_number: text_at(line, WorkHead::COPYRIGHT_NUMBER),
+        distribution_category: text_at(line, WorkHead::DISTRIBUTION_CATEGORY),
+        duration: optional_time_at(line, WorkHead::DURATION),
+        recorded_indicator: text_at(line, WorkHead::RECORDED_INDICATOR),
+        text_music_relationship: text_at(line, WorkHead::TEXT_MUSIC_RELATIONSHIP),
+        composite_type: text_at(line, WorkHead::COMPOSITE_TYPE),
+        version_type: text_at(line, WorkHead::VERSION_TYPE),
+        excerpt_type: text_at(line, WorkHead::EXCERPT_TYPE),
+        arrangement: text_at(line, WorkHead::ARRANGEMENT),
+        lyric_adaptation: text_at(line, WorkHead::LYRIC_ADAPTATION),
+        contact_name: text_at(line, WorkHead::CONTACT_NAME),
+        contact_id: text_at(line, WorkHead::CONTACT_ID),
     }
 }
 
@@ -161,26 +162,29 @@ pub fn write_work_head<A: Allocator>(out: &mut Vec<u8, A>, head: &WorkHead) -> R
     put_line(
         out,
         &[
-            Piece::Text(head.kind.code(), 3),
-            Piece::Digits(head.prefix.transaction, 8),
-            Piece::Digits(head.prefix.detail, 8),
-            Piece::Text(&head.title, 60),
-            Piece::Text(&head.language, 2),
-            Piece::Text(&head.submitter_number, 14),
+            Piece::Text(head.kind.code(), RecordType::COLUMN),
+            Piece::Digits(head.prefix.transaction, Prefix::TRANSACTION),
+            Piece::Digits(head.prefix.detail, Prefix::DETAIL),
+            Piece::Text(&head.title, WorkHead::TITLE),
+            Piece::Text(&head.language, WorkHead::LANGUAGE),
+            Piece::Text(&head.submitter_number, WorkHead::SUBMITTER_NUMBER),
             Piece::Code(head.iswc),
             Piece::OptionalDay(head.copyright_date),
-            Piece::Text(&head.copyright_number, 12),
-            Piece::Text(&head.distribution_category, 3),
+            Piece::Text(&head.copyright_number, WorkHead::COPYRIGHT_NUMBER),
+            Piece::Text(&head.distribution_category, WorkHead::DISTRIBUTION_CATEGORY),
             Piece::OptionalTime(head.duration),
-            Piece::Text(&head.recorded_indicator, 1),
-            Piece::Text(&head.text_music_relationship, 3),
-            Piece::Text(&head.composite_type, 3),
-            Piece::Text(&head.version_type, 3),
-            Piece::Text(&head.excerpt_type, 3),
-            Piece::Text(&head.arrangement, 3),
-            Piece::Text(&head.lyric_adaptation, 3),
-            Piece::Text(&head.contact_name, 30),
-            Piece::Text(&head.contact_id, 10),
+            Piece::Text(&head.recorded_indicator, WorkHead::RECORDED_INDICATOR),
+            Piece::Text(
+                &head.text_music_relationship,
+                WorkHead::TEXT_MUSIC_RELATIONSHIP,
+            ),
+            Piece::Text(&head.composite_type, WorkHead::COMPOSITE_TYPE),
+            Piece::Text(&head.version_type, WorkHead::VERSION_TYPE),
+            Piece::Text(&head.excerpt_type, WorkHead::EXCERPT_TYPE),
+            Piece::Text(&head.arrangement, WorkHead::ARRANGEMENT),
+            Piece::Text(&head.lyric_adaptation, WorkHead::LYRIC_ADAPTATION),
+            Piece::Text(&head.contact_name, WorkHead::CONTACT_NAME),
+            Piece::Text(&head.contact_id, WorkHead::CONTACT_ID),
         ],
     )
 }
@@ -188,20 +192,20 @@ pub fn write_work_head<A: Allocator>(out: &mut Vec<u8, A>, head: &WorkHead) -> R
 /// An alternate title of a work: ALT, Alternate Title.
 #[derive(Clone, Copy, Debug, PartialEq, Eq)]
 pub struct AltTitle {
-    /// Which record of which transaction it is, bytes 4 to 19.
+    /// Which record of which transaction it is.
     pub prefix: Prefix,
-    /// Alternate title, bytes 20 to 79.
+    /// Alternate title, at [`AltTitle::TITLE`].
     pub title: [u8; 60],
-    /// Title type, bytes 80 and 81.
+    /// Title type, at [`AltTitle::TITLE_TYPE`].
     pub title_type: [u8; 2],
-    /// Language code, bytes 82 and 83.
+    /// Language code, at [`AltTitle::LANGUAGE`].
     pub language: [u8; 2],
 }
 
 const ALT_TITLE: [Slot; 3] = slots! {
-    1, 3: Content::Kind(*b"ALT");
-    4, 8: Content::Digits;
-    12, 8: Content::Digits;
+    RecordType::COLUMN: Content::Kind(*b"ALT");
+    Prefix::TRANSACTION: Content::Digits;
+    Prefix::DETAIL: Content::Digits;
 };
 
 /// The alternate title that a line is.
@@ -224,12 +228,12 @@ fn alt_title_at(line: &[u8]) -> AltTitle
 {
     AltTitle {
         prefix: Prefix {
-            transaction: number_at(line, 4, 8),
-            detail: number_at(line, 12, 8),
+            transaction: number_at(line, Prefix::TRANSACTION),
+            detail: number_at(line, Prefix::DETAIL),
         },
-        title: text_at(line, 20),
-        title_type: text_at(line, 80),
-        language: text_at(line, 82),
+        title: text_at(line, AltTitle::TITLE),
+        title_type: text_at(line, AltTitle::TITLE_TYPE),
+        language: text_at(line, AltTitle::LANGUAGE),
     }
 }
 
@@ -249,12 +253,12 @@ pub fn write_alt_title<A: Allocator>(
     put_line(
         out,
         &[
-            Piece::Text(b"ALT", 3),
-            Piece::Digits(alternate.prefix.transaction, 8),
-            Piece::Digits(alternate.prefix.detail, 8),
-            Piece::Text(&alternate.title, 60),
-            Piece::Text(&alternate.title_type, 2),
-            Piece::Text(&alternate.language, 2),
+            Piece::Text(b"ALT", RecordType::COLUMN),
+            Piece::Digits(alternate.prefix.transaction, Prefix::TRANSACTION),
+            Piece::Digits(alternate.prefix.detail, Prefix::DETAIL),
+            Piece::Text(&alternate.title, AltTitle::TITLE),
+            Piece::Text(&alternate.title_type, AltTitle::TITLE_TYPE),
+            Piece::Text(&alternate.language, AltTitle::LANGUAGE),
         ],
     )
 }
@@ -262,22 +266,22 @@ pub fn write_alt_title<A: Allocator>(
 /// Another organisation's number of a work: XRF, Work ID Cross Reference, in the layout of this registry.
 #[derive(Clone, Copy, Debug, PartialEq, Eq)]
 pub struct CrossRef {
-    /// Which record of which transaction it is, bytes 4 to 19.
+    /// Which record of which transaction it is.
     pub prefix: Prefix,
-    /// Organisation code, bytes 20 to 22.
+    /// Organisation code, at [`CrossRef::ORGANISATION`].
     pub organisation: [u8; 3],
-    /// Identifier, bytes 23 to 36.
+    /// Identifier, at [`CrossRef::IDENTIFIER`].
     pub identifier: [u8; 14],
-    /// Identifier type, byte 37.
+    /// Identifier type, at [`CrossRef::IDENTIFIER_TYPE`].
     pub identifier_type: [u8; 1],
-    /// Validity, byte 38.
+    /// Validity, at [`CrossRef::VALIDITY`].
     pub validity: [u8; 1],
 }
 
 const CROSS_REF: [Slot; 3] = slots! {
-    1, 3: Content::Kind(*b"XRF");
-    4, 8: Content::Digits;
-    12, 8: Content::Digits;
+    RecordType::COLUMN: Content::Kind(*b"XRF");
+    Prefix::TRANSACTION: Content::Digits;
+    Prefix::DETAIL: Content::Digits;
 };
 
 /// The cross reference that a line is.
@@ -300,13 +304,13 @@ fn cross_ref_at(line: &[u8]) -> CrossRef
 {
     CrossRef {
         prefix: Prefix {
-            transaction: number_at(line, 4, 8),
-            detail: number_at(line, 12, 8),
+            transaction: number_at(line, Prefix::TRANSACTION),
+            detail: number_at(line, Prefix::DETAIL),
         },
-        organisation: text_at(line, 20),
-        identifier: text_at(line, 23),
-        identifier_type: text_at(line, 37),
-        validity: text_at(line, 38),
+        organisation: text_at(line, CrossRef::ORGANISATION),
+        identifier: text_at(line, CrossRef::IDENTIFIER),
+        identifier_type: text_at(line, CrossRef::IDENTIFIER_TYPE),
+        validity: text_at(line, CrossRef::VALIDITY),
     }
 }
 
@@ -326,13 +330,13 @@ pub fn write_cross_ref<A: Allocator>(
     put_line(
         out,
         &[
-            Piece::Text(b"XRF", 3),
-            Piece::Digits(reference.prefix.transaction, 8),
-            Piece::Digits(reference.prefix.detail, 8),
-            Piece::Text(&reference.organisation, 3),
-            Piece::Text(&reference.identifier, 14),
-            Piece::Text(&reference.identifier_type, 1),
-            Piece::Text(&reference.validity, 1),
+            Piece::Text(b"XRF", RecordType::COLUMN),
+            Piece::Digits(reference.prefix.transaction, Prefix::TRANSACTION),
+            Piece::Digits(reference.prefix.detail, Prefix::DETAIL),
+            Piece::Text(&reference.organisation, CrossRef::ORGANISATION),
+            Piece::Text(&reference.identifier, CrossRef::IDENTIFIER),
+            Piece::Text(&reference.identifier_type, CrossRef::IDENTIFIER_TYPE),
+            Piece::Text(&reference.validity, CrossRef::VALIDITY),
         ],
     )
 }

@@ -1,6 +1,6 @@
 ghost use Rattle.std.specs.Prelude.{◌≡◌, ◌++◌, IfOk, IfErr, OnOk, OnErr, vec_len, vec_capacity, ◌<◌, ◌+◌, codes, IsSome, Some};
 ghost use Rattle.std.specs.List.{AllByRecursion};
-ghost use Rattle.cwr_field.specs.Layout.{field};
+ghost use Rattle.cwr_record.specs.Columns.{field_at, every_record_type};
 ghost use Rattle.cwr_record.specs.Kinds.{writer_kind_code};
 ghost use Rattle.cwr_record.specs.declared.slot.Content.TheVariants as content;
 ghost use Rattle.cwr_record.specs.Layout.{StandsFor, value_of, Bytes};
@@ -14,6 +14,7 @@ ghost use Rattle.cwr_record.specs.declared.writers.Link.{Link};
 
 use crate::pieces::{Piece, put_line};
 use crate::prefix::Prefix;
+use crate::record_type::RecordType;
 use crate::slot::{Content, FieldFault, Slot, check, slots};
 use crate::values::{is_first, number_at, share_at, text_at};
 use cwr_field::Memory;
@@ -42,8 +43,8 @@ impl WriterKind {
 
 /// The kind of a writer whose record type was checked.
 fn writer_kind_at(line: &[u8]) -> WriterKind
-    requires { IsSome (value_of (content.OneOf (codes "SWR") (codes "OWR")) (field line.now 1 3)) }
-    ensures { value_of (content.OneOf (codes "SWR") (codes "OWR")) (field line.now 1 3) ≡ Some (Bytes (writer_kind_code result)) }
+    requires { IsSome (value_of (content.OneOf (codes "SWR") (codes "OWR")) (field_at line.now every_record_type)) }
+    ensures { value_of (content.OneOf (codes "SWR") (codes "OWR")) (field_at line.now every_record_type) ≡ Some (Bytes (writer_kind_code result)) }
 {
     if is_first(line, *b"SWR", *b"OWR") {
         WriterKind::Swr
@@ -55,45 +56,45 @@ fn writer_kind_at(line: &[u8]) -> WriterKind
 /// A writer of a work: SWR, Writer Controlled by Submitter, or OWR, Other Writer.
 #[derive(Clone, Copy, Debug, PartialEq, Eq)]
 pub struct Writer {
-    /// Which record of which transaction it is, bytes 4 to 19.
+    /// Which record of which transaction it is.
     pub prefix: Prefix,
-    /// The record type, bytes 1 to 3.
+    /// The record type, at [`RecordType::COLUMN`].
     pub kind: WriterKind,
-    /// Interested party number, bytes 20 to 28.
+    /// Interested party number, at [`Writer::PARTY`].
     pub party: [u8; 9],
-    /// Last name, bytes 29 to 73.
+    /// Last name, at [`Writer::LAST_NAME`].
     pub last_name: [u8; 45],
-    /// First name, bytes 74 to 103.
+    /// First name, at [`Writer::FIRST_NAME`].
     pub first_name: [u8; 30],
-    /// Unknown indicator, byte 104.
+    /// Unknown indicator, at [`Writer::UNKNOWN_INDICATOR`].
     pub unknown_indicator: [u8; 1],
-    /// Designation, bytes 105 and 106.
+    /// Designation, at [`Writer::DESIGNATION`].
     pub designation: [u8; 2],
-    /// Tax id, bytes 107 to 115.
+    /// Tax id, at [`Writer::TAX_ID`].
     pub tax_id: [u8; 9],
-    /// IPI name number, bytes 116 to 126.
+    /// IPI name number, at [`Writer::IPI_NAME_NUMBER`].
     pub ipi_name_number: [u8; 11],
-    /// Society of the performing right, bytes 127 to 129.
+    /// Society of the performing right, at [`Writer::PERFORMING_SOCIETY`].
     pub performing_society: [u8; 3],
-    /// Ownership share of the performing right, bytes 130 to 134, in hundredths of one per cent.
+    /// Ownership share of the performing right, at [`Writer::PERFORMING_OWNERSHIP`], in hundredths of one per cent.
     pub performing_ownership: u16,
-    /// Society of the mechanical right, bytes 135 to 137.
+    /// Society of the mechanical right, at [`Writer::MECHANICAL_SOCIETY`].
     pub mechanical_society: [u8; 3],
-    /// Ownership share of the mechanical right, bytes 138 to 142, in hundredths of one per cent.
+    /// Ownership share of the mechanical right, at [`Writer::MECHANICAL_OWNERSHIP`], in hundredths of one per cent.
     pub mechanical_ownership: u16,
-    /// Society of the synchronization right, bytes 143 to 145.
+    /// Society of the synchronization right, at [`Writer::SYNCHRONIZATION_SOCIETY`].
     pub synchronization_society: [u8; 3],
-    /// Ownership share of the synchronization right, bytes 146 to 150, in hundredths of one per cent.
+    /// Ownership share of the synchronization right, at [`Writer::SYNCHRONIZATION_OWNERSHIP`], in hundredths of one per cent.
     pub synchronization_ownership: u16,
 }
 
 const WRITER: [Slot; 6] = slots! {
-    1, 3: Content::OneOf(*b"SWR", *b"OWR");
-    4, 8: Content::Digits;
-    12, 8: Content::Digits;
-    130, 5: Content::Share;
-    138, 5: Content::Share;
-    146, 5: Content::Share;
+    RecordType::COLUMN: Content::OneOf(*b"SWR", *b"OWR");
+    Prefix::TRANSACTION: Content::Digits;
+    Prefix::DETAIL: Content::Digits;
+    Writer::PERFORMING_OWNERSHIP: Content::Share;
+    Writer::MECHANICAL_OWNERSHIP: Content::Share;
+    Writer::SYNCHRONIZATION_OWNERSHIP: Content::Share;
 };
 
 /// The writer that a line is.
@@ -116,23 +117,23 @@ fn writer_at(line: &[u8]) -> Writer
 {
     Writer {
         prefix: Prefix {
-            transaction: number_at(line, 4, 8),
-            detail: number_at(line, 12, 8),
+            transaction: number_at(line, Prefix::TRANSACTION),
+            detail: number_at(line, Prefix::DETAIL),
         },
         kind: writer_kind_at(line),
-        party: text_at(line, 20),
-        last_name: text_at(line, 29),
-        first_name: text_at(line, 74),
-        unknown_indicator: text_at(line, 104),
-        designation: text_at(line, 105),
-        tax_id: text_at(line, 107),
-        ipi_name_number: text_at(line, 116),
-        performing_society: text_at(line, 127),
-        performing_ownership: share_at(line, 130),
-        mechanical_society: text_at(line, 135),
-        mechanical_ownership: share_at(line, 138),
-        synchronization_society: text_at(line, 143),
-        synchronization_ownership: share_at(line, 146),
+        party: text_at(line, Writer::PARTY),
+        last_name: text_at(line, Writer::LAST_NAME),
+        first_name: text_at(line, Writer::FIRST_NAME),
+        unknown_indicator: text_at(line, Writer::UNKNOWN_INDICATOR),
+        designation: text_at(line, Writer::DESIGNATION),
+        tax_id: text_at(line, Writer::TAX_ID),
+        ipi_name_number: text_at(line, Writer::IPI_NAME_NUMBER),
+        performing_society: text_at(line, Writer::PERFORMING_SOCIETY),
+        performing_ownership: share_at(line, Writer::PERFORMING_OWNERSHIP),
+        mechanical_society: text_at(line, Writer::MECHANICAL_SOCIETY),
+        mechanical_ownership: share_at(line, Writer::MECHANICAL_OWNERSHIP),
+        synchronization_society: text_at(line, Writer::SYNCHRONIZATION_SOCIETY),
+        synchronization_ownership: share_at(line, Writer::SYNCHRONIZATION_OWNERSHIP),
     }
 }
 
@@ -149,21 +150,24 @@ pub fn write_writer<A: Allocator>(out: &mut Vec<u8, A>, writer: &Writer) -> Resu
     put_line(
         out,
         &[
-            Piece::Text(writer.kind.code(), 3),
-            Piece::Digits(writer.prefix.transaction, 8),
-            Piece::Digits(writer.prefix.detail, 8),
-            Piece::Text(&writer.party, 9),
-            Piece::Text(&writer.last_name, 45),
-            Piece::Text(&writer.first_name, 30),
-            Piece::Text(&writer.unknown_indicator, 1),
-            Piece::Text(&writer.designation, 2),
-            Piece::Text(&writer.tax_id, 9),
-            Piece::Text(&writer.ipi_name_number, 11),
-            Piece::Text(&writer.performing_society, 3),
+            Piece::Text(writer.kind.code(), RecordType::COLUMN),
+            Piece::Digits(writer.prefix.transaction, Prefix::TRANSACTION),
+            Piece::Digits(writer.prefix.detail, Prefix::DETAIL),
+            Piece::Text(&writer.party, Writer::PARTY),
+            Piece::Text(&writer.last_name, Writer::LAST_NAME),
+            Piece::Text(&writer.first_name, Writer::FIRST_NAME),
+            Piece::Text(&writer.unknown_indicator, Writer::UNKNOWN_INDICATOR),
+            Piece::Text(&writer.designation, Writer::DESIGNATION),
+            Piece::Text(&writer.tax_id, Writer::TAX_ID),
+            Piece::Text(&writer.ipi_name_number, Writer::IPI_NAME_NUMBER),
+            Piece::Text(&writer.performing_society, Writer::PERFORMING_SOCIETY),
             Piece::Share(writer.performing_ownership),
-            Piece::Text(&writer.mechanical_society, 3),
+            Piece::Text(&writer.mechanical_society, Writer::MECHANICAL_SOCIETY),
             Piece::Share(writer.mechanical_ownership),
-            Piece::Text(&writer.synchronization_society, 3),
+            Piece::Text(
+                &writer.synchronization_society,
+                Writer::SYNCHRONIZATION_SOCIETY,
+            ),
             Piece::Share(writer.synchronization_ownership),
         ],
     )
@@ -172,33 +176,33 @@ pub fn write_writer<A: Allocator>(out: &mut Vec<u8, A>, writer: &Writer) -> Resu
 /// Where a writer collects shares: SWT, Writer Territory of Control.
 #[derive(Clone, Copy, Debug, PartialEq, Eq)]
 pub struct WriterTerritory {
-    /// Which record of which transaction it is, bytes 4 to 19.
+    /// Which record of which transaction it is.
     pub prefix: Prefix,
-    /// Interested party number, bytes 20 to 28.
+    /// Interested party number, at [`WriterTerritory::PARTY`].
     pub party: [u8; 9],
-    /// Collection share of the performing right, bytes 29 to 33, in hundredths of one per cent.
+    /// Collection share of the performing right, at [`WriterTerritory::PERFORMING_COLLECTION`], in hundredths of one per cent.
     pub performing_collection: u16,
-    /// Collection share of the mechanical right, bytes 34 to 38, in hundredths of one per cent.
+    /// Collection share of the mechanical right, at [`WriterTerritory::MECHANICAL_COLLECTION`], in hundredths of one per cent.
     pub mechanical_collection: u16,
-    /// Collection share of the synchronization right, bytes 39 to 43, in hundredths of one per cent.
+    /// Collection share of the synchronization right, at [`WriterTerritory::SYNCHRONIZATION_COLLECTION`], in hundredths of one per cent.
     pub synchronization_collection: u16,
-    /// Inclusion or exclusion indicator, byte 44.
+    /// Inclusion or exclusion indicator, at [`WriterTerritory::INDICATOR`].
     pub indicator: [u8; 1],
-    /// Territory code (TIS), bytes 45 to 48.
+    /// Territory code (TIS), at [`WriterTerritory::TERRITORY`].
     pub territory: [u8; 4],
-    /// Shares change, byte 49.
+    /// Shares change, at [`WriterTerritory::SHARES_CHANGE`].
     pub shares_change: [u8; 1],
-    /// Sequence, bytes 50 to 52.
+    /// Sequence, at [`WriterTerritory::SEQUENCE`].
     pub sequence: [u8; 3],
 }
 
 const WRITER_TERRITORY: [Slot; 6] = slots! {
-    1, 3: Content::Kind(*b"SWT");
-    4, 8: Content::Digits;
-    12, 8: Content::Digits;
-    29, 5: Content::Share;
-    34, 5: Content::Share;
-    39, 5: Content::Share;
+    RecordType::COLUMN: Content::Kind(*b"SWT");
+    Prefix::TRANSACTION: Content::Digits;
+    Prefix::DETAIL: Content::Digits;
+    WriterTerritory::PERFORMING_COLLECTION: Content::Share;
+    WriterTerritory::MECHANICAL_COLLECTION: Content::Share;
+    WriterTerritory::SYNCHRONIZATION_COLLECTION: Content::Share;
 };
 
 /// The writer's territory that a line is.
@@ -221,17 +225,17 @@ fn writer_territory_at(line: &[u8]) -> WriterTerritory
 {
     WriterTerritory {
         prefix: Prefix {
-            transaction: number_at(line, 4, 8),
-            detail: number_at(line, 12, 8),
+            transaction: number_at(line, Prefix::TRANSACTION),
+            detail: number_at(line, Prefix::DETAIL),
         },
-        party: text_at(line, 20),
-        performing_collection: share_at(line, 29),
-        mechanical_collection: share_at(line, 34),
-        synchronization_collection: share_at(line, 39),
-        indicator: text_at(line, 44),
-        territory: text_at(line, 45),
-        shares_change: text_at(line, 49),
-        sequence: text_at(line, 50),
+        party: text_at(line, WriterTerritory::PARTY),
+        performing_collection: share_at(line, WriterTerritory::PERFORMING_COLLECTION),
+        mechanical_collection: share_at(line, WriterTerritory::MECHANICAL_COLLECTION),
+        synchronization_collection: share_at(line, WriterTerritory::SYNCHRONIZATION_COLLECTION),
+        indicator: text_at(line, WriterTerritory::INDICATOR),
+        territory: text_at(line, WriterTerritory::TERRITORY),
+        shares_change: text_at(line, WriterTerritory::SHARES_CHANGE),
+        sequence: text_at(line, WriterTerritory::SEQUENCE),
     }
 }
 
@@ -251,17 +255,17 @@ pub fn write_writer_territory<A: Allocator>(
     put_line(
         out,
         &[
-            Piece::Text(b"SWT", 3),
-            Piece::Digits(territory.prefix.transaction, 8),
-            Piece::Digits(territory.prefix.detail, 8),
-            Piece::Text(&territory.party, 9),
+            Piece::Text(b"SWT", RecordType::COLUMN),
+            Piece::Digits(territory.prefix.transaction, Prefix::TRANSACTION),
+            Piece::Digits(territory.prefix.detail, Prefix::DETAIL),
+            Piece::Text(&territory.party, WriterTerritory::PARTY),
             Piece::Share(territory.performing_collection),
             Piece::Share(territory.mechanical_collection),
             Piece::Share(territory.synchronization_collection),
-            Piece::Text(&territory.indicator, 1),
-            Piece::Text(&territory.territory, 4),
-            Piece::Text(&territory.shares_change, 1),
-            Piece::Text(&territory.sequence, 3),
+            Piece::Text(&territory.indicator, WriterTerritory::INDICATOR),
+            Piece::Text(&territory.territory, WriterTerritory::TERRITORY),
+            Piece::Text(&territory.shares_change, WriterTerritory::SHARES_CHANGE),
+            Piece::Text(&territory.sequence, WriterTerritory::SEQUENCE),
         ],
     )
 }
@@ -269,24 +273,24 @@ pub fn write_writer_territory<A: Allocator>(
 /// The publisher of a writer: PWR, Publisher for Writer.
 #[derive(Clone, Copy, Debug, PartialEq, Eq)]
 pub struct Link {
-    /// Which record of which transaction it is, bytes 4 to 19.
+    /// Which record of which transaction it is.
     pub prefix: Prefix,
-    /// Interested party number of the publisher, bytes 20 to 28.
+    /// Interested party number of the publisher, at [`Link::PUBLISHER_PARTY`].
     pub publisher_party: [u8; 9],
-    /// Publisher name, bytes 29 to 73.
+    /// Publisher name, at [`Link::PUBLISHER_NAME`].
     pub publisher_name: [u8; 45],
-    /// Submitter agreement number, bytes 74 to 87.
+    /// Submitter agreement number, at [`Link::SUBMITTER_AGREEMENT`].
     pub submitter_agreement: [u8; 14],
-    /// Society agreement number, bytes 88 to 101.
+    /// Society agreement number, at [`Link::SOCIETY_AGREEMENT`].
     pub society_agreement: [u8; 14],
-    /// Interested party number of the writer, bytes 102 to 110.
+    /// Interested party number of the writer, at [`Link::WRITER_PARTY`].
     pub writer_party: [u8; 9],
 }
 
 const LINK: [Slot; 3] = slots! {
-    1, 3: Content::Kind(*b"PWR");
-    4, 8: Content::Digits;
-    12, 8: Content::Digits;
+    RecordType::COLUMN: Content::Kind(*b"PWR");
+    Prefix::TRANSACTION: Content::Digits;
+    Prefix::DETAIL: Content::Digits;
 };
 
 /// The writer's publisher that a line is.
@@ -309,14 +313,14 @@ fn link_at(line: &[u8]) -> Link
 {
     Link {
         prefix: Prefix {
-            transaction: number_at(line, 4, 8),
-            detail: number_at(line, 12, 8),
+            transaction: number_at(line, Prefix::TRANSACTION),
+            detail: number_at(line, Prefix::DETAIL),
         },
-        publisher_party: text_at(line, 20),
-        publisher_name: text_at(line, 29),
-        submitter_agreement: text_at(line, 74),
-        society_agreement: text_at(line, 88),
-        writer_party: text_at(line, 102),
+        publisher_party: text_at(line, Link::PUBLISHER_PARTY),
+        publisher_name: text_at(line, Link::PUBLISHER_NAME),
+        submitter_agreement: text_at(line, Link::SUBMITTER_AGREEMENT),
+        society_agreement: text_at(line, Link::SOCIETY_AGREEMENT),
+        writer_party: text_at(line, Link::WRITER_PARTY),
     }
 }
 
@@ -333,14 +337,14 @@ pub fn write_link<A: Allocator>(out: &mut Vec<u8, A>, link: &Link) -> Result<(),
     put_line(
         out,
         &[
-            Piece::Text(b"PWR", 3),
-            Piece::Digits(link.prefix.transaction, 8),
-            Piece::Digits(link.prefix.detail, 8),
-            Piece::Text(&link.publisher_party, 9),
-            Piece::Text(&link.publisher_name, 45),
-            Piece::Text(&link.submitter_agreement, 14),
-            Piece::Text(&link.society_agreement, 14),
-            Piece::Text(&link.writer_party, 9),
+            Piece::Text(b"PWR", RecordType::COLUMN),
+            Piece::Digits(link.prefix.transaction, Prefix::TRANSACTION),
+            Piece::Digits(link.prefix.detail, Prefix::DETAIL),
+            Piece::Text(&link.publisher_party, Link::PUBLISHER_PARTY),
+            Piece::Text(&link.publisher_name, Link::PUBLISHER_NAME),
+            Piece::Text(&link.submitter_agreement, Link::SUBMITTER_AGREEMENT),
+            Piece::Text(&link.society_agreement, Link::SOCIETY_AGREEMENT),
+            Piece::Text(&link.writer_party, Link::WRITER_PARTY),
         ],
     )
 }

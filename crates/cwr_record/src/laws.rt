@@ -1,0 +1,41 @@
+//! What the fields of a line are that stands for a record: the layouts and what reads single fields agree.
+//!
+//! A law is a function that does nothing. Its contract is what is proved.
+
+ghost use Rattle.std.specs.Prelude.{◌≡◌, ℕ, List};
+ghost use Rattle.cwr_record.specs.Layout.{StandsFor};
+ghost use Rattle.cwr_record.specs.LineOf.{type_of_work, IsLineOfPublisher, IsLineOfPublisherTerritory, IsLineOfWriter, IsLineOfWriterTerritory, IsLineOfLink};
+ghost use Rattle.cwr_record.specs.RecordTypes.{type_of};
+ghost use Rattle.cwr_record.specs.Works as works;
+ghost use Rattle.cwr_record.specs.Publishers as publishers;
+ghost use Rattle.cwr_record.specs.Writers as writers;
+ghost use Rattle.cwr_record.specs.declared.works.WorkHead.{WorkHead};
+ghost use Rattle.cwr_record.specs.declared.publishers.Publisher.{Publisher};
+ghost use Rattle.cwr_record.specs.declared.publishers.PublisherTerritory.{PublisherTerritory};
+ghost use Rattle.cwr_record.specs.declared.writers.Writer.{Writer};
+ghost use Rattle.cwr_record.specs.declared.writers.WriterTerritory.{WriterTerritory};
+ghost use Rattle.cwr_record.specs.declared.writers.Link.{Link};
+
+/// Of a line that stands for a registration's head, the record type is that of its kind.
+pub fn heads_are_named()
+    ensures { (line : List ℕ) (x : WorkHead) → StandsFor works.work_head line x → type_of line ≡ type_of_work x.kind }
+{}
+
+/// Of a line that stands for a publisher or for a writer, the record type, the party and the ownership shares, read
+/// alone, are those of the publisher or the writer.
+pub fn owners_are_read()
+    ensures publisher { (line : List ℕ) (x : Publisher) → StandsFor publishers.publisher line x → IsLineOfPublisher line x }
+    ensures writer { (line : List ℕ) (x : Writer) → StandsFor writers.writer line x → IsLineOfWriter line x }
+{}
+
+/// Of a line that stands for a territory of either, the record type, the party, the collection shares, the indicator and
+/// the territory, read alone, are those of the territory.
+pub fn territories_are_read()
+    ensures publisher { (line : List ℕ) (x : PublisherTerritory) → StandsFor publishers.publisher_territory line x → IsLineOfPublisherTerritory line x }
+    ensures writer { (line : List ℕ) (x : WriterTerritory) → StandsFor writers.writer_territory line x → IsLineOfWriterTerritory line x }
+{}
+
+/// Of a line that stands for a writer's publisher, the record type and the publisher's party, read alone, are its own.
+pub fn links_are_read()
+    ensures { (line : List ℕ) (x : Link) → StandsFor writers.link line x → IsLineOfLink line x }
+{}
