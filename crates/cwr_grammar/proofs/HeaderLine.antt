@@ -2,8 +2,8 @@
 use Rattle.std.proofs.Common.{◌≡◌, ℕ, Bool, true, false, ◌&&◌, cond, List, [], ◌∷◌, Option, Some, None, is_some, arith, refl, ◌∙◌}
 use Rattle.std.specs.Prelude.{codes, option_map}
 use Rattle.std.specs.Str.{bytes_eq}
-use Rattle.cwr_field.specs.Layout.{field}
 use Rattle.cwr_field.specs.Calendar.{day_of, time_of}
+use Rattle.cwr_record.specs.Columns.{field_at, every_record_type, header_creation_date, header_creation_time, header_transmission_date}
 use Rattle.cwr_record.specs.RecordTypes.{type_of}
 use Rattle.cwr_record.specs.Control as table
 use Rattle.cwr_record.specs.Faults.{faults, checked, IsLeastFault}
@@ -11,7 +11,7 @@ use Rattle.cwr_record.specs.declared.slot.FieldFault.{FieldFault}
 use Rattle.cwr_record.specs.declared.record_type.RecordType.{RecordType}
 use Rattle.cwr_record.specs.declared.record_type.RecordType.TheVariants.{Hdr, Grh, Grt, Trl, Nwr, Rev, Ack, Spu, Spt, Opu, Swr, Swt, Pwr, Owr, Alt, Xrf, Other, Carried, Bad}
 use Rattle.cwr_grammar.specs.declared.role.Role.TheVariants.{FileHeader}
-use Rattle.cwr_grammar.specs.Roles.{role_of, role_at}
+use Rattle.cwr_grammar.specs.Roles.{role_of, role_at, is_dated}
 
 -- the chain of names gives HDR at its own name alone
 hdr_named : (a b c d e f g h i j k hdr l m n o p q : Bool)
@@ -36,13 +36,10 @@ hdr_named false false false false false false false false false false false fals
 hdr_named false false false false false false false false false false false false false false false false false true is = absurd cc
 hdr_named false false false false false false false false false false false false false false false false false false is = absurd cc
 
-named : (line : List ℕ) → type_of line ≡ Hdr → bytes_eq (field line 1 3) (codes "HDR") ≡ true
-named line is = hdr_named _ _ _ _ _ _ _ _ _ _ _ (bytes_eq (field line 1 3) (codes "HDR")) _ _ _ _ _ _ is
+named : (line : List ℕ) → type_of line ≡ Hdr → bytes_eq (field_at line every_record_type) (codes "HDR") ≡ true
+named line is = hdr_named _ _ _ _ _ _ _ _ _ _ _ (bytes_eq (field_at line every_record_type) (codes "HDR")) _ _ _ _ _ _ is
 
-abbrev dated : List ℕ → Bool
-dated line = is_some (day_of (field line 65 8)) && is_some (time_of (field line 73 6)) && is_some (day_of (field line 79 8))
-
-header_at : (t : RecordType) (line : List ℕ) → role_at t line ≡ FileHeader true → (t ≡ Hdr) × (dated line ≡ true)
+header_at : (t : RecordType) (line : List ℕ) → role_at t line ≡ FileHeader true → (t ≡ Hdr) × (is_dated line ≡ true)
 header_at Hdr line is = (refl, cc)
 header_at Grh line is = absurd cc
 header_at Grt line is = absurd cc
@@ -84,8 +81,8 @@ none_left a b c d w x y z p q r s = rw (p, q, r, s) refl
 no_faults : (line : List ℕ) → role_of line ≡ FileHeader true → faults line (checked table.header) ≡ []
 no_faults line is =
     let at = header_at (type_of line) line is in
-    let dates = three_hold (is_some (day_of (field line 65 8))) (is_some (time_of (field line 73 6))) (is_some (day_of (field line 79 8))) at.1 in
-    none_left _ _ _ _ _ _ _ _ (some_chosen (bytes_eq (field line 1 3) (codes "HDR")) _ ∙ named line at.0) (some_mapped _ (day_of (field line 65 8)) ∙ dates.0) (some_mapped _ (time_of (field line 73 6)) ∙ dates.1) (some_mapped _ (day_of (field line 79 8)) ∙ dates.2)
+    let dates = three_hold (is_some (day_of (field_at line header_creation_date))) (is_some (time_of (field_at line header_creation_time))) (is_some (day_of (field_at line header_transmission_date))) at.1 in
+    none_left _ _ _ _ _ _ _ _ (some_chosen (bytes_eq (field_at line every_record_type) (codes "HDR")) _ ∙ named line at.0) (some_mapped _ (day_of (field_at line header_creation_date)) ∙ dates.0) (some_mapped _ (time_of (field_at line header_creation_time)) ∙ dates.1) (some_mapped _ (day_of (field_at line header_transmission_date)) ∙ dates.2)
 
 pub header_readable : (line : List ℕ) (fault : FieldFault) → role_of line ≡ FileHeader true → IsLeastFault line (checked table.header) fault → ⊥
 header_readable line fault is least = let (i, inside, here) = rw (no_faults line is) at least.0 in omega (arith, inside)

@@ -21,3 +21,4 @@ pub mod FileTexts
 pub mod FileBounds
 pub mod HeaderLine
 pub mod Least
+pub mod RoleLaw

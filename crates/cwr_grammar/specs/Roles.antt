@@ -1,11 +1,13 @@
 -- The role of a line in a file (CWR 2.2): what its record opens, goes on with or closes, and the numbers that it
 -- states. A number is `None` where its field has other bytes than digits.
-use Rattle.std.specs.Prelude.{ℕ, ◌&&◌, List, Option, Some, None, is_some, codes, if◌then◌else◌}
+use Rattle.std.specs.Prelude.{ℕ, Bool, ◌&&◌, List, Option, Some, None, is_some, codes, if◌then◌else◌}
 use Rattle.std.specs.Str.{bytes_eq}
-use Rattle.cwr_field.specs.Layout.{field}
 use Rattle.cwr_field.specs.Number.{number_of}
 use Rattle.cwr_field.specs.Calendar.{day_of, time_of}
+use Rattle.cwr_record.specs.Columns as column
+use Rattle.cwr_record.specs.Columns.{field_at}
 use Rattle.cwr_record.specs.RecordTypes.{type_of}
+use Rattle.cwr_record.specs.declared.columns.Column.{Column}
 use Rattle.cwr_record.specs.declared.record_type.RecordType.{RecordType}
 use Rattle.cwr_record.specs.declared.record_type.RecordType.TheVariants.{Hdr, Grh, Grt, Trl, Nwr, Rev, Ack, Other, Bad}
 use Rattle.cwr_record.specs.declared.works.WorkKind.{WorkKind}
@@ -18,30 +20,50 @@ abbrev pub kind_named : List ℕ → Option WorkKind
 kind_named name =
     if bytes_eq name (codes "NWR") then Some work.Nwr else if bytes_eq name (codes "REV") then Some work.Rev else None
 
--- HDR: whether Creation Date, Creation Time and Transmission Date are valid
+-- the number in a column
+abbrev pub number_at : List ℕ → Column → Option ℕ
+number_at line c = number_of (field_at line c)
+
+-- Creation Date, Creation Time and Transmission Date are valid
+abbrev pub is_dated : List ℕ → Bool
+is_dated line =
+    is_some (day_of (field_at line column.header_creation_date))
+    && is_some (time_of (field_at line column.header_creation_time))
+    && is_some (day_of (field_at line column.header_transmission_date))
+
+-- HDR
 abbrev pub file_header : List ℕ → Role
-file_header line =
-    FileHeader (is_some (day_of (field line 65 8)) && is_some (time_of (field line 73 6)) && is_some (day_of (field line 79 8)))
+file_header line = FileHeader (is_dated line)
 
 -- GRH: Transaction Type, Group ID
 abbrev pub group_header : List ℕ → Role
-group_header line = GroupHeader (kind_named (field line 4 3)) (number_of (field line 7 5))
+group_header line =
+    GroupHeader (kind_named (field_at line column.group_head_transaction_type)) (number_at line column.group_head_group)
 
 -- a transaction's header: its kind where it is one that is read, Transaction Sequence #, Record Sequence #
 abbrev pub transaction_header : Option WorkKind → List ℕ → Role
-transaction_header kind line = TransactionHeader kind (number_of (field line 4 8)) (number_of (field line 12 8))
+transaction_header kind line =
+    TransactionHeader kind (number_at line column.prefix_transaction) (number_at line column.prefix_detail)
 
 -- a detail of a transaction: Transaction Sequence #, Record Sequence #
 abbrev pub detail : List ℕ → Role
-detail line = Detail (number_of (field line 4 8)) (number_of (field line 12 8))
+detail line = Detail (number_at line column.prefix_transaction) (number_at line column.prefix_detail)
 
 -- GRT: Group ID, Transaction Count, Record Count
 abbrev pub group_trailer : List ℕ → Role
-group_trailer line = GroupTrailer (number_of (field line 4 5)) (number_of (field line 9 8)) (number_of (field line 17 8))
+group_trailer line =
+    GroupTrailer
+    (number_at line column.group_trailer_group)
+    (number_at line column.group_trailer_transactions)
+    (number_at line column.group_trailer_records)
 
 -- TRL: Group Count, Transaction Count, Record Count
 abbrev pub file_trailer : List ℕ → Role
-file_trailer line = FileTrailer (number_of (field line 4 5)) (number_of (field line 9 8)) (number_of (field line 17 8))
+file_trailer line =
+    FileTrailer
+    (number_at line column.file_trailer_groups)
+    (number_at line column.file_trailer_transactions)
+    (number_at line column.file_trailer_records)
 
 -- the role of a line with a record of this type
 abbrev pub role_at : RecordType → List ℕ → Role

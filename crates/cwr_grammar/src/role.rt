@@ -1,11 +1,13 @@
-ghost use Rattle.std.specs.Prelude.{◌≡◌, ◌≤◌, ◌&&◌, is_some};
-ghost use Rattle.cwr_field.specs.Layout.{field};
-ghost use Rattle.cwr_field.specs.Number.{number_of};
-ghost use Rattle.cwr_field.specs.Calendar.{day_of, time_of};
-ghost use Rattle.cwr_grammar.specs.Roles.{role_of, kind_named, transaction_header, detail};
+ghost use Rattle.std.specs.Prelude.{◌≡◌, ◌≤◌, IsTrue};
+ghost use Rattle.cwr_record.specs.Columns.{field_at, group_head_transaction_type};
+ghost use Rattle.cwr_record.specs.Ranges.{is_in_line};
+ghost use Rattle.cwr_grammar.specs.Roles.{role_of, kind_named, transaction_header, detail, is_dated, number_at};
 
-use cwr_field::{cut, date, digits, time};
-use cwr_record::{RecordType, WorkKind, type_of};
+use cwr_field::{date, digits, time};
+use cwr_record::{
+    Column, FileTrailer, GroupHead, GroupTrailer, Header, Prefix, RecordType, WorkKind, field_at,
+    type_of,
+};
 
 /// A line by its role in a file: what its record opens, goes on with or closes, and the numbers that it states.
 ///
@@ -34,13 +36,17 @@ pub(crate) fn role_of(line: &[u8]) -> Role
 {
     match type_of(line) {
         RecordType::Hdr => Role::FileHeader(is_dated(line)),
-        RecordType::Grh => Role::GroupHeader(group_kind(line), number(line, 7, 5)),
-        RecordType::Grt => {
-            Role::GroupTrailer(number(line, 4, 5), number(line, 9, 8), number(line, 17, 8))
-        }
-        RecordType::Trl => {
-            Role::FileTrailer(number(line, 4, 5), number(line, 9, 8), number(line, 17, 8))
-        }
+        RecordType::Grh => Role::GroupHeader(group_kind(line), number_at(line, GroupHead::GROUP)),
+        RecordType::Grt => Role::GroupTrailer(
+            number_at(line, GroupTrailer::GROUP),
+            number_at(line, GroupTrailer::TRANSACTIONS),
+            number_at(line, GroupTrailer::RECORDS),
+        ),
+        RecordType::Trl => Role::FileTrailer(
+            number_at(line, FileTrailer::GROUPS),
+            number_at(line, FileTrailer::TRANSACTIONS),
+            number_at(line, FileTrailer::RECORDS),
+        ),
         RecordType::Nwr => transaction_header(Some(WorkKind::Nwr), line),
         RecordType::Rev => transaction_header(Some(WorkKind::Rev), line),
         RecordType::Ack | RecordType::Other => transaction_header(None, line),
@@ -61,20 +67,27 @@ pub(crate) fn role_of(line: &[u8]) -> Role
 fn transaction_header(kind: Option<WorkKind>, line: &[u8]) -> Role
     ensures { result ≡ transaction_header kind line.now }
 {
-    Role::TransactionHeader(kind, number(line, 4, 8), number(line, 12, 8))
+    Role::TransactionHeader(
+        kind,
+        number_at(line, Prefix::TRANSACTION),
+        number_at(line, Prefix::DETAIL),
+    )
 }
 
 fn detail(line: &[u8]) -> Role
     ensures { result ≡ detail line.now }
 {
-    Role::Detail(number(line, 4, 8), number(line, 12, 8))
+    Role::Detail(
+        number_at(line, Prefix::TRANSACTION),
+        number_at(line, Prefix::DETAIL),
+    )
 }
 
 /// The transaction type of a group header, where it is one that is read.
 fn group_kind(line: &[u8]) -> Option<WorkKind>
-    ensures { result ≡ kind_named (field line.now 4 3) }
+    ensures { result ≡ kind_named (field_at line.now group_head_transaction_type) }
 {
-    let name = cut(line, 4, 3).bytes::<3>();
+    let name = field_at(line, GroupHead::TRANSACTION_TYPE).bytes::<3>();
     if name == *b"NWR" {
         Some(WorkKind::Nwr)
     } else if name == *b"REV" {
@@ -86,19 +99,19 @@ fn group_kind(line: &[u8]) -> Option<WorkKind>
 
 /// Whether the creation date, the creation time and the transmission date of a file header are valid.
 fn is_dated(line: &[u8]) -> bool
-    ensures { result ≡ (is_some (day_of (field line.now 65 8)) && is_some (time_of (field line.now 73 6)) && is_some (day_of (field line.now 79 8))) }
+    ensures { result ≡ is_dated line.now }
 {
-    let created = date(cut(line, 65, 8)).is_some();
-    let created_at = time(cut(line, 73, 6)).is_some();
-    let sent = date(cut(line, 79, 8)).is_some();
+    let created = date(field_at(line, Header::CREATION_DATE)).is_some();
+    let created_at = time(field_at(line, Header::CREATION_TIME)).is_some();
+    let sent = date(field_at(line, Header::TRANSMISSION_DATE)).is_some();
     created && created_at && sent
 }
 
-/// The number of a field.
-fn number(line: &[u8], start: usize, width: usize) -> Option<u64>
-    requires start { (1 ≤ start) × (start ≤ 4096) }
-    requires width { (1 ≤ width) × (width ≤ 18) }
-    ensures { result ≡ number_of (field line.now start width) }
+/// The number in a column.
+fn number_at(line: &[u8], column: Column) -> Option<u64>
+    requires column { IsTrue (is_in_line column) }
+    requires width { column.width ≤ 18 }
+    ensures { result ≡ number_at line.now column }
 {
-    digits(cut(line, start, width))
+    digits(field_at(line, column))
 }
