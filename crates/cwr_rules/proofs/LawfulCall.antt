@@ -3,7 +3,9 @@ use Rattle.std.proofs.Common.{◌≡◌, ℕ, zero, suc, ◌-◌, ◌<◌, ◌�
 use Rattle.std.specs.Prelude.{◌||◌, replicate, filter}
 use Rattle.std.specs.List.{list_all}
 use Rattle.std.proofs.lemmas.Bool.Decides.{nat_tests}
-use Rattle.cwr_field.specs.Layout.{field}
+use Rattle.cwr_record.specs.Columns as column
+use Rattle.cwr_record.specs.Columns.{field_at}
+use Rattle.cwr_record.specs.declared.columns.Column.{Column}
 use Rattle.cwr_field.specs.Iswc.{iswc_of}
 use Rattle.cwr_call.specs.declared.transaction_fault.Fault.{Fault}
 use Rattle.cwr_record.specs.declared.works.WorkKind.{WorkKind}
@@ -46,8 +48,9 @@ blanks_clean zero = refl
 blanks_clean (suc n) = blanks_clean n
 
 -- a field of a line without control characters has none
-field_clean : (line : List ℕ) (s n : ℕ) → is_clean line ≡ true → is_clean (field line s n) ≡ true
-field_clean line s n h = take_clean n (drop (s - 1) line ++ replicate n 32) (append_clean (drop (s - 1) line) (replicate n 32) (drop_clean (s - 1) line h) (blanks_clean n))
+field_clean : (line : List ℕ) (c : Column) → is_clean line ≡ true → is_clean (field_at line c) ≡ true
+field_clean line c h =
+    take_clean c.width (drop (c.start - 1) line ++ replicate c.width 32) (append_clean (drop (c.start - 1) line) (replicate c.width 32) (drop_clean (c.start - 1) line h) (blanks_clean c.width))
 
 at_most : (limit : ℕ) (t : Totals) → TotalsLe limit t → are_at_most limit (three t) ≡ true
 at_most limit t h =
@@ -116,20 +119,20 @@ right_faults kind head records lt =
 pub lawful : (submitter head : List ℕ) (kind : WorkKind) (records : List Record) → length records < 99999999 → AreCapped records
     → is_clean submitter ≡ true → is_clean head ≡ true → is_iswc (call_from submitter kind head records).iswc ≡ true → is_lawful (call_from submitter kind head records) ≡ true
 lawful submitter head kind records lt capped a b i =
-    both _ _ (both _ _ (both _ _ (both _ _ (both _ _ (both _ _ a (field_clean head 20 60 b)) (field_clean head 82 14 b)) i) (control_small records lt capped)) (whole kind head records)) (right_faults kind head records lt)
+    both _ _ (both _ _ (both _ _ (both _ _ (both _ _ (both _ _ a (field_clean head column.work_head_title b)) (field_clean head column.work_head_submitter_number b)) i) (control_small records lt capped)) (whole kind head records)) (right_faults kind head records lt)
 
 -- the same of parts that are those of the call
 pub lawful_from : (submitter head title number : List ℕ) (kind : WorkKind) (iswc : Option ℕ) (t : Totals) (records : List Record) (out : List Fault)
     → length records < 99999999 → AreCapped records → IsTrue (is_clean submitter) → IsTrue (is_clean head) → IsTrue (is_iswc iswc)
-    → title ≡ field head 20 60 → number ≡ field head 82 14 → iswc ≡ number_in (iswc_of (field head 96 11)) → t ≡ control records → out ≡ faults_of kind head records
+    → title ≡ field_at head column.work_head_title → number ≡ field_at head column.work_head_submitter_number → iswc ≡ number_in (iswc_of (field_at head column.work_head_iswc)) → t ≡ control records → out ≡ faults_of kind head records
     → IsTrue (is_lawful (record { submitter = submitter; kind = kind; title = title; number = number; iswc = iswc; control = three t; faults = out }))
 lawful_from submitter head title number kind iswc t records out lt capped a b i title_is number_is iswc_is control_is faults_are_all =
     let P : List ℕ → List ℕ → Option ℕ → Totals → List Fault → Type 0 = λ v w x y z. IsTrue (is_lawful (record { submitter = submitter; kind = kind; title = v; number = w; iswc = x; control = three y; faults = z })) in
     let R : Option ℕ → Type 0 = λ x. is_iswc x ≡ true in
-    let whole_is : P (field head 20 60) (field head 82 14) (number_in (iswc_of (field head 96 11))) (control records) (faults_of kind head records) = lawful submitter head kind records lt capped a b (subst R iswc_is i) in
-    let P0 : List Fault → Type 0 = λ z. P (field head 20 60) (field head 82 14) (number_in (iswc_of (field head 96 11))) (control records) z in
-    let P1 : Totals → Type 0 = λ y. P (field head 20 60) (field head 82 14) (number_in (iswc_of (field head 96 11))) y out in
-    let P2 : Option ℕ → Type 0 = λ x. P (field head 20 60) (field head 82 14) x t out in
-    let P3 : List ℕ → Type 0 = λ w. P (field head 20 60) w iswc t out in
+    let whole_is : P (field_at head column.work_head_title) (field_at head column.work_head_submitter_number) (number_in (iswc_of (field_at head column.work_head_iswc))) (control records) (faults_of kind head records) = lawful submitter head kind records lt capped a b (subst R iswc_is i) in
+    let P0 : List Fault → Type 0 = λ z. P (field_at head column.work_head_title) (field_at head column.work_head_submitter_number) (number_in (iswc_of (field_at head column.work_head_iswc))) (control records) z in
+    let P1 : Totals → Type 0 = λ y. P (field_at head column.work_head_title) (field_at head column.work_head_submitter_number) (number_in (iswc_of (field_at head column.work_head_iswc))) y out in
+    let P2 : Option ℕ → Type 0 = λ x. P (field_at head column.work_head_title) (field_at head column.work_head_submitter_number) x t out in
+    let P3 : List ℕ → Type 0 = λ w. P (field_at head column.work_head_title) w iswc t out in
     let P4 : List ℕ → Type 0 = λ v. P v number iswc t out in
     subst P4 (sym title_is) (subst P3 (sym number_is) (subst P2 (sym iswc_is) (subst P1 (sym control_is) (subst P0 (sym faults_are_all) whole_is))))

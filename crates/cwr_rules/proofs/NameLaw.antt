@@ -5,7 +5,7 @@ use Rattle.std.specs.List.{list_all}
 use Rattle.std.specs.Char.{is_ascii_uppercase}
 use Rattle.std.specs.Str.{bytes_eq}
 use Rattle.std.proofs.lemmas.Slice.Eq.{bytes_eq-Decides}
-use Rattle.cwr_field.specs.Layout.{field}
+use Rattle.cwr_record.specs.Columns.{field_at, every_record_type}
 use Rattle.cwr_record.specs.declared.record_type.RecordType.{RecordType}
 use Rattle.cwr_record.specs.declared.record_type.RecordType.TheVariants as of_type
 use Rattle.cwr_record.specs.RecordTypes.{is_other}
@@ -14,7 +14,7 @@ use Rattle.cwr_rules.specs.Rules.{name_of}
 
 -- a record of the type, read from the line, has its name
 record IsNamed (line : List ℕ) (t : RecordType) : Type 0 where
-  pub name : name_of (record_as t line) ≡ field line 1 3
+  pub name : name_of (record_as t line) ≡ field_at line every_record_type
 
 -- the type beside the first name that is this one
 abbrev type_in : List (List ℕ × RecordType) → List ℕ → RecordType → RecordType
@@ -23,13 +23,13 @@ type_in (row ∷ rows) name last = cond (bytes_eq name row.0) row.1 (type_in row
 
 abbrev AllNamed : List ℕ → List (List ℕ × RecordType) → Type 0
 AllNamed line [] = Unit {0}
-AllNamed line (row ∷ rows) = (field line 1 3 ≡ row.0 → IsNamed line row.1) × AllNamed line rows
+AllNamed line (row ∷ rows) = (field_at line every_record_type ≡ row.0 → IsNamed line row.1) × AllNamed line rows
 
-by_table : (line : List ℕ) (rows : List (List ℕ × RecordType)) (last : RecordType) → AllNamed line rows → IsNamed line last → IsNamed line (type_in rows (field line 1 3) last)
+by_table : (line : List ℕ) (rows : List (List ℕ × RecordType)) (last : RecordType) → AllNamed line rows → IsNamed line last → IsNamed line (type_in rows (field_at line every_record_type) last)
 by_table line [] last h k = k
 by_table line (row ∷ rows) last h k =
-    let P : Bool → Type 0 = λ b. bytes_eq (field line 1 3) row.0 ≡ b → IsNamed line (cond b row.1 (type_in rows (field line 1 3) last)) in
-    (elim (bytes_eq (field line 1 3) row.0) as P [ true ↦ λ e. h.0 ((bytes_eq-Decides (field line 1 3) row.0).0 e) | false ↦ λ e. by_table line rows last h.1 k ]) refl
+    let P : Bool → Type 0 = λ b. bytes_eq (field_at line every_record_type) row.0 ≡ b → IsNamed line (cond b row.1 (type_in rows (field_at line every_record_type) last)) in
+    (elim (bytes_eq (field_at line every_record_type) row.0) as P [ true ↦ λ e. h.0 ((bytes_eq-Decides (field_at line every_record_type) row.0).0 e) | false ↦ λ e. by_table line rows last h.1 k ]) refl
 
 abbrev names : List (List ℕ × RecordType)
 names =
@@ -59,7 +59,7 @@ unread line true b = record { name = refl }
 unread line false true = record { name = refl }
 unread line false false = record { name = refl }
 
-pub names_are : (line : List ℕ) → name_of (record_of line) ≡ field line 1 3
+pub names_are : (line : List ℕ) → name_of (record_of line) ≡ field_at line every_record_type
 names_are line =
-    let n = field line 1 3 in
+    let n = field_at line every_record_type in
     (by_table line names (cond (is_other n) of_type.Other (cond (list_all is_ascii_uppercase n) of_type.Carried of_type.Bad)) (all_named line) (unread line (is_other n) (list_all is_ascii_uppercase n))).name

@@ -2,11 +2,13 @@
 use Rattle.std.proofs.Common.{◌≡◌, ℕ, ◌*◌, ◌<◌, ◌≤◌, Bool, true, false, cond, leb, List, [], ◌∷◌, length, drop, zero, suc, Option, Some, None, arith, refl}
 use Rattle.std.specs.Prelude.{filter, option_and_then}
 use Rattle.std.proofs.lemmas.Bool.Decides.{nat_tests}
-use Rattle.cwr_field.specs.Layout.{field, is_blank}
+use Rattle.cwr_field.specs.Layout.{is_blank}
 use Rattle.cwr_field.specs.Number.{number_of}
 use Rattle.cwr_field.specs.Share.{share_of}
 use Rattle.cwr_record.specs.declared.record_type.RecordType.{RecordType}
 use Rattle.cwr_record.specs.declared.record_type.RecordType.TheVariants as of_type
+use Rattle.cwr_record.specs.Columns.{field_at}
+use Rattle.cwr_record.specs.Parties.{RightColumns, ownership_columns, collection_columns}
 use Rattle.cwr_record.specs.RecordTypes.{type_of}
 use Rattle.cwr_rules.specs.declared.record.Record.{Record}
 use Rattle.cwr_rules.specs.declared.record.Shares.{Shares}
@@ -28,23 +30,23 @@ share_small bytes =
       | false ↦ capped (number_of bytes)
     ]
 
-by_line : (line : List ℕ) (a b c : ℕ) (r : Record) → shares_of r ≡ shares_from line a b c → IsCapped r
-by_line line a b c r is = record {
-  performing = rw is (share_small (field line a 5));
-  mechanical = rw is (share_small (field line b 5));
-  synchronization = rw is (share_small (field line c 5));
+by_line : (line : List ℕ) (columns : RightColumns) (r : Record) → shares_of r ≡ shares_from line columns → IsCapped r
+by_line line columns r is = record {
+  performing = rw is (share_small (field_at line columns.performing));
+  mechanical = rw is (share_small (field_at line columns.mechanical));
+  synchronization = rw is (share_small (field_at line columns.synchronization));
 }
 
 no_shares : (r : Record) → valued (shares_of r).performing ≡ 0 → valued (shares_of r).mechanical ≡ 0 → valued (shares_of r).synchronization ≡ 0 → IsCapped r
 no_shares r p m s = record { performing = omega arith; mechanical = omega arith; synchronization = omega arith }
 
 as_capped : (t : RecordType) (line : List ℕ) → IsCapped (record_as t line)
-as_capped of_type.Spu line = by_line line 116 124 132 (record_as of_type.Spu line) refl
-as_capped of_type.Opu line = by_line line 116 124 132 (record_as of_type.Opu line) refl
-as_capped of_type.Spt line = by_line line 35 40 45 (record_as of_type.Spt line) refl
-as_capped of_type.Swr line = by_line line 130 138 146 (record_as of_type.Swr line) refl
-as_capped of_type.Owr line = by_line line 130 138 146 (record_as of_type.Owr line) refl
-as_capped of_type.Swt line = by_line line 29 34 39 (record_as of_type.Swt line) refl
+as_capped of_type.Spu line = by_line line (ownership_columns of_type.Spu) (record_as of_type.Spu line) refl
+as_capped of_type.Opu line = by_line line (ownership_columns of_type.Opu) (record_as of_type.Opu line) refl
+as_capped of_type.Spt line = by_line line (collection_columns of_type.Spt) (record_as of_type.Spt line) refl
+as_capped of_type.Swr line = by_line line (ownership_columns of_type.Swr) (record_as of_type.Swr line) refl
+as_capped of_type.Owr line = by_line line (ownership_columns of_type.Owr) (record_as of_type.Owr line) refl
+as_capped of_type.Swt line = by_line line (collection_columns of_type.Swt) (record_as of_type.Swt line) refl
 as_capped of_type.Pwr line = no_shares (record_as of_type.Pwr line) refl refl refl
 as_capped of_type.Alt line = no_shares (record_as of_type.Alt line) refl refl refl
 as_capped of_type.Xrf line = no_shares (record_as of_type.Xrf line) refl refl refl

@@ -1,7 +1,8 @@
 -- The call of a transaction.
 use Rattle.std.specs.Prelude.{ℕ, List, [], ◌∷◌}
-use Rattle.cwr_field.specs.Layout.{field}
 use Rattle.cwr_field.specs.Iswc.{iswc_of}
+use Rattle.cwr_record.specs.Columns as column
+use Rattle.cwr_record.specs.Columns.{field_at}
 use Rattle.cwr_record.specs.declared.works.WorkKind.{WorkKind}
 use Rattle.cwr_grammar.specs.RawParts.{RawParts}
 use Rattle.cwr_rules.specs.declared.record.Record.{Record}
@@ -21,9 +22,9 @@ abbrev pub call_from : List ℕ → WorkKind → List ℕ → List Record → Ca
 call_from submitter kind head records = record {
   submitter = submitter;
   kind = kind;
-  title = field head 20 60;
-  number = field head 82 14;
-  iswc = number_in (iswc_of (field head 96 11));
+  title = field_at head column.work_head_title;
+  number = field_at head column.work_head_submitter_number;
+  iswc = number_in (iswc_of (field_at head column.work_head_iswc));
   control = three (control records);
   faults = faults_of kind head records;
 }

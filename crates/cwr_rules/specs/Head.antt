@@ -1,11 +1,13 @@
 -- The rules of a transaction as a whole, which its header's line and its records decide.
 use Rattle.std.specs.Prelude.{ℕ, Bool, true, false, not, ◌&&◌, ◌||◌, ◌==◌, nat_le, List, Option, Some, None, is_some}
 use Rattle.std.specs.List.{list_any}
-use Rattle.cwr_field.specs.Layout.{field, is_blank}
+use Rattle.cwr_field.specs.Layout.{is_blank}
 use Rattle.cwr_field.specs.Calendar.{day_of, time_of}
 use Rattle.cwr_field.specs.Iswc.{iswc_of}
 use Rattle.cwr_field.specs.declared.codes.Iswc.{Iswc}
 use Rattle.cwr_field.specs.declared.codes.Iswc.TheVariants.{Blank, Valid, Wrong}
+use Rattle.cwr_record.specs.Columns as column
+use Rattle.cwr_record.specs.Columns.{field_at}
 use Rattle.cwr_record.specs.Layout.{is_no_day}
 use Rattle.cwr_rules.specs.declared.record.Record.{Record}
 use Rattle.cwr_rules.specs.Rules.{is_writer}
@@ -23,15 +25,15 @@ is_wrong_code Wrong = true
 
 -- J2: the title is blank
 abbrev pub has_no_title : List ℕ → Bool
-has_no_title head = is_blank (field head 20 60)
+has_no_title head = is_blank (field_at head column.work_head_title)
 
 -- J3: the submitter work number is blank
 abbrev pub has_no_number : List ℕ → Bool
-has_no_number head = is_blank (field head 82 14)
+has_no_number head = is_blank (field_at head column.work_head_submitter_number)
 
 -- J4: the ISWC is neither blank nor valid
 abbrev pub has_wrong_iswc : List ℕ → Bool
-has_wrong_iswc head = is_wrong_code (iswc_of (field head 96 11))
+has_wrong_iswc head = is_wrong_code (iswc_of (field_at head column.work_head_iswc))
 
 -- the copyright date is blank, zeros or a day
 abbrev pub is_copyright_date : List ℕ → Bool
@@ -43,7 +45,8 @@ is_duration text = is_blank text || is_some (time_of text)
 
 -- J5: the copyright date or the duration is wrong
 abbrev pub has_wrong_date : List ℕ → Bool
-has_wrong_date head = not (is_copyright_date (field head 107 8) && is_duration (field head 130 6))
+has_wrong_date head =
+    not (is_copyright_date (field_at head column.work_head_copyright_date) && is_duration (field_at head column.work_head_duration))
 
 -- J10: there is no writer
 abbrev pub has_no_writer : List Record → Bool

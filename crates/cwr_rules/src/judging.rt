@@ -1,7 +1,7 @@
 ghost use Rattle.std.specs.Prelude.{◌≡◌, ◌<◌, IsTrue, IfOk, length, nat_eq};
 ghost use Rattle.std.specs.HashMap.{get};
-ghost use Rattle.cwr_field.specs.Layout.{field};
 ghost use Rattle.cwr_field.specs.Iswc.{iswc_of};
+ghost use Rattle.cwr_record.specs.Columns.{field_at, work_head_iswc};
 ghost use Rattle.cwr_call.specs.Lawful.{is_clean, is_iswc};
 ghost use Rattle.cwr_rules.specs.Calls.{call_of};
 ghost use Rattle.cwr_rules.specs.Head.{number_in};
@@ -14,17 +14,17 @@ use crate::record_faults::push_faults_of_records;
 use crate::summary::{Summary, summary_of};
 use crate::whole_faults::push_faults_of_whole;
 use cwr_call::{Call, Fault, Faults};
-use cwr_field::{Iswc, Memory, cut, iswc};
+use cwr_field::{Iswc, Memory, iswc};
 use cwr_grammar::RawTransaction;
-use cwr_record::WorkKind;
+use cwr_record::{WorkHead, WorkKind, field_at};
 use std::alloc::Allocator;
 
 /// The number of an ISWC, `None` where it is blank or wrong.
 fn iswc_number(head: &[u8]) -> Option<u64>
-    ensures value { result ≡ number_in (iswc_of (field head.now 96 11)) }
+    ensures value { result ≡ number_in (iswc_of (field_at head.now work_head_iswc)) }
     ensures nine_digits { IsTrue (is_iswc result) }
 {
-    match iswc(cut(head, 96, 11)) {
+    match iswc(field_at(head, WorkHead::ISWC)) {
         Iswc::Valid(number) => Some(number),
         Iswc::Blank | Iswc::Wrong => None,
     }
@@ -70,8 +70,8 @@ pub fn judge<A: Allocator + Copy>(
     let call = Call::of_lawful(
         submitter,
         kind,
-        cut(head, 20, 60).bytes(),
-        cut(head, 82, 14).bytes(),
+        field_at(head, WorkHead::TITLE).bytes(),
+        field_at(head, WorkHead::SUBMITTER_NUMBER).bytes(),
         iswc_number(head),
         [
             control.performing,

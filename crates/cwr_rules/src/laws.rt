@@ -10,7 +10,7 @@ ghost use Rattle.cwr_rules.specs.Holds.{Holds, IsIn};
 ghost use Rattle.cwr_call.specs.Lawful.{rises};
 ghost use Rattle.cwr_rules.specs.Place.{place_of};
 ghost use Rattle.cwr_rules.specs.Order.{IsPrefix, types};
-ghost use Rattle.cwr_field.specs.Layout.{field};
+ghost use Rattle.cwr_record.specs.Columns.{field_at, every_record_type};
 ghost use Rattle.cwr_rules.specs.Records.{record_of};
 ghost use Rattle.cwr_rules.specs.Rules.{is_out_of_order, name_of};
 ghost use Rattle.cwr_rules.specs.Totals.{collection, is_over, is_over_somewhere};
@@ -39,5 +39,5 @@ pub fn territories_are_all()
 
 /// The record type in a fault is the first three bytes of the record's line.
 pub fn types_are_names()
-    ensures { (line : List ℕ) → name_of (record_of line) ≡ field line 1 3 }
+    ensures { (line : List ℕ) → name_of (record_of line) ≡ field_at line every_record_type }
 {}

@@ -4,11 +4,11 @@ ghost use Rattle.cwr_rules.specs.Records.{record_of, records_of, territory_at};
 ghost use Rattle.cwr_call.specs.Lawful.{is_clean};
 
 use crate::record::{Record, Shares, Territory};
-use cwr_field::{Memory, cut};
+use cwr_field::Memory;
 use cwr_grammar::{Lines, RawTransaction};
 use cwr_record::{
-    RecordType, collection_of, indicator_of, ownership_of, party_of, publisher_of, territory_of,
-    type_of,
+    RecordType, collection_of, field_at, indicator_of, ownership_of, party_of, publisher_of,
+    territory_of, type_of,
 };
 use std::alloc::Allocator;
 
@@ -70,7 +70,7 @@ fn record_of(line: &[u8]) -> Record
         RecordType::Pwr => Record::Pwr(publisher_of(line)),
         RecordType::Alt => Record::Alt,
         RecordType::Xrf => Record::Xrf,
-        _ => Record::Carried(cut(line, 1, 3).bytes()),
+        _ => Record::Carried(field_at(line, RecordType::COLUMN).bytes()),
     }
 }
 

@@ -1,24 +1,38 @@
 ghost use Rattle.std.specs.Prelude.{◌≡◌, ◌++◌, List, OnOk, nat_eq};
 ghost use Rattle.std.specs.HashMap.{get};
-ghost use Rattle.cwr_field.specs.Layout.{field};
+ghost use Rattle.cwr_record.specs.Columns.{field_at, work_head_copyright_date, work_head_duration};
 ghost use Rattle.cwr_record.specs.Kinds.{work_kind_code};
 ghost use Rattle.cwr_rules.specs.declared.record.Record.{Record};
-ghost use Rattle.cwr_rules.specs.Head.{has_wrong_iswc, has_wrong_date, is_copyright_date, is_duration, is_off};
+ghost use Rattle.cwr_rules.specs.Head.{has_no_title, has_no_number, has_wrong_iswc, has_wrong_date, is_copyright_date, is_duration, is_off};
 ghost use Rattle.cwr_rules.specs.Faults.{all_found, head_rules};
 ghost use Rattle.cwr_rules.specs.Summary.{IsSummary};
 
 use crate::record_faults::push_found;
 use crate::summary::Summary;
 use cwr_call::Fault;
-use cwr_field::{Iswc, Memory, cut, date, is_blank, iswc, time};
-use cwr_record::WorkKind;
+use cwr_field::{Iswc, Memory, date, is_blank, iswc, time};
+use cwr_record::{WorkHead, WorkKind, field_at, is_no_day};
 use std::alloc::Allocator;
+
+/// Whether the title is blank (J2).
+fn has_no_title(head: &[u8]) -> bool
+    ensures { result ≡ has_no_title head.now }
+{
+    is_blank(field_at(head, WorkHead::TITLE))
+}
+
+/// Whether the submitter work number is blank (J3).
+fn has_no_number(head: &[u8]) -> bool
+    ensures { result ≡ has_no_number head.now }
+{
+    is_blank(field_at(head, WorkHead::SUBMITTER_NUMBER))
+}
 
 /// Whether the ISWC is neither blank nor valid (J4).
 fn has_wrong_iswc(head: &[u8]) -> bool
     ensures { result ≡ has_wrong_iswc head.now }
 {
-    match iswc(cut(head, 96, 11)) {
+    match iswc(field_at(head, WorkHead::ISWC)) {
         Iswc::Blank | Iswc::Valid(_) => false,
         Iswc::Wrong => true,
     }
@@ -26,18 +40,18 @@ fn has_wrong_iswc(head: &[u8]) -> bool
 
 /// Whether the copyright date is blank, zeros or a day.
 fn is_copyright_date(head: &[u8]) -> bool
-    ensures { result ≡ is_copyright_date (field head.now 107 8) }
+    ensures { result ≡ is_copyright_date (field_at head.now work_head_copyright_date) }
 {
-    is_blank(cut(head, 107, 8))
-        || cut(head, 107, 8).bytes::<8>() == *b"00000000"
-        || date(cut(head, 107, 8)).is_some()
+    let text = field_at(head, WorkHead::COPYRIGHT_DATE);
+    is_no_day(&text) || date(text).is_some()
 }
 
 /// Whether the duration is blank or a time.
 fn is_duration(head: &[u8]) -> bool
-    ensures { result ≡ is_duration (field head.now 130 6) }
+    ensures { result ≡ is_duration (field_at head.now work_head_duration) }
 {
-    is_blank(cut(head, 130, 6)) || time(cut(head, 130, 6)).is_some()
+    let text = field_at(head, WorkHead::DURATION);
+    text.is_blank() || time(text).is_some()
 }
 
 /// Whether the copyright date or the duration is wrong (J5).
@@ -66,8 +80,8 @@ pub(crate) fn push_faults_of_whole<A: Allocator + Copy>(
 {
     let rtype = *kind.code();
     let ownership = summary.sums.ownership;
-    push_found(faults, 0, rtype, 2, is_blank(cut(head, 20, 60)))?;
-    push_found(faults, 0, rtype, 3, is_blank(cut(head, 82, 14)))?;
+    push_found(faults, 0, rtype, 2, has_no_title(head))?;
+    push_found(faults, 0, rtype, 3, has_no_number(head))?;
     push_found(faults, 0, rtype, 4, has_wrong_iswc(head))?;
     push_found(faults, 0, rtype, 5, has_wrong_date(head))?;
     push_found(faults, 0, rtype, 10, !summary.sums.has_writer)?;

@@ -26,5 +26,5 @@ of_lawful-call-requires g c =
     let faults = c.new.ensures ∙ c.in_ok-faults.ensures ∙ ap (λ (rs : List Record). faults_of c.kind-kind.result head rs) (c.deref-2.ensures.value ∙ sym c.deref.ensures.value) in
     lawful_from c.args.submitter head c.bytes.result c.bytes-2.result c.kind-kind.result c.iswc_number.result c.in_ok-summary.summary.sums.control records c.new.result
     few capped c.requires.clean c.parts-details.ensures.clean c.iswc_number.ensures.nine_digits
-    (c.bytes.ensures ∙ c.cut.ensures.value) (c.bytes-2.ensures ∙ c.cut-2.ensures.value) c.iswc_number.ensures.value
+    (c.bytes.ensures ∙ c.field_at.ensures.value) (c.bytes-2.ensures ∙ c.field_at-2.ensures.value) c.iswc_number.ensures.value
     (ap (λ (s : Sums). s.control) c.in_ok-summary.ensures.sums_are) faults
