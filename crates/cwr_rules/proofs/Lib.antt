@@ -9,3 +9,4 @@ pub mod LawfulCall
 pub mod TerritoryLaw
 pub mod NameLaw
 pub mod PartyKeys
+pub mod RecordLaw

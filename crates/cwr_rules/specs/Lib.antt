@@ -11,3 +11,4 @@ pub mod Position
 pub mod Parties
 pub mod Collected
 pub mod Summary
+pub mod OfRecords
