@@ -12,16 +12,16 @@ use Rattle.cwr_acknowledgement.specs.Acknowledgement.{ended}
 -- each text of the record fills its field
 abbrev pub Fills : {X : Type 0} → List (Part X) → X → Type 0
 Fills [] x = Unit {0}
-Fills (Read s part ∷ parts) x = (length (spelling s.content s.width (part x)) ≡ s.width) × Fills parts x
-Fills (Kept start width part ∷ parts) x = (length (part x) ≡ width) × Fills parts x
-Fills (Written start width text ∷ parts) x = Fills parts x
+Fills (Read s part ∷ parts) x = (length (spelling s.content s.column.width (part x)) ≡ s.column.width) × Fills parts x
+Fills (Kept column part ∷ parts) x = (length (part x) ≡ column.width) × Fills parts x
+Fills (Written column text ∷ parts) x = Fills parts x
 
 -- the records have the same text in each field that is read or kept
 abbrev pub SameTexts : {X : Type 0} → List (Part X) → X → X → Type 0
 SameTexts [] x y = Unit {0}
-SameTexts (Read s part ∷ parts) x y = (spelling s.content s.width (part x) ≡ spelling s.content s.width (part y)) × SameTexts parts x y
-SameTexts (Kept start width part ∷ parts) x y = (part x ≡ part y) × SameTexts parts x y
-SameTexts (Written start width text ∷ parts) x y = SameTexts parts x y
+SameTexts (Read s part ∷ parts) x y = (spelling s.content s.column.width (part x) ≡ spelling s.content s.column.width (part y)) × SameTexts parts x y
+SameTexts (Kept column part ∷ parts) x y = (part x ≡ part y) × SameTexts parts x y
+SameTexts (Written column text ∷ parts) x y = SameTexts parts x y
 
 padded_full : (width : ℕ) (text : List ℕ) → length text ≡ width → padded width text ≡ text
 padded_full width text e =
@@ -32,22 +32,22 @@ same_lines : {X : Type 0} (parts : List (Part X)) (x y : X) (r s : List ℕ) →
     → line_of parts x ++ r ≡ line_of parts y ++ s → SameTexts parts x y × (r ≡ s)
 same_lines [] x y r s f g e = (tt, e)
 same_lines (Read slot part ∷ parts) x y r s f g e =
-    let a = spelling slot.content slot.width (part x) in
-    let b = spelling slot.content slot.width (part y) in
+    let a = spelling slot.content slot.column.width (part x) in
+    let b = spelling slot.content slot.column.width (part y) in
     let split = same_fronts a b (line_of parts x ++ r) (line_of parts y ++ s) (f.0 ∙ sym g.0) (sym (append_assoc a (line_of parts x) r) ∙ e ∙ append_assoc b (line_of parts y) s) in
     let rest = same_lines parts x y r s f.1 g.1 split.1 in
     ((split.0, rest.0), rest.1)
-same_lines (Kept start width part ∷ parts) x y r s f g e =
-    let a = padded width (part x) in
-    let b = padded width (part y) in
-    let p = padded_full width (part x) f.0 in
-    let q = padded_full width (part y) g.0 in
+same_lines (Kept column part ∷ parts) x y r s f g e =
+    let a = padded column.width (part x) in
+    let b = padded column.width (part y) in
+    let p = padded_full column.width (part x) f.0 in
+    let q = padded_full column.width (part y) g.0 in
     let len : length a ≡ length b = ap length p ∙ f.0 ∙ sym g.0 ∙ sym (ap length q) in
     let split = same_fronts a b (line_of parts x ++ r) (line_of parts y ++ s) len (sym (append_assoc a (line_of parts x) r) ∙ e ∙ append_assoc b (line_of parts y) s) in
     let rest = same_lines parts x y r s f.1 g.1 split.1 in
     ((sym p ∙ split.0 ∙ q, rest.0), rest.1)
-same_lines (Written start width text ∷ parts) x y r s f g e =
-    let a = padded width text in
+same_lines (Written column text ∷ parts) x y r s f g e =
+    let a = padded column.width text in
     same_lines parts x y r s f g
     (append_cancel_left a (line_of parts x ++ r) (line_of parts y ++ s) (sym (append_assoc a (line_of parts x) r) ∙ e ∙ append_assoc a (line_of parts y) s))
 
