@@ -16,9 +16,9 @@ pub struct AckItem<A: Allocator = Global> {
     pub sequence: u32,
     /// The kind of the transaction.
     pub kind: WorkKind,
-    /// Title of the work, bytes 50 to 109 of its ACK record.
+    /// Title of the work, `Ack::TITLE` of its ACK record.
     pub title: [u8; 60],
-    /// The submitter's number of the work, bytes 110 to 123.
+    /// The submitter's number of the work, at the front of `Ack::SUBMITTER_NUMBER`.
     pub number: [u8; 14],
     /// The decision.
     pub status: Status,

@@ -101,7 +101,7 @@ impl<A: Allocator> Call<A> {
         }
     }
 
-    /// Who submits it: sender type and sender id, bytes 4 to 14 of the file's HDR.
+    /// Who submits it: sender type and sender id, `Header::SENDER` of the file's HDR.
     pub fn submitter(&self) -> [u8; 11]
         ensures value { result ≡ self.now.submitter }
         ensures clean { IsTrue (is_clean result) }
@@ -116,7 +116,7 @@ impl<A: Allocator> Call<A> {
         self.kind
     }
 
-    /// The work's title, bytes 20 to 79 of NWR or REV.
+    /// The work's title, `WorkHead::TITLE` of NWR or REV.
     pub fn title(&self) -> [u8; 60]
         ensures value { result ≡ self.now.title }
         ensures clean { IsTrue (is_clean result) }
@@ -124,7 +124,7 @@ impl<A: Allocator> Call<A> {
         self.title
     }
 
-    /// The submitter's number of the work, bytes 82 to 95 of NWR or REV.
+    /// The submitter's number of the work, `WorkHead::SUBMITTER_NUMBER` of NWR or REV.
     pub fn number(&self) -> [u8; 14]
         ensures value { result ≡ self.now.number }
         ensures clean { IsTrue (is_clean result) }

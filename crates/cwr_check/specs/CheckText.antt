@@ -2,7 +2,7 @@
 use Rattle.std.specs.Prelude.{◌≡◌, ℕ, ◌⊎◌, Bool, false, not, ◌==◌, List, [], ◌∷◌, ◌++◌, length, codes}
 use Rattle.std.specs.List.{flat_map, count_by}
 use Rattle.std.specs.Fmt.{decimal}
-use Rattle.cwr_field.specs.Layout.{field}
+use Rattle.cwr_record.specs.Columns.{field_at, header_sender}
 use Rattle.cwr_field.specs.Number.{number_text}
 use Rattle.cwr_record.specs.Kinds.{work_kind_code}
 use Rattle.cwr_grammar.specs.Faults.{IsLeastFault}
@@ -15,7 +15,7 @@ use Rattle.cwr_call.specs.Lawful.{is_none_found}
 
 -- the submitter of a file: Sender Type and Sender ID of its HDR
 abbrev pub submitter_of : File → List ℕ
-submitter_of file = field file.header 4 11
+submitter_of file = field_at file.header header_sender
 
 -- every fault of a submitter's transaction, by the rules
 abbrev pub faults_in : List ℕ → RawParts → List Fault

@@ -6,6 +6,7 @@ use Rattle.std.specs.Str.Lines.{lines, lines_of_parts, strip_carriage_return}
 use Rattle.std.proofs.lemmas.List.{length-take, take-append-drop}
 use Rattle.std.proofs.lemmas.List.Folds.{list_all-append}
 use Rattle.cwr_field.specs.Layout.{field}
+use Rattle.cwr_record.specs.Columns.{header_sender}
 use Rattle.cwr_record.specs.Control as table
 use Rattle.cwr_record.specs.Layout.{StandsFor}
 use Rattle.cwr_record.specs.Stamp.{is_printable}
@@ -143,5 +144,5 @@ pub file_bounds : (input : List ℕ) (file : File) (head : Header) (found : List
 file_bounds input file head found formed stands is = record {
   placed = subst (λ (ts : List RawParts). AllByRecursion IsPlaced ts) (sym is) (all_small 1 file.groups formed.groups);
   few = let h = few_lines input file formed in let same = ap lines_in is in omega (arith, h, same);
-  printable = rw stands.1.0 (field_printable file.header 4 11 (printable file.header formed.plain.0.0));
+  printable = rw stands.1.0 (field_printable file.header header_sender.start header_sender.width (printable file.header formed.plain.0.0));
 }

@@ -9,6 +9,9 @@ use Rattle.std.proofs.lemmas.Int.Digits.{digits_value-lt}
 use Rattle.std.proofs.lemmas.List.{length-take, length-replicate}
 use Rattle.cwr_field.specs.Layout.{field}
 use Rattle.cwr_field.specs.Number.{number_of}
+use Rattle.cwr_record.specs.Columns as column
+use Rattle.cwr_record.specs.Columns.{field_at}
+use Rattle.cwr_record.specs.declared.columns.Column.{Column}
 use Rattle.cwr_record.specs.RecordTypes.{type_of}
 use Rattle.cwr_record.specs.declared.record_type.RecordType.{RecordType}
 use Rattle.cwr_record.specs.declared.record_type.RecordType.TheVariants.{Hdr, Grh, Grt, Trl, Nwr, Rev, Ack, Spu, Spt, Opu, Swr, Swt, Pwr, Owr, Alt, Xrf, Other, Carried, Bad}
@@ -52,19 +55,19 @@ number_below bytes width long =
     let P : Bool → Type 0 = λ b. list_all is_ascii_digit bytes ≡ b → IfSome (cond b (Some (digits_value 10 bytes)) None) (λ n. n < 10 ^ width) in
     (elim (list_all is_ascii_digit bytes) as P [ true ↦ λ e. rw (← long) (digits_value-lt 10 bytes (are_digits bytes e)) | false ↦ λ _. tt ]) refl
 
-field_below : (line : List ℕ) (start width : ℕ) → IfSome (number_of (field line start width)) (λ n. n < 10 ^ width)
-field_below line start width = number_below (field line start width) width (length-field line start width)
+field_below : (line : List ℕ) (c : Column) → IfSome (number_of (field_at line c)) (λ n. n < 10 ^ c.width)
+field_below line c = number_below (field_at line c) c.width (length-field line c.start c.width)
 
 -- ---- roles
 
 small_at : (t : RecordType) (line : List ℕ) → HasSmallNumbers (role_at t line)
-small_at Grh line = field_below line 7 5
-small_at Grt line = field_below line 17 8
-small_at Trl line = field_below line 17 8
-small_at Nwr line = field_below line 4 8
-small_at Rev line = field_below line 4 8
-small_at Ack line = field_below line 4 8
-small_at Other line = field_below line 4 8
+small_at Grh line = field_below line column.group_head_group
+small_at Grt line = field_below line column.group_trailer_records
+small_at Trl line = field_below line column.file_trailer_records
+small_at Nwr line = field_below line column.prefix_transaction
+small_at Rev line = field_below line column.prefix_transaction
+small_at Ack line = field_below line column.prefix_transaction
+small_at Other line = field_below line column.prefix_transaction
 small_at Hdr line = tt
 small_at Spu line = tt
 small_at Spt line = tt

@@ -214,7 +214,7 @@ publisher_synchronization_society = from 129 3
 abbrev pub publisher_synchronization_ownership : Column
 publisher_synchronization_ownership = from 132 5
 
--- SPT, Publisher Territory of Control; from byte 55 the layout is that of this registry
+-- SPT, Publisher Territory of Control; from Shares Change on the layout is that of this registry
 abbrev pub publisher_territory_party : Column
 publisher_territory_party = from 20 9
 
@@ -282,7 +282,7 @@ writer_synchronization_society = from 143 3
 abbrev pub writer_synchronization_ownership : Column
 writer_synchronization_ownership = from 146 5
 
--- SWT, Writer Territory of Control; from byte 49 the layout is that of this registry
+-- SWT, Writer Territory of Control; from Shares Change on the layout is that of this registry
 abbrev pub writer_territory_party : Column
 writer_territory_party = from 20 9
 
@@ -307,7 +307,7 @@ writer_territory_shares_change = from 49 1
 abbrev pub writer_territory_sequence : Column
 writer_territory_sequence = from 50 3
 
--- PWR, Publisher for Writer; from byte 74 the layout is that of this registry
+-- PWR, Publisher for Writer; from Submitter Agreement Number on the layout is that of this registry
 abbrev pub link_publisher_party : Column
 link_publisher_party = from 20 9
 

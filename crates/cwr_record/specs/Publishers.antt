@@ -29,7 +29,7 @@ publisher =
     ∷ share column.publisher_synchronization_ownership (λ x. x.synchronization_ownership)  -- SR Ownership Share
     ∷ []
 
--- SPT, Publisher Territory of Control; from byte 55 the layout is that of this registry
+-- SPT, Publisher Territory of Control; from Shares Change on the layout is that of this registry
 abbrev pub publisher_territory : List (Part PublisherTerritory)
 publisher_territory =
     kind (codes "SPT")  -- Record Type

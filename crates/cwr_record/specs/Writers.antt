@@ -29,7 +29,7 @@ writer =
     ∷ share column.writer_synchronization_ownership (λ x. x.synchronization_ownership)  -- SR Ownership Share
     ∷ []
 
--- SWT, Writer Territory of Control; from byte 49 the layout is that of this registry
+-- SWT, Writer Territory of Control; from Shares Change on the layout is that of this registry
 abbrev pub writer_territory : List (Part WriterTerritory)
 writer_territory =
     kind (codes "SWT")  -- Record Type
@@ -45,7 +45,7 @@ writer_territory =
     ∷ text column.writer_territory_sequence (λ x. x.sequence)  -- Sequence #
     ∷ []
 
--- PWR, Publisher for Writer; from byte 74 the layout is that of this registry
+-- PWR, Publisher for Writer; from Submitter Agreement Number on the layout is that of this registry
 abbrev pub link : List (Part Link)
 link =
     kind (codes "PWR")  -- Record Type

@@ -9,12 +9,16 @@ ghost use Rattle.cwr_record.specs.RecordTypes.{type_of};
 ghost use Rattle.cwr_record.specs.Works as works;
 ghost use Rattle.cwr_record.specs.Publishers as publishers;
 ghost use Rattle.cwr_record.specs.Writers as writers;
+ghost use Rattle.cwr_record.specs.Columns as columns;
 ghost use Rattle.cwr_record.specs.declared.works.WorkHead.{WorkHead};
 ghost use Rattle.cwr_record.specs.declared.publishers.Publisher.{Publisher};
 ghost use Rattle.cwr_record.specs.declared.publishers.PublisherTerritory.{PublisherTerritory};
 ghost use Rattle.cwr_record.specs.declared.writers.Writer.{Writer};
 ghost use Rattle.cwr_record.specs.declared.writers.WriterTerritory.{WriterTerritory};
 ghost use Rattle.cwr_record.specs.declared.writers.Link.{Link};
+
+use crate::control::{GroupTrailer, Header};
+use crate::publishers::PublisherTerritory;
 
 /// Of a line that stands for a registration's head, the record type is that of its kind.
 pub fn heads_are_named()
@@ -38,4 +42,16 @@ pub fn territories_are_read()
 /// Of a line that stands for a writer's publisher, the record type and the publisher's party, read alone, are its own.
 pub fn links_are_read()
     ensures { (line : List ℕ) (x : Link) → StandsFor writers.link line x → IsLineOfLink line x }
+{}
+
+/// The columns of the code that no reader names are those of the definitions, too: their texts are written and never
+/// read.
+pub fn written_columns_are_the_same()
+    ensures standard_version { Header.STANDARD_VERSION ≡ columns.header_standard_version }
+    ensures version { Header.VERSION ≡ columns.header_version }
+    ensures revision { Header.REVISION ≡ columns.header_revision }
+    ensures software_package { Header.SOFTWARE_PACKAGE ≡ columns.header_software_package }
+    ensures software_version { Header.SOFTWARE_VERSION ≡ columns.header_software_version }
+    ensures monetary_value { GroupTrailer.MONETARY_VALUE ≡ columns.group_trailer_monetary_value }
+    ensures constant { PublisherTerritory.CONSTANT ≡ columns.publisher_territory_constant }
 {}

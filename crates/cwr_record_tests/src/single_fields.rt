@@ -2,9 +2,29 @@
 
 use crate::lines::line;
 use cwr_record::{
-    RecordType, collection_of, indicator_of, ownership_of, party_of, publisher_of, territory_of,
+    Column, GroupHead, RecordType, collection_of, field_at, indicator_of, is_no_day, ownership_of,
+    party_of, publisher_of, territory_of,
 };
 use std::test::Fail;
+
+#[test]
+fn columns(rt: HostRuntime) {
+    let head = b"GRHNWR0000102.200000000001";
+    assert_eq!(rt; field_at(head, GroupHead::GROUP).bytes::<5>(), *b"00001");
+    assert_eq!(rt; field_at(head, GroupHead::VERSION).bytes::<5>(), *b"02.20");
+    assert_eq!(rt;
+        field_at(head, GroupHead::SUBMISSION_TYPE).bytes::<2>(),
+        *b"  "
+    );
+}
+
+#[test]
+fn no_days(rt: HostRuntime) {
+    let column = Column { start: 2, width: 8 };
+    assert!(rt; is_no_day(&field_at(b"D00000000", column)));
+    assert!(rt; is_no_day(&field_at(b"D", column)));
+    assert!(rt; !is_no_day(&field_at(b"D20240601", column)));
+}
 
 #[test]
 fn parties(rt: HostRuntime) {
