@@ -39,6 +39,20 @@ abbrev pub is_named_twice : List (List ℕ) → Bool
 is_named_twice [] = false
 is_named_twice (file ∷ files) = list_any (is_same_file file) files || is_named_twice files
 
+-- a word names a file, or the acknowledgement of one
+unfoldable pub is_of_file : List ℕ → List ℕ → Bool
+is_of_file word file = bytes_eq word file || is_acknowledgement file word
+
+-- the register that a run begins with would lie in an acknowledgement, which is written over it
+abbrev pub is_read_lost : Option (List ℕ) → List (List ℕ) → Bool
+is_read_lost None _ = false
+is_read_lost (Some from) files = list_any (λ file. is_acknowledgement file from) files
+
+-- the register that a run leaves would be written over a file or over an acknowledgement
+abbrev pub is_kept_over : Option (List ℕ) → List (List ℕ) → Bool
+is_kept_over None _ = false
+is_kept_over (Some to) files = list_any (is_of_file to) files
+
 -- the first that holds
 abbrev pub run_fault : List ℕ → List ℕ → List ℕ → List ℕ → List (List ℕ) → Option RunFault
 run_fault society name date time files =
@@ -48,6 +62,13 @@ run_fault society name date time files =
     else if not (is_time time) then Some Time
     else if nat_lt 63 (length files) then Some TooMany
     else if is_named_twice files then Some Twice
+    else None
+
+-- the first that holds, of a run that may begin with a register and may leave one
+abbrev pub words_fault : List ℕ → List ℕ → List ℕ → List ℕ → List (List ℕ) → Option (List ℕ) → Option (List ℕ) → Option RunFault
+words_fault society name date time files from to =
+    if is_some (run_fault society name date time files) then run_fault society name date time files
+    else if is_read_lost from files || is_kept_over to files then Some Twice
     else None
 
 abbrev pub run_fault_text : RunFault → List ℕ

@@ -1,8 +1,8 @@
-ghost use Rattle.std.specs.Prelude.{◌≡◌, map};
+ghost use Rattle.std.specs.Prelude.{◌≡◌, map, option_map};
 ghost use Rattle.std.specs.List.{list_all, list_any};
 ghost use Rattle.std.specs.Char.{is_ascii_digit};
 ghost use Rattle.cwr_record.specs.Stamp.{is_printable};
-ghost use Rattle.run_words.specs.RunFault.{is_society, is_name, is_date, is_time, is_acknowledgement, is_same_file, is_named_twice, run_fault, run_fault_text};
+ghost use Rattle.run_words.specs.RunFault.{is_society, is_name, is_date, is_time, is_acknowledgement, is_same_file, is_named_twice, is_of_file, is_read_lost, is_kept_over, run_fault, words_fault, run_fault_text};
 
 use cwr_field::{cut, date, time};
 
@@ -25,7 +25,8 @@ pub enum RunFault {
     Time,
     /// There are more than 63 files.
     TooMany,
-    /// Two of the files are one, or one is the acknowledgement of another: its name with `.ack` behind it.
+    /// Two of the files are one, or one is the acknowledgement of another: its name with `.ack` behind it. Or a register
+    /// would be lost: the run would write it over a file or an acknowledgement, or the acknowledgement over it.
     Twice,
 }
 
@@ -73,6 +74,32 @@ pub fn run_fault(
         return Some(RunFault::TooMany);
     }
     if is_named_twice(files) {
+        return Some(RunFault::Twice);
+    }
+    None
+}
+
+/// What is wrong with the words of a run that may begin with the register `from` and leave its own in `to`: as
+/// [`run_fault`], and `Twice` also where `to` names one of the files or the acknowledgement of one, or `from` the
+/// acknowledgement of one.
+///
+/// `from` and `to` may be one word, and `from` one of the files: nothing is written over either before it is read.
+pub fn words_fault(
+    society: &str,
+    name: &str,
+    date: &str,
+    time: &str,
+    files: &[&str],
+    from: Option<&str>,
+    to: Option<&str>,
+) -> Option<RunFault>
+    ensures { result ≡ words_fault society.now name.now date.now time.now (map (λ file. file.now) files.now)
+        (option_map (λ word. word.now) from.entry) (option_map (λ word. word.now) to.entry) }
+{
+    if let Some(fault) = run_fault(society, name, date, time, files) {
+        return Some(fault);
+    }
+    if is_read_lost(from, files) || is_kept_over(to, files) {
         return Some(RunFault::Twice);
     }
     None
@@ -154,4 +181,56 @@ fn is_acknowledgement(file: &[u8], other: &[u8]) -> bool
         Some(front) => front == file,
         None => false,
     }
+}
+
+/// Whether the register that a run begins with would lie in the acknowledgement of one of the files.
+fn is_read_lost(from: Option<&str>, files: &[&str]) -> bool
+    ensures { result ≡ is_read_lost (option_map (λ word. word.now) from.entry) (map (λ file. file.now) files.now) }
+{
+    match from {
+        Some(word) => is_acknowledgement_of_any(word.as_bytes(), files),
+        None => false,
+    }
+}
+
+/// Whether the register that a run leaves would be written over one of the files, or over the acknowledgement of one.
+fn is_kept_over(to: Option<&str>, files: &[&str]) -> bool
+    ensures { result ≡ is_kept_over (option_map (λ word. word.now) to.entry) (map (λ file. file.now) files.now) }
+{
+    match to {
+        Some(word) => is_of_any(word.as_bytes(), files),
+        None => false,
+    }
+}
+
+/// Whether a word names the acknowledgement of one of the files.
+fn is_acknowledgement_of_any(word: &[u8], files: &[&str]) -> bool
+    ensures { result ≡ list_any (λ file. is_acknowledgement file word.now) (map (λ file. file.now) files.now) }
+{
+    for file in files {
+        if is_acknowledgement(file.as_bytes(), word) {
+            return true;
+        }
+    }
+    false
+}
+
+/// Whether a word names one of the files, or the acknowledgement of one.
+fn is_of_any(word: &[u8], files: &[&str]) -> bool
+    ensures { result ≡ list_any (is_of_file word.now) (map (λ file. file.now) files.now) }
+{
+    for file in files {
+        if is_of_file(word, file.as_bytes()) {
+            return true;
+        }
+    }
+    false
+}
+
+/// Whether a word names a file, or its acknowledgement.
+#[tactic(auto, unfolding(crate::specs::RunFault::is_of_file))]
+fn is_of_file(word: &[u8], file: &[u8]) -> bool
+    ensures { result ≡ is_of_file word.now file.now }
+{
+    word == file || is_acknowledgement(file, word)
 }
