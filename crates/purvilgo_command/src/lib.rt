@@ -8,6 +8,7 @@ mod program;
 mod registers;
 mod run_command;
 mod running;
+mod same_files;
 mod status;
 
 pub use program::run_program;

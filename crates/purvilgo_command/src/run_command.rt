@@ -1,13 +1,13 @@
 //! The words of a run.
 
-ghost use Rattle.std.specs.Prelude.{◌≡◌, ◌<◌, None, map, length, IfOk};
-ghost use Rattle.run_words.specs.RunFault.{run_fault, run_stamp};
+ghost use Rattle.std.specs.Prelude.{◌≡◌, ◌<◌, None, map, option_map, length, IfOk};
+ghost use Rattle.run_words.specs.RunFault.{words_fault, run_stamp};
 
 use crate::status::bad_words;
 use clap::{Arg, ArgAction, ArgMatches, Command};
 use cwr_field::{cut, date, digits, time};
 use cwr_record::Stamp;
-use run_words::{RunFault, run_fault};
+use run_words::{RunFault, words_fault};
 use std::alloc::{AllocError, Global};
 use std::process::ExitCode;
 
@@ -72,10 +72,19 @@ impl<'m, 'a> RunWords<'m, 'a> {
 
     /// What is wrong with them, if anything is.
     pub(crate) fn fault(&self) -> Option<RunFault>
-        ensures { result ≡ run_fault self.now.society.now self.now.name.now self.now.date.now self.now.time.now
-            (map (λ file. file.now) self.now.files.now) }
+        ensures { result ≡ words_fault self.now.society.now self.now.name.now self.now.date.now self.now.time.now
+            (map (λ file. file.now) self.now.files.now)
+            (option_map (λ word. word.now) self.now.from) (option_map (λ word. word.now) self.now.to) }
     {
-        run_fault(self.society, self.name, self.date, self.time, self.files)
+        words_fault(
+            self.society,
+            self.name,
+            self.date,
+            self.time,
+            self.files,
+            self.from,
+            self.to,
+        )
     }
 
     /// The stamp of the acknowledgements. There is one where nothing is wrong with the words.

@@ -5,10 +5,12 @@ ghost use Rattle.std.specs.Prelude.{◌≡◌, ◌≤◌, All, IfOk, false, leng
 use crate::files::{InputFile, OutputFile};
 use crate::registers::{keep_book, opening_book};
 use crate::run_command::right_words;
+use crate::same_files::is_one_file_twice;
 use crate::status::{bad_words, no_memory};
 use clap::ArgMatches;
 use cwr_desk::{FileOutcome, Job, OpenGate, outcome_line, serve};
 use cwr_field::Memory;
+use run_words::RunFault;
 use std::alloc::Global;
 use std::process::ExitCode;
 use std::rt::Files;
@@ -37,11 +39,16 @@ where
     let Some(stamp) = words.stamp() else {
         return bad_words(rt, "the words name no stamp");
     };
-    let Some(book) = opening_book(rt, words.from) else {
-        return ExitCode::FAILURE;
-    };
     let Ok(answers) = acknowledgements(rt.alloc(), words.files) else {
         return no_memory(rt);
+    };
+    match is_one_file_twice(rt, words.files, &answers, words.from, words.to) {
+        Ok(false) => {}
+        Ok(true) => return bad_words(rt, RunFault::Twice.text()),
+        Err(_) => return no_memory(rt),
+    }
+    let Some(book) = opening_book(rt, words.from) else {
+        return ExitCode::FAILURE;
     };
     let Ok(jobs) = jobs_of(rt, words.files, &answers) else {
         return no_memory(rt);

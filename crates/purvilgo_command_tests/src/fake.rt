@@ -7,6 +7,7 @@ use std::env::FillError;
 use std::fmt::Display;
 use std::fs::{Metadata, OpenOptions};
 use std::io::{self, BufRead, ErrorKind};
+use std::path::PathBuf;
 use std::process::ExitCode;
 use std::rt::{Env, Files};
 use std::sync::{Mutex, Wait};
@@ -22,6 +23,10 @@ pub(crate) struct Fake<'a, T> {
     pub(crate) files: &'a [(&'a str, FakeFile<'a>)],
     /// The files that can be written.
     pub(crate) kept: &'a [KeptFile<'a>],
+    /// What the system tells of files and directories that are there, by name.
+    pub(crate) nodes: &'a [(&'a str, Metadata)],
+    /// The names that are links, and to what.
+    pub(crate) links: &'a [(&'a str, &'a str)],
     pub(crate) alloc: Global,
     pub(crate) printed: Mutex<Vec<u8>>,
     pub(crate) complained: Mutex<String>,
@@ -36,6 +41,8 @@ impl<'a, T: AllocGlobal> Fake<'a, T> {
             input,
             files: &[],
             kept: &[],
+            nodes: &[],
+            links: &[],
             alloc,
             printed: Mutex::new(Vec::new(alloc)),
             complained: Mutex::new(String::new(alloc)),
@@ -54,6 +61,8 @@ impl<'a, T: AllocGlobal> Fake<'a, T> {
             input,
             files: _,
             kept: _,
+            nodes,
+            links,
             alloc,
             printed,
             complained,
@@ -64,6 +73,40 @@ impl<'a, T: AllocGlobal> Fake<'a, T> {
             input,
             files,
             kept,
+            nodes,
+            links,
+            alloc,
+            printed,
+            complained,
+        }
+    }
+
+    /// The same runtime where the system tells this of names.
+    pub(crate) fn with_names(
+        self,
+        nodes: &'a [(&'a str, Metadata)],
+        links: &'a [(&'a str, &'a str)],
+    ) -> Fake<'a, T> {
+        let Fake {
+            rt,
+            words,
+            input,
+            files,
+            kept,
+            nodes: _,
+            links: _,
+            alloc,
+            printed,
+            complained,
+        } = self;
+        Fake {
+            rt,
+            words,
+            input,
+            files,
+            kept,
+            nodes,
+            links,
             alloc,
             printed,
             complained,
@@ -78,6 +121,8 @@ impl<'a, T: AllocGlobal> Fake<'a, T> {
             input: _,
             files: _,
             kept: _,
+            nodes: _,
+            links: _,
             alloc: _,
             printed,
             complained,
@@ -222,12 +267,31 @@ impl<'a, T> Files for Fake<'a, T> {
         unsupported()
     }
 
-    fn metadata(&self, _path: &str) -> io::Result<Metadata> {
-        unsupported()
+    fn metadata(&self, path: &str) -> io::Result<Metadata> {
+        for (name, node) in self.nodes {
+            if *name == path {
+                return Ok(node.clone()?);
+            }
+        }
+        Err(io::Error::from(ErrorKind::NotFound))
     }
 
-    fn symlink_metadata(&self, _path: &str) -> io::Result<Metadata> {
-        unsupported()
+    fn symlink_metadata(&self, path: &str) -> io::Result<Metadata> {
+        for (name, _) in self.links {
+            if *name == path {
+                return Ok(Metadata::of_symlink(0));
+            }
+        }
+        self.metadata(path)
+    }
+
+    fn read_link<B: Allocator>(&self, alloc: B, path: &str) -> io::Result<PathBuf<B>> {
+        for (name, target) in self.links {
+            if *name == path {
+                return Ok(PathBuf::from_str(alloc, target)?);
+            }
+        }
+        Err(io::Error::from(ErrorKind::InvalidInput))
     }
 
     fn copy(&self, _from: &str, _to: &str) -> io::Result<u64> {

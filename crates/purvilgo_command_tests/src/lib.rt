@@ -14,4 +14,6 @@ mod kept_registers;
 #[cfg(test)]
 mod runs;
 #[cfg(test)]
+mod same_files;
+#[cfg(test)]
 mod words;

@@ -1,7 +1,7 @@
 //! What is wrong with the words of a run.
 
 use cwr_sheets::{same, same_text};
-use run_words::{RunFault, run_fault};
+use run_words::{RunFault, run_fault, words_fault};
 use std::test::Fail;
 
 #[test]
@@ -60,6 +60,33 @@ fn tells_wrong_files() -> Result<(), Fail> {
         )?;
     }
     Ok(())
+}
+
+#[test]
+fn tells_registers_that_would_be_lost() -> Result<(), Fail> {
+    let twice = Some(RunFault::Twice);
+    for (from, to, wanted) in [
+        (None, None, None),
+        (Some("before"), Some("after"), None),
+        (Some("book"), Some("book"), None),
+        (Some("a"), None, None),
+        (None, Some("a"), twice),
+        (None, Some("b"), twice),
+        (Some("a"), Some("a"), twice),
+        (None, Some("a.ack"), twice),
+        (None, Some("b.ack"), twice),
+        (Some("b.ack"), None, twice),
+        (Some("b.ack"), Some("after"), twice),
+        (None, Some("a.ac"), None),
+        (None, Some("a.ack.ack"), None),
+    ] {
+        let found = words_fault("007", "X", "20240229", "090000", &["a", "b"], from, to);
+        same("registers", &(from, to, found), &(from, to, wanted))?;
+    }
+    let found = words_fault("007", "X", "20240229", "", &["a"], None, Some("a"));
+    same("a time before it", &found, &Some(RunFault::Time))?;
+    let found = words_fault("007", "X", "20240229", "090000", &["a"; 64], None, Some("a"));
+    same("too many before it", &found, &Some(RunFault::TooMany))
 }
 
 #[test]
