@@ -2,10 +2,27 @@
 
 ghost use Rattle.std.specs.Prelude.{◌≡◌, ◌≤◌, false, None, length, IfOk};
 
-use byte_streams::{Failed, ReadCount, Sink, Source};
+use byte_streams::{Failed, ReadCount, ReadRefused, Sink, Source, Through, read_file};
 use std::fs;
+use std::fs::File;
 use std::io::{Read, Write};
 use std::rt::Files;
+
+/// The name of standard input.
+const STANDARD_INPUT: &str = "-";
+
+/// The bytes of a file, or of standard input where the name is `-`: at most `limit`.
+pub(crate) fn bytes_of<R: AllocGlobal + Input + Files>(
+    rt: &R,
+    name: &str,
+    limit: usize,
+) -> Result<Vec<u8>, ReadRefused> {
+    if name == STANDARD_INPUT {
+        read_file(rt.alloc(), &mut Through::new(rt.reader()), limit)
+    } else {
+        read_file(rt.alloc(), &mut InputFile::new(rt, name), limit)
+    }
+}
 
 /// A file that is opened at its first read. It tells no bytes.
 ///
@@ -87,18 +104,21 @@ impl<R: Files> Source for InputFile<'_, R> {
 pub(crate) struct OutputFile<'a, R: Files> {
     rt: &'a R,
     path: &'a str,
+    /// Whether a file that is there already may be opened.
+    replaces: bool,
     file: Option<R::File>,
     failed: bool,
 }
 
 impl<'a, R: Files> OutputFile<'a, R> {
-    /// The file of this name, which is not opened yet.
-    pub(crate) fn new(rt: &'a R, path: &'a str) -> OutputFile<'a, R>
+    /// The file of this name, which is not opened yet. Where it `replaces` none, it cannot be opened if it is there then.
+    pub(crate) fn new(rt: &'a R, path: &'a str, replaces: bool) -> OutputFile<'a, R>
         ensures { result.failed ≡ false }
     {
         OutputFile {
             rt,
             path,
+            replaces,
             file: None,
             failed: false,
         }
@@ -109,7 +129,12 @@ impl<'a, R: Files> OutputFile<'a, R> {
         ensures { self.new.failed ≡ self.old.failed }
     {
         if self.file.is_none() {
-            match fs::create(self.rt, self.path) {
+            let opened = if self.replaces {
+                File::create(self.rt, self.path)
+            } else {
+                File::create_new(self.rt, self.path)
+            };
+            match opened {
                 Ok(file) => self.file = Some(file),
                 Err(_) => return Err(Failed),
             }

@@ -10,5 +10,6 @@ mod run_command;
 mod running;
 mod same_files;
 mod status;
+mod version;
 
 pub use program::run_program;

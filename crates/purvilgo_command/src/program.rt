@@ -1,10 +1,12 @@
 use crate::command_line::command_line;
-use crate::files::InputFile;
+use crate::files::bytes_of;
 use crate::registers::audit_file;
 use crate::running::run_files;
 use crate::status::{BAD_WORDS, bad_words, no_memory};
-use byte_streams::{Through, read_file};
+use crate::version::VERSION;
+use byte_streams::Through;
 use clap::ArgMatches;
+use clap::error::ErrorKind;
 use cwr_check::{Checked, check_text};
 use cwr_desk::{FileOutcome, MOST_BYTES, acknowledge, outcome_line};
 use cwr_field::{Clock, Day, cut, date, time};
@@ -19,12 +21,14 @@ use std::{env, io, str};
 ///
 /// Without words it acknowledges standard input to standard output. `run` acknowledges files at one book, which may
 /// come from a register and go to one. `check FILE` tells on standard output which rules a file breaks, and
-/// `audit REGISTER` tells there how many entries a register has, or its first fault.
+/// `audit REGISTER` tells there how many entries a register has, or its first fault. `--version` tells there the
+/// program's version.
 ///
 /// The status is 0 without words where the input is acknowledged; of `run` where all files are, each outcome is told,
-/// and the register that is asked for is kept; of `check` and `audit` where there is no fault, and that is told. It is 2
-/// where the words are not taken: one of them is not text, `clap` answers with a text of its own (so also where help is
-/// asked for), or those of `run` have a [`RunFault`](run_words::RunFault). Else it is 1.
+/// and the register that is asked for is kept; of `check` and `audit` where there is no fault, and that is told; of
+/// `--version` where it is told. It is 2 where the words are not taken: one of them is not text, `clap` answers with a
+/// text of its own (so also where help is asked for), or those of `run` have a [`RunFault`](run_words::RunFault) or name
+/// one file of the system twice. Else it is 1, also where memory is refused for the words.
 pub fn run_program<R: Env + AllocGlobal + Input + Print + Eprint + Files + Threads + Wait + Sync>(
     rt: &R,
 ) -> ExitCode
@@ -32,23 +36,50 @@ where
     R::File: Send,
     R::Dir: Send,
 {
-    let Ok(words) = env::args(rt) else {
-        return bad_words(rt, "a word of the command line is not text");
+    let words = match env::args(rt) {
+        Ok(words) => words,
+        Err(error) if error.kind() == io::ErrorKind::OutOfMemory => return no_memory(rt),
+        Err(_) => return bad_words(rt, "a word of the command line is not text"),
     };
     let words: Vec<String> = match words.collect(rt.alloc()) {
         Ok(words) => words,
         Err(_) => return no_memory(rt),
     };
+    if asks_for_version(&words) {
+        return tell_version(rt);
+    }
     let Ok(command) = command_line(rt.alloc()) else {
         return no_memory(rt);
     };
     match command.try_get_matches_from(words.as_slice()) {
         Ok(matches) => run_given(rt, &matches),
-        Err(error) => {
-            let _ = eprint!(rt; "{error}");
-            ExitCode::from(BAD_WORDS)
-        }
+        Err(error) => tell_untaken(rt, &error),
     }
+}
+
+/// Whether the one word behind the program's name asks for the version.
+fn asks_for_version(words: &[String]) -> bool {
+    match words {
+        [_, word] => word.as_str() == "--version" || word.as_str() == "-V",
+        _ => false,
+    }
+}
+
+/// Tells the version on standard output.
+fn tell_version<R: Print>(rt: &R) -> ExitCode {
+    match println!(rt; "purvilgo {VERSION}") {
+        Ok(()) => ExitCode::SUCCESS,
+        Err(_) => ExitCode::FAILURE,
+    }
+}
+
+/// Tells why `clap` does not take the words.
+fn tell_untaken<R: Eprint>(rt: &R, error: &clap::Error) -> ExitCode {
+    if error.kind() == ErrorKind::OutOfMemory {
+        return no_memory(rt);
+    }
+    let _ = eprint!(rt; "{error}");
+    ExitCode::from(BAD_WORDS)
 }
 
 /// Runs the command that the words name, or without words the one that has no name.
@@ -68,7 +99,7 @@ where
 }
 
 /// Runs a command that takes one file.
-fn run_on_file<R: AllocGlobal + Print + Eprint + Files>(
+fn run_on_file<R: AllocGlobal + Input + Print + Eprint + Files>(
     rt: &R,
     name: &str,
     given: &ArgMatches,
@@ -80,10 +111,9 @@ fn run_on_file<R: AllocGlobal + Print + Eprint + Files>(
     }
 }
 
-/// Checks a file, and tells on standard output what was found.
-fn check_file<R: AllocGlobal + Print + Eprint + Files>(rt: &R, path: &str) -> ExitCode {
-    let mut reader = InputFile::new(rt, path);
-    let text = match read_file(rt.alloc(), &mut reader, MOST_BYTES) {
+/// Checks a file, or standard input for `-`, and tells on standard output what was found.
+fn check_file<R: AllocGlobal + Input + Print + Eprint + Files>(rt: &R, path: &str) -> ExitCode {
+    let text = match bytes_of(rt, path, MOST_BYTES) {
         Ok(text) => text,
         Err(unread) => {
             let _ = eprintln!(rt; "stopped: {unread}");

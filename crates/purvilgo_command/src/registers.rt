@@ -3,7 +3,7 @@
 ghost use Rattle.std.specs.Prelude.{◌≡◌, true, IfSome};
 ghost use Rattle.work_registry.specs.Replay.{is_opening};
 
-use crate::files::{InputFile, OutputFile};
+use crate::files::{InputFile, OutputFile, bytes_of};
 use crate::status::no_memory;
 use byte_streams::{ReadRefused, read_file, write_out};
 use cwr_desk::MOST_ENTRIES;
@@ -67,7 +67,7 @@ pub(crate) fn keep_book<R: AllocGlobal + Eprint + Files>(rt: &R, book: &Book, pa
         let _ = eprintln!(rt; "register: stopped: memory");
         return false;
     };
-    match write_out(&mut OutputFile::new(rt, path), &text) {
+    match write_out(&mut OutputFile::new(rt, path, true), &text) {
         Ok(()) => true,
         Err(cut) => {
             let _ = eprintln!(rt; "register: stopped: {cut}");
@@ -76,9 +76,12 @@ pub(crate) fn keep_book<R: AllocGlobal + Eprint + Files>(rt: &R, book: &Book, pa
     }
 }
 
-/// Tells on standard output how many entries a register has, or its first fault.
-pub(crate) fn audit_file<R: AllocGlobal + Print + Eprint + Files>(rt: &R, path: &str) -> ExitCode {
-    let bytes = match register_bytes(rt, path) {
+/// Tells on standard output how many entries a register has, or its first fault. It is that of standard input for `-`.
+pub(crate) fn audit_file<R: AllocGlobal + Input + Print + Eprint + Files>(
+    rt: &R,
+    path: &str,
+) -> ExitCode {
+    let bytes = match bytes_of(rt, path, MOST_REGISTER_BYTES) {
         Ok(bytes) => bytes,
         Err(unread) => {
             let _ = eprintln!(rt; "stopped: {unread}");

@@ -11,7 +11,8 @@ use run_words::{RunFault, words_fault};
 use std::alloc::{AllocError, Global};
 use std::process::ExitCode;
 
-/// `run --society NNN --name TEXT --date YYYYMMDD --time HHMMSS [--from REGISTER] [--to REGISTER] FILE..`
+/// `run --society NNN --name TEXT --date YYYYMMDD --time HHMMSS [--from REGISTER] [--to REGISTER] [--in-turn]
+/// [--no-clobber] FILE..`
 pub(crate) fn run_command<'a>(alloc: Global) -> Result<Command<'a>, AllocError> {
     let files = Arg::new(alloc, "FILE")
         .action(ArgAction::Append)
@@ -26,6 +27,8 @@ pub(crate) fn run_command<'a>(alloc: Global) -> Result<Command<'a>, AllocError> 
         .arg(option(alloc, "time", "HHMMSS", "time of the run").required(true))?
         .arg(option(alloc, "from", "REGISTER", "the register to go on from"))?
         .arg(option(alloc, "to", "REGISTER", "the register to write"))?
+        .arg(flag(alloc, "in-turn", "one file after another, in their order"))?
+        .arg(flag(alloc, "no-clobber", "write over no acknowledgement"))?
         .arg(files)
 }
 
@@ -34,6 +37,14 @@ fn option<'a>(alloc: Global, name: &'a str, value: &'a str, help: &'a str) -> Ar
     Arg::new(alloc, name)
         .long(name)
         .value_name(value)
+        .help(help)
+}
+
+/// An option without a value.
+fn flag<'a>(alloc: Global, name: &'a str, help: &'a str) -> Arg<'a> {
+    Arg::new(alloc, name)
+        .long(name)
+        .action(ArgAction::SetTrue)
         .help(help)
 }
 
@@ -52,6 +63,10 @@ pub(crate) struct RunWords<'m, 'a> {
     pub(crate) from: Option<&'a str>,
     /// The file that gets the register of the book after the run, if any does.
     pub(crate) to: Option<&'a str>,
+    /// Whether the files are worked one after another, in their order.
+    pub(crate) in_turn: bool,
+    /// Whether acknowledgements that are there stay.
+    pub(crate) no_clobber: bool,
     /// The files to acknowledge.
     pub(crate) files: &'m [&'a str],
 }
@@ -66,6 +81,8 @@ impl<'m, 'a> RunWords<'m, 'a> {
             time: matches.get_str("time")?,
             from: matches.get_str("from"),
             to: matches.get_str("to"),
+            in_turn: matches.get_flag("in-turn"),
+            no_clobber: matches.get_flag("no-clobber"),
             files: matches.get_strs("FILE")?,
         })
     }

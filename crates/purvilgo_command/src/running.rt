@@ -1,4 +1,4 @@
-//! The command `run`: files are acknowledged at one book, each on a thread of its own.
+//! The command `run`: files are acknowledged at one book, each on a thread of its own or one after another.
 
 ghost use Rattle.std.specs.Prelude.{◌≡◌, ◌≤◌, All, IfOk, false, length, vec_len};
 
@@ -8,16 +8,18 @@ use crate::run_command::right_words;
 use crate::same_files::is_one_file_twice;
 use crate::status::{bad_words, no_memory};
 use clap::ArgMatches;
-use cwr_desk::{FileOutcome, Job, OpenGate, outcome_line, serve};
+use cwr_desk::{FileOutcome, Job, OpenGate, outcome_line, serve, serve_in_turn};
 use cwr_field::Memory;
 use run_words::RunFault;
 use std::alloc::Global;
+use std::fs;
 use std::process::ExitCode;
 use std::rt::Files;
 use std::sync::Wait;
 use std::thread::Threads;
 
-/// Acknowledges the files that the words name, each by a worker on a thread of its own, all at one book.
+/// Acknowledges the files that the words name, all at one book: each by a worker on a thread of its own, or one after
+/// another where the words ask for it.
 ///
 /// How each job ended is told on standard output. The status is 0 where all files were acknowledged, and all of it was
 /// told and kept.
@@ -47,13 +49,21 @@ where
         Ok(true) => return bad_words(rt, RunFault::Twice.text()),
         Err(_) => return no_memory(rt),
     }
+    if words.no_clobber && tell_taken(rt, &answers) {
+        return ExitCode::FAILURE;
+    }
     let Some(book) = opening_book(rt, words.from) else {
         return ExitCode::FAILURE;
     };
-    let Ok(jobs) = jobs_of(rt, words.files, &answers) else {
+    let Ok(jobs) = jobs_of(rt, words.files, &answers, !words.no_clobber) else {
         return no_memory(rt);
     };
-    let Ok(run) = serve(rt, rt.alloc(), jobs, book, &stamp, &OpenGate) else {
+    let served = if words.in_turn {
+        serve_in_turn(rt.alloc(), jobs, book, &stamp)
+    } else {
+        serve(rt, rt.alloc(), jobs, book, &stamp, &OpenGate)
+    };
+    let Ok(run) = served else {
         return no_memory(rt);
     };
     let told = tell_outcomes(rt, words.files, &run.outcomes);
@@ -77,11 +87,24 @@ fn acknowledgements(alloc: Global, files: &[&str]) -> Result<Vec<String>, Memory
     Ok(names)
 }
 
-/// A job for each file, and for its acknowledgement. Nothing is opened yet.
+/// Tells on standard error which acknowledgements are there already, and answers whether any is.
+fn tell_taken<R: Eprint + Files>(rt: &R, answers: &[String]) -> bool {
+    let mut taken = false;
+    for answer in answers {
+        if fs::symlink_metadata(rt, answer).is_ok() {
+            let _ = eprintln!(rt; "{answer}: is there already");
+            taken = true;
+        }
+    }
+    taken
+}
+
+/// A job for each file, and for its acknowledgement, which may replace one that is there or not. Nothing is opened yet.
 fn jobs_of<'a, R: AllocGlobal + Files>(
     rt: &'a R,
     files: &'a [&'a str],
     answers: &'a [String],
+    replaces: bool,
 ) -> Result<Vec<Job<InputFile<'a, R>, OutputFile<'a, R>>>, Memory>
     ensures few { IfOk result (λ jobs. vec_len jobs ≤ length files.now) }
     ensures works { IfOk result (λ jobs. All (λ j. (j.reader.failed ≡ false) × (j.writer.failed ≡ false)) jobs.items) }
@@ -89,7 +112,7 @@ fn jobs_of<'a, R: AllocGlobal + Files>(
     let mut jobs = Vec::with_capacity(rt.alloc(), files.len())?;
     for (file, answer) in files.iter().zip(answers) {
         let reader = InputFile::new(rt, file);
-        let writer = OutputFile::new(rt, answer.as_str());
+        let writer = OutputFile::new(rt, answer.as_str(), replaces);
         jobs.push(Job { reader, writer })?;
     }
     Ok(jobs)

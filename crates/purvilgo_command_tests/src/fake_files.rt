@@ -33,10 +33,14 @@ pub(crate) struct KeptFile<'a> {
 }
 
 impl KeptFile<'_> {
-    /// The file where it is opened in this way. Opened for writing, it is emptied.
+    /// The file where it is opened in this way. Opened for writing, it is emptied; as a new one it cannot be opened
+    /// where it holds something.
     pub(crate) fn opened(&self, how: &OpenOptions) -> io::Result<FakeFile<'_>> {
         if how.asks_write() {
             match self.bytes.try_lock() {
+                Some(bytes) if how.asks_create_new() && !bytes.is_empty() => {
+                    return Err(io::Error::from(ErrorKind::AlreadyExists));
+                }
                 Some(mut bytes) => bytes.clear(),
                 None => return unsupported(),
             }

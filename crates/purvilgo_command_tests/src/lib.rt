@@ -12,6 +12,10 @@ mod given_words;
 #[cfg(test)]
 mod kept_registers;
 #[cfg(test)]
+mod other_words;
+#[cfg(test)]
+mod run_options;
+#[cfg(test)]
 mod runs;
 #[cfg(test)]
 mod same_files;

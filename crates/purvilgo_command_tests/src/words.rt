@@ -85,7 +85,15 @@ fn tells_registers_that_would_be_lost() -> Result<(), Fail> {
     }
     let found = words_fault("007", "X", "20240229", "", &["a"], None, Some("a"));
     same("a time before it", &found, &Some(RunFault::Time))?;
-    let found = words_fault("007", "X", "20240229", "090000", &["a"; 64], None, Some("a"));
+    let found = words_fault(
+        "007",
+        "X",
+        "20240229",
+        "090000",
+        &["a"; 64],
+        None,
+        Some("a"),
+    );
     same("too many before it", &found, &Some(RunFault::TooMany))
 }
 
