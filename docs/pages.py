@@ -1,0 +1,228 @@
+#!/usr/bin/env python3
+"""Tries what the pages show: docs/pages.py [--program FILE] [--build] [PAGE..]
+
+    --program FILE   the built program; else crates/purvilgo/out/purvilgo
+    --build          also proves, builds and runs the program of examples/embedding, which takes minutes
+    PAGE..           these pages alone; else README.md and each page of docs, docs/guide, examples and benches
+
+What is tried of a page:
+
+- A block marked `console` is what a terminal shows. A line that begins with `$ ` is a command, lines that begin with
+  `> ` go on with it, and what follows is what it prints, on standard output and standard error together. The commands
+  of a page are run in order by one bash, in a fresh folder that holds docs, examples and benches, with the program as
+  `purvilgo`. Each must print what the page says, byte for byte.
+- A block after a line `<!-- file: PATH -->` is that file of the repository, byte for byte.
+- Any other block of commands (`sh`, `bash`) must say why nobody runs it: `<!-- not run: REASON -->`.
+- A link leads to a file that is there; one with `#L20` to a line that has its text, and any other `#` to a heading.
+
+It says what differs, and the status is 1 then; 2 where there is nothing to try with; else 0."""
+import argparse
+import difflib
+import glob
+import os
+import re
+import shutil
+import subprocess
+import sys
+import tempfile
+
+TOP = os.path.dirname(os.path.dirname(os.path.abspath(__file__)))
+# What the program's page is: layouts and rules, with commands whose files are left open.
+UNTRIED = {"docs/PROFILE.md"}
+FENCE = re.compile(r"^```(\w*)\s*$")
+NOTE = re.compile(r"^<!-- (file|not run): (.*) -->$")
+LINK = re.compile(r"\[((?:[^\[\]]|\[[^\]]*\])*)\]\(([^()\s]+)\)")
+END = "\x01"
+
+
+class Block:
+    def __init__(self, language, note, line):
+        self.language, self.note, self.line, self.lines = language, note, line, []
+
+    def text(self):
+        return "".join(line + "\n" for line in self.lines)
+
+
+def blocks_of(text):
+    """The fenced blocks of a page, each with the note before it."""
+    blocks, inside, note = [], None, None
+    for number, line in enumerate(text.split("\n"), 1):
+        fence = FENCE.match(line)
+        if inside is not None:
+            if line.rstrip() == "```":
+                blocks.append(inside)
+                inside, note = None, None
+            else:
+                inside.lines.append(line)
+        elif fence:
+            inside = Block(fence[1], note, number)
+        elif NOTE.match(line):
+            note = NOTE.match(line).groups()
+        elif line.strip():
+            note = None
+    if inside is not None:
+        raise ValueError(f"the block of line {inside.line} has no end")
+    return blocks
+
+
+def commands_of(block):
+    """The commands of a terminal block, each with its line and what it prints."""
+    commands = []
+    for number, line in enumerate(block.lines, block.line + 1):
+        if line.startswith("$ "):
+            commands.append([number, line[2:], ""])
+        elif not commands:
+            raise ValueError(f"line {number} is printed by no command")
+        elif line.startswith("> ") and not commands[-1][2]:
+            commands[-1][1] += "\n" + line[2:]
+        else:
+            commands[-1][2] += line + "\n"
+    return commands
+
+
+def run_all(commands, folder, tools):
+    """What each command prints; None for those that were not reached."""
+    with open(os.path.join(tools, "script"), "w") as script:
+        for _, command, _ in commands:
+            script.write(f"{command}\n{{ __status=$?; printf '{END}'; (exit $__status); }} 2>&1\n")
+    environment = dict(os.environ, PATH=tools + os.pathsep + os.environ["PATH"], LC_ALL="C", PS4="+ ")
+    environment.pop("PURVILGO", None)
+    ran = subprocess.run(["bash", "--noprofile", "--norc", os.path.join(tools, "script")], cwd=folder, env=environment,
+                         stdin=subprocess.DEVNULL, stdout=subprocess.PIPE, stderr=subprocess.STDOUT, timeout=600)
+    printed = ran.stdout.decode("utf-8", "backslashreplace").split(END)[:-1]
+    return printed + [None] * (len(commands) - len(printed))
+
+
+def without_blocks(text):
+    """The page's lines outside of blocks."""
+    lines, inside = [], False
+    for line in text.split("\n"):
+        if line.startswith("```"):
+            inside = not inside
+        elif not inside:
+            lines.append(line)
+    return lines
+
+
+def anchors_of(text):
+    """What `#` may name in a page."""
+    anchors = set()
+    for line in without_blocks(text):
+        if re.match(r"^#+ ", line):
+            name = re.sub(r"[^\w\- ]", "", line.lstrip("#").strip().lower()).replace(" ", "-")
+            same, count = name, 0
+            while same in anchors:
+                count += 1
+                same = f"{name}-{count}"
+            anchors.add(same)
+    return anchors
+
+
+def link_faults(page, text):
+    """The links of a page that lead nowhere."""
+    links = 0
+    faults = []
+    for shown, target in LINK.findall("\n".join(without_blocks(text))):
+        if re.match(r"^[a-z]+:", target):
+            continue
+        links += 1
+        path, _, place = target.partition("#")
+        file = os.path.normpath(os.path.join(TOP, os.path.dirname(page), path)) if path else os.path.join(TOP, page)
+        if not os.path.exists(file):
+            faults.append(f"{page}: no such file: {target}")
+        elif re.fullmatch(r"L\d+", place):
+            lines = open(file, encoding="utf-8").read().split("\n")
+            number, name = int(place[1:]), shown.strip("`")
+            line = lines[number - 1] if number <= len(lines) else ""
+            if not re.search(rf"(?<![\w.]){re.escape(name)}(?![\w.])", line) or "use " in line:
+                faults.append(f"{page}: {target} has no {name}: {line[:60]}")
+        elif place and place not in anchors_of(open(file, encoding="utf-8").read()):
+            faults.append(f"{page}: no such heading: {target}")
+    return links, faults
+
+
+def difference(page, what, wanted, found):
+    lines = difflib.unified_diff(wanted.splitlines(True), found.splitlines(True), f"{page}: {what}", "found")
+    return "".join(line if line.endswith("\n") else line + "\n\\ no LF at the end\n" for line in lines).rstrip("\n")
+
+
+def try_page(page, program):
+    """Tries a page: how many commands, files and links it has, what is not run and why, and its faults."""
+    text = open(os.path.join(TOP, page), encoding="utf-8").read()
+    links, faults = link_faults(page, text)
+    commands, files, untried = [], 0, []
+    for block in blocks_of(text):
+        kind, of = block.note or (None, None)
+        if block.language == "console":
+            commands += commands_of(block)
+        elif kind == "file":
+            files += 1
+            wanted = open(os.path.join(TOP, of), encoding="utf-8").read()
+            if wanted != block.text():
+                faults.append(difference(page, of, block.text(), wanted))
+        elif kind == "not run":
+            untried.append(of)
+        elif block.language in ("sh", "bash") and page not in UNTRIED:
+            faults.append(f"{page}: line {block.line}: commands that nobody runs")
+    for number, line in enumerate(without_blocks(text), 1):
+        if page not in UNTRIED and re.match(r"^ {4,}(purvilgo|rt|\$|\(cd) ", line):
+            faults.append(f"{page}: commands that nobody runs: {line.strip()}")
+    if commands:
+        with tempfile.TemporaryDirectory() as folder, tempfile.TemporaryDirectory() as tools:
+            shutil.copy2(program, os.path.join(tools, "purvilgo"))
+            for part in ("docs", "examples", "benches"):
+                shutil.copytree(os.path.join(TOP, part), os.path.join(folder, part))
+            for (number, command, wanted), found in zip(commands, run_all(commands, folder, tools)):
+                if found is None:
+                    faults.append(f"{page}: line {number}: not reached: {command}")
+                elif found != wanted:
+                    faults.append(difference(page, f"line {number}: {command}", wanted, found))
+    return len(commands), files, links, untried, faults
+
+
+def build_embedding():
+    """Proves, builds and runs the program of examples/embedding, and compares what it prints."""
+    ran = subprocess.run([os.path.join(TOP, "examples/embedding/build")], stdout=subprocess.PIPE)
+    wanted = open(os.path.join(TOP, "examples/embedding/stdout"), "rb").read()
+    if ran.returncode != 0:
+        return [f"examples/embedding: status {ran.returncode}"]
+    if ran.stdout != wanted:
+        return [difference("examples/embedding", "stdout", wanted.decode(), ran.stdout.decode("utf-8", "backslashreplace"))]
+    return []
+
+
+def main():
+    parser = argparse.ArgumentParser(description=__doc__, formatter_class=argparse.RawDescriptionHelpFormatter)
+    parser.add_argument("--program", default=os.path.join(TOP, "crates/purvilgo/out/purvilgo"))
+    parser.add_argument("--build", action="store_true")
+    parser.add_argument("pages", nargs="*", metavar="PAGE")
+    words = parser.parse_args()
+    if not os.access(words.program, os.X_OK):
+        print(f"no program {words.program}: README.md says how to build it", file=sys.stderr)
+        return 2
+    pages = [os.path.relpath(os.path.abspath(page), TOP) for page in words.pages]
+    if not pages:
+        pages = ["README.md"]
+        for place in ("docs", "docs/guide", "examples", "benches"):
+            pages += sorted(os.path.relpath(page, TOP) for page in glob.glob(os.path.join(TOP, place, "*.md")))
+    every_fault, all_commands = [], 0
+    for page in pages:
+        try:
+            commands, files, links, untried, faults = try_page(page, words.program)
+        except ValueError as error:
+            commands, files, links, untried, faults = 0, 0, 0, [], [f"{page}: {error}"]
+        all_commands += commands
+        every_fault += faults
+        print(f"{page}: {commands} commands, {files} files, {links} links" + "".join(f"; not run: {why}" for why in untried))
+    if words.build:
+        every_fault += build_embedding()
+    for fault in every_fault:
+        print(fault)
+    if not words.pages and not all_commands:
+        print("no page has a command", file=sys.stderr)
+        return 2
+    print(f"{len(pages)} pages, {all_commands} commands, {len(every_fault)} faults")
+    return 1 if every_fault else 0
+
+
+sys.exit(main())
