@@ -27,11 +27,12 @@ import sys
 import tempfile
 
 TOP = os.path.dirname(os.path.dirname(os.path.abspath(__file__)))
-# What the program's page is: layouts and rules, with commands whose files are left open.
+# The profile: layouts and rules, with commands whose files are left open.
 UNTRIED = {"docs/PROFILE.md"}
 FENCE = re.compile(r"^```(\w*)\s*$")
 NOTE = re.compile(r"^<!-- (file|not run): (.*) -->$")
 LINK = re.compile(r"\[((?:[^\[\]]|\[[^\]]*\])*)\]\(([^()\s]+)\)")
+COMMAND = re.compile(r"^(\$|purvilgo|rt|\(cd) ")
 END = "\x01"
 
 
@@ -162,10 +163,10 @@ def try_page(page, program):
                 faults.append(difference(page, of, block.text(), wanted))
         elif kind == "not run":
             untried.append(of)
-        elif block.language in ("sh", "bash") and page not in UNTRIED:
+        elif page not in UNTRIED and (block.language in ("sh", "bash") or any(COMMAND.match(line) for line in block.lines)):
             faults.append(f"{page}: line {block.line}: commands that nobody runs")
     for number, line in enumerate(without_blocks(text), 1):
-        if page not in UNTRIED and re.match(r"^ {4,}(purvilgo|rt|\$|\(cd) ", line):
+        if page not in UNTRIED and line.startswith("    ") and COMMAND.match(line.strip()):
             faults.append(f"{page}: commands that nobody runs: {line.strip()}")
     if commands:
         with tempfile.TemporaryDirectory() as folder, tempfile.TemporaryDirectory() as tools:
