@@ -1,7 +1,9 @@
 #!/usr/bin/env python3
-"""Tries what the pages show: docs/pages.py [--program FILE] [--build] [PAGE..]
+"""Tries what the pages show: docs/pages.py [--program FILE] [--build] [--lines] [PAGE..]
 
     --program FILE   the built program; else crates/purvilgo/out/purvilgo
+    --lines          first writes the line numbers of definitions anew, in links and in what docs/reading.py prints, for
+                     files that have moved them
     --build          also proves, builds and runs the program of examples/embedding, which takes minutes
     PAGE..           these pages alone; else README.md and each page of docs, docs/guide, examples and benches
 
@@ -9,8 +11,8 @@ What is tried of a page:
 
 - A block marked `console` is what a terminal shows. A line that begins with `$ ` is a command, lines that begin with
   `> ` go on with it, and what follows is what it prints, on standard output and standard error together. The commands
-  of a page are run in order by one bash, in a fresh folder that holds docs, examples and benches, with the program as
-  `purvilgo`. Each must print what the page says, byte for byte.
+  of a page are run in order by one bash, in a fresh folder that holds docs, examples, benches, and of the crates the
+  code and the definitions, with the program as `purvilgo`. Each must print what the page says, byte for byte.
 - A block after a line `<!-- file: PATH -->` is that file of the repository, byte for byte.
 - Any other block of commands (`sh`, `bash`) must say why nobody runs it: `<!-- not run: REASON -->`.
 - A link leads to a file that is there; one with `#L20` to a line that has its text, and any other `#` to a heading.
@@ -135,7 +137,7 @@ def link_faults(page, text):
             lines = open(file, encoding="utf-8").read().split("\n")
             number, name = int(place[1:]), shown.strip("`")
             line = lines[number - 1] if number <= len(lines) else ""
-            if not re.search(rf"(?<![\w.]){re.escape(name)}(?![\w.])", line) or "use " in line:
+            if not has_name(line, name):
                 faults.append(f"{page}: {target} has no {name}: {line[:60]}")
         elif place and place not in anchors_of(open(file, encoding="utf-8").read()):
             faults.append(f"{page}: no such heading: {target}")
@@ -171,14 +173,43 @@ def try_page(page, program):
     if commands:
         with tempfile.TemporaryDirectory() as folder, tempfile.TemporaryDirectory() as tools:
             shutil.copy2(program, os.path.join(tools, "purvilgo"))
-            for part in ("docs", "examples", "benches"):
-                shutil.copytree(os.path.join(TOP, part), os.path.join(folder, part))
+            for part in ("docs", "examples", "benches", "crates"):
+                unneeded = shutil.ignore_patterns("out", "proofs", "must-fail", "__pycache__")
+                shutil.copytree(os.path.join(TOP, part), os.path.join(folder, part), ignore=unneeded)
             for (number, command, wanted), found in zip(commands, run_all(commands, folder, tools)):
                 if found is None:
                     faults.append(f"{page}: line {number}: not reached: {command}")
                 elif found != wanted:
                     faults.append(difference(page, f"line {number}: {command}", wanted, found))
     return len(commands), files, links, untried, faults
+
+
+def has_name(line, name):
+    return re.search(rf"(?<![\w.]){re.escape(name)}(?![\w.])", line) and "use " not in line
+
+
+def mend_lines(page):
+    """Writes the line numbers of a page's links to definitions anew, and what docs/reading.py prints."""
+    path = os.path.join(TOP, page)
+    text = open(path, encoding="utf-8").read()
+
+    def mended(link):
+        file = os.path.join(os.path.dirname(path), link[2])
+        lines = open(file, encoding="utf-8").read().split("\n") if os.path.exists(file) else []
+        define = re.compile(rf"^(abbrev |unfoldable |)pub (record |data |fn |trait |struct |){re.escape(link[1])}\b")
+        for number, line in enumerate(lines, 1):
+            if define.match(line):
+                return f"[`{link[1]}`]({link[2]}#L{number})"
+        return link[0]
+
+    text = re.sub(r"\[`(\w+)`\]\(([^()\s#]+)#L\d+\)", mended, text)
+    for block in blocks_of(text):
+        for _, command, printed in commands_of(block) if block.language == "console" else []:
+            if command.startswith("docs/reading.py"):
+                found = subprocess.run(["bash", "-c", command], cwd=TOP, stdout=subprocess.PIPE, check=True).stdout.decode()
+                text = text.replace(f"$ {command}\n{printed}", f"$ {command}\n{found}")
+    with open(path, "w", encoding="utf-8") as out:
+        out.write(text)
 
 
 def build_embedding():
@@ -196,6 +227,7 @@ def main():
     parser = argparse.ArgumentParser(description=__doc__, formatter_class=argparse.RawDescriptionHelpFormatter)
     parser.add_argument("--program", default=os.path.join(TOP, "crates/purvilgo/out/purvilgo"))
     parser.add_argument("--build", action="store_true")
+    parser.add_argument("--lines", action="store_true")
     parser.add_argument("pages", nargs="*", metavar="PAGE")
     words = parser.parse_args()
     if not os.access(words.program, os.X_OK):
@@ -208,6 +240,8 @@ def main():
             pages += sorted(os.path.relpath(page, TOP) for page in glob.glob(os.path.join(TOP, place, "*.md")))
     every_fault, all_commands = [], 0
     for page in pages:
+        if words.lines:
+            mend_lines(page)
         try:
             commands, files, links, untried, faults = try_page(page, words.program)
         except ValueError as error:
