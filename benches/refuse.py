@@ -1,0 +1,280 @@
+#!/usr/bin/env python3
+"""Refuses each request for memory of a program in turn, the n-th alone: refuse.py PROGRAM LIBRARY EXAMPLES
+
+LIBRARY is `refuse.c` as a shared library, EXAMPLES the folder of the sample files. For each command and for n = 1, 2 and
+so on, until a run makes no n-th request, the run must end with the answer that it gives in ample memory, or as the profile
+says of want of memory: by text, by status, and by what it leaves in files. Prints a table of the requests of a command
+(the most of any run) and of its answers by kind, each other answer, and fails where there is one."""
+import collections
+import os
+import re
+import struct
+import subprocess
+import sys
+import tempfile
+
+from expected import Decided, entry, register
+
+# The name by which the program is started: `clap` tells it.
+NAME = "purvilgo"
+SECONDS = 20
+ROUNDS_ON_THREADS = 5
+OLD_ACK, OLD_REGISTER = b"AN OLD ACKNOWLEDGEMENT\n", b"AN OLD REGISTER\n"
+STAMP = ["--society", "000", "--name", "CWR REGISTRY", "--date", "20240601", "--time", "090000"]
+NO_MEMORY = b"stopped: memory\n"
+KINDS = ["ample", "stopped: memory", "job: memory", "line left out", "--from: memory", "--to: memory"]
+
+Answer = collections.namedtuple("Answer", "status printed complained files")
+
+
+class Wrong(Exception):
+    pass
+
+
+def want(holds, what):
+    if not holds:
+        raise Wrong(what)
+
+
+class Command:
+    """A command without files to write: its words, its answer in ample memory, of no words how many transactions may be
+    handed in before a stop, and whether it reads a register by `--from`."""
+
+    def __init__(self, words, status, printed=b"", complained=b"", files=(), given=b"", transactions=None, opening=False):
+        self.words, self.given, self.transactions, self.opening = words, given, transactions, opening
+        self.files = dict(files)
+        self.ample = Answer(status, printed, complained, self.files)
+        self.rounds = 1
+
+    def kind(self, answer):
+        if answer == self.ample:
+            return "ample"
+        want(answer.files == self.files, "a file was changed")
+        want(answer.status == 1 and answer.printed == b"", "status and standard output")
+        if answer.complained == NO_MEMORY:
+            return "stopped: memory"
+        if self.opening and answer.complained == b"register: " + NO_MEMORY:
+            return "--from: memory"
+        want(self.transactions is not None, "standard error")
+        if answer.complained == b"" and self.ample.status == 1:
+            return "line left out"
+        stopped = re.fullmatch(rb"-: stopped after (\d+): memory\n", answer.complained)
+        want(stopped and int(stopped[1]) <= self.transactions, "standard error")
+        return "job: memory"
+
+
+class Run:
+    """`run` of some files: of each its name, its bytes, its acknowledgement and the entries that it makes, each without
+    its index; the register of `--from`, and whether there is `--to`. Files to be written hold something already."""
+
+    def __init__(self, jobs, opening=None, to=False):
+        self.jobs, self.opening, self.to = jobs, opening, to
+        self.words = ["run", *STAMP]
+        self.given = b""
+        self.files = {}
+        if opening is not None:
+            self.words += ["--from", "old.register"]
+            self.files["old.register"] = register(opening)
+        if to:
+            self.words += ["--to", "new.register"]
+            self.files["new.register"] = OLD_REGISTER
+        for name, text, _, _ in jobs:
+            self.words.append(name)
+            self.files[name] = text
+            self.files[name + ".ack"] = OLD_ACK
+        self.rounds = ROUNDS_ON_THREADS
+
+    def kind(self, answer):
+        if answer.printed == b"" and answer.complained == NO_MEMORY:
+            want(answer.status == 1 and answer.files == self.files, "status or files before any worker")
+            return "stopped: memory"
+        if answer.printed == b"" and answer.complained == b"register: " + NO_MEMORY and self.opening is not None:
+            want(answer.status == 1 and answer.files == self.files, "status or files before any worker")
+            return "--from: memory"
+        return self.kind_of_outcomes(answer)
+
+    def kind_of_outcomes(self, answer):
+        """The kind of an answer after the workers have ended. One request was refused, so at most one thing differs."""
+        kinds, made, files = [], [], dict(self.files)
+        lines = answer.printed.splitlines(keepends=True)
+        for name, _, ack, entries in self.jobs:
+            told = b"%s: acknowledged %d\n" % (name.encode(), len(entries))
+            stopped = re.fullmatch(rb"%s: stopped after (\d+): memory\n" % re.escape(name.encode()), lines[0] if lines else b"")
+            if stopped:
+                want(int(stopped[1]) <= len(entries), "more handed in than there are")
+                made.append(entries[: int(stopped[1])])
+                kinds.append("job: memory")
+                lines.pop(0)
+                continue
+            if lines and lines[0] == told:
+                lines.pop(0)
+            else:
+                kinds.append("line left out")
+            made.append(entries)
+            files[name + ".ack"] = ack
+        want(not lines, "standard output")
+        if answer.complained != b"":
+            want(self.to and answer.complained == b"register: " + NO_MEMORY, "standard error")
+            kinds.append("--to: memory")
+        elif self.to:
+            new = answer.files.get("new.register")
+            want(any(new == register((self.opening or []) + order) for order in orders(made)), "the register")
+            files["new.register"] = new
+        want(len(kinds) <= 1, "more went wrong than one refusal can do")
+        want(answer.files == files, "an acknowledgement, or another file")
+        want(answer.status == (1 if kinds else 0), "status")
+        return kinds[0] if kinds else "ample"
+
+
+def orders(lists):
+    """All ways to lay some lists into one, each in its order."""
+    lists = [items for items in lists if items]
+    if not lists:
+        yield []
+    for place, items in enumerate(lists):
+        for rest in orders(lists[:place] + [items[1:]] + lists[place + 1 :]):
+            yield items[:1] + rest
+
+
+def decided(submitter, iswc, control, status, work, version, faults=()):
+    """The entry of an NWR of the samples: all have one title and one number, and stand first in their file."""
+    return entry(Decided(submitter, 1, 0, b"NWR", b"SONG ONE", b"W1", iswc, control, status, work, version, faults))
+
+
+def commands(examples):
+    """The commands with their answers, which stand in the profile and in the notes on the samples."""
+
+    def sample(name):
+        with open(os.path.join(examples, name), "rb") as file:
+            return file.read()
+
+    a, b, whole = b"PB000000123", b"PB000000456", [10000] * 3
+    accepted = decided(a, b"", whole, b"AS", 1, 1)
+    duplicate = decided(a, b"", whole, b"DU", 1, 0)
+    rejected = decided(a, b"", [5007, 5000, 5000], b"RJ", 0, 0, [(0, 11, b"NWR")])
+    first = decided(a, b"T0345246801", [5000] * 3, b"AS", 1, 1)
+    second = decided(b, b"T0345246801", [5007] * 3, b"CO", 1, 0)
+    job = lambda name, entries: (name, sample(name), sample(name + ".ack"), entries)
+    lone = job("conflict-1.v22", [first])
+    conflict = job("conflict-2.v22", [second])
+    both = register([first, second])
+    wrong = both.replace(b"CO", b"AS")
+    file = lambda name: [(name, sample(name))]
+    return [
+        ("< duplicate.v22", Command([], 0, sample("duplicate.v22.ack"), given=sample("duplicate.v22"), transactions=2)),
+        ("< rejected.v22", Command([], 0, sample("rejected.v22.ack"), given=sample("rejected.v22"), transactions=1)),
+        ("< file-fault.v22", Command([], 1, complained=b"-: refused F9 at line 5\n", given=sample("file-fault.v22"), transactions=0)),
+        ("check accepted.v22", Command(["check", "accepted.v22"], 0, b"00001 00000000 NWR ok\n1 transactions, 0 with faults\n", files=file("accepted.v22"))),
+        ("check rejected.v22", Command(["check", "rejected.v22"], 1, b"00001 00000000 NWR rejected 0:J11\n1 transactions, 1 with faults\n", files=file("rejected.v22"))),
+        ("check file-fault.v22", Command(["check", "file-fault.v22"], 1, b"refused F9 at line 5\n", files=file("file-fault.v22"))),
+        ("check absent", Command(["check", "absent"], 1, complained=b"stopped: read\n")),
+        ("audit, two entries", Command(["audit", "r"], 0, b"2 entries\n", files=[("r", both)])),
+        ("audit, a wrong entry", Command(["audit", "r"], 1, b"refused G3 at line 3\n", files=[("r", wrong)])),
+        ("run", Run([job("duplicate.v22", [accepted, duplicate])])),
+        ("run --to", Run([lone], to=True)),
+        ("run --from", Run([conflict], opening=[first])),
+        ("run --from --to", Run([conflict], opening=[first], to=True)),
+        ("run --to, two files", Run([job("accepted.v22", [accepted]), job("rejected.v22", [rejected])], to=True)),
+        ("run --from, wrong register", Command(["run", *STAMP, "--from", "r", "f"], 1, complained=b"register: refused G3 at line 3\n", files=[("r", wrong), ("f", lone[1])], opening=True)),
+        ("run, bad words", Command(["run", "--society", "7", *STAMP[2:], "f"], 2, complained=b"bad --society\n")),
+    ]
+
+
+def clap_commands(program):
+    """Commands that `clap` answers by a text of its own: in ample memory that text, whatever it is, and status 2."""
+    for words, part in [
+        (["--help"], b"Usage: purvilgo [COMMAND]\n"),
+        (["help"], b"Usage: purvilgo [COMMAND]\n"),
+        (["help", "run"], b"Usage: purvilgo run "),
+        (["check", "--help"], b"Usage: purvilgo check <FILE>\n"),
+        (["check"], b"<FILE>\n"),
+        (["run", "--society"], b"--society"),
+        (["audit", "a", "b"], b"'b'"),
+    ]:
+        text = subprocess.run([NAME, *words], executable=program, stdin=subprocess.DEVNULL, capture_output=True, timeout=SECONDS).stderr
+        assert part in text, (words, text)
+        yield " ".join(words), Command(words, 2, complained=text)
+
+
+def files_in(folder):
+    """The files of a folder, by name."""
+    files = {}
+    for name in os.listdir(folder):
+        with open(os.path.join(folder, name), "rb") as file:
+            files[name] = file.read()
+    return files
+
+
+def answer_of(program, library, command, nth):
+    """The answer of a run whose n-th request is refused, or that it hangs; and how many requests it made."""
+    with tempfile.TemporaryDirectory() as folder, tempfile.NamedTemporaryFile() as count:
+        for name, text in command.files.items():
+            with open(os.path.join(folder, name), "wb") as file:
+                file.write(text)
+        count.write(bytes(8))
+        count.flush()
+        memory = {"LD_PRELOAD": library, "REFUSE_NTH": str(nth), "REFUSE_COUNT": count.name}
+        try:
+            run = subprocess.run([NAME, *command.words], executable=program, cwd=folder, env={**os.environ, **memory}, input=command.given, capture_output=True, timeout=SECONDS)
+            answer = Answer(run.returncode, run.stdout, run.stderr, files_in(folder))
+        except subprocess.TimeoutExpired:
+            answer = None
+        count.seek(0)
+        return answer, struct.unpack("=Q", count.read(8))[0]
+
+
+def sweep(program, library, command, found):
+    """Refuses each request of a command in turn. Counts its answers by kind, and gives the most requests of a run and what
+    was wrong, by what it is and with the requests after which it was so."""
+    most, wrong = 0, {}
+    for _ in range(command.rounds):
+        nth = 0
+        while True:
+            answer, requests = answer_of(program, library, command, nth)
+            most = max(most, requests)
+            try:
+                want(answer is not None, "it hangs")
+                want(answer.status >= 0, "ended by a signal")
+                kind = command.kind(answer)
+                want(kind == "ample" or 0 < nth <= requests, "want of memory without a refusal")
+                if 0 < nth <= requests:
+                    found[kind] += 1
+            except Wrong as what:
+                shown = (str(what),) + ((answer.status, answer.printed[:200], answer.complained[:200]) if answer else ())
+                wrong.setdefault(shown, []).append(nth)
+                found["wrong"] += 1
+            if requests < nth:
+                break
+            nth += 1
+    return most, wrong
+
+
+def ranges(numbers):
+    """Some numbers as a text, each once and those in a row together."""
+    spans = []
+    for number in sorted(set(numbers)):
+        if spans and spans[-1][1] == number - 1:
+            spans[-1][1] = number
+        else:
+            spans.append([number, number])
+    return ", ".join(str(first) if first == last else f"{first} to {last}" for first, last in spans)
+
+
+def main(program, library, examples):
+    program, library = os.path.abspath(program), os.path.abspath(library)
+    failed = False
+    print("%-27s %8s" % ("", "requests") + "".join(" %15s" % kind for kind in [*KINDS, "wrong"]))
+    for name, command in [*commands(examples), *clap_commands(program)]:
+        found = collections.Counter()
+        most, wrong = sweep(program, library, command, found)
+        print("%-27s %8d" % (name, most) + "".join(" %15d" % found[kind] for kind in [*KINDS, "wrong"]), flush=True)
+        # A program that asks for nothing was not tried.
+        if most == 0:
+            wrong["no request was counted"] = []
+        for shown, requests in wrong.items():
+            print("  WRONG", shown, "at requests", ranges(requests), flush=True)
+            failed = True
+    sys.exit(1 if failed else 0)
+
+
+main(*sys.argv[1:])
