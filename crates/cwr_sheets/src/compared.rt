@@ -1,6 +1,7 @@
 //! What a test found, beside what it wanted.
 
 ghost use Rattle.std.specs.Prelude.{◌≡◌, ◌↔◌, true, IsOk};
+ghost use Rattle.std.specs.Cmp.Lexicographic.{pointwise};
 
 use std::fmt::Debug;
 use std::str;
@@ -59,10 +60,23 @@ fn piece(bytes: &[u8], place: usize) -> &str {
     str::from_utf8(short).unwrap_or("bytes that are no text")
 }
 
-/// Two lists must be the same. Else the first element that differs is told.
-pub fn same_lists<T: PartialEq + Debug>(what: &str, found: &[T], wanted: &[T]) -> Result<(), Fail> {
-    for (one, other) in found.iter().zip(wanted) {
-        same(what, one, other)?;
+/// Two lists must be the same. Else the first element that differs is told, or how many there are.
+pub fn same_lists<T: PartialEq + Debug>(what: &str, found: &[T], wanted: &[T]) -> Result<(), Fail>
+    ensures { IsOk result ↔ (pointwise T.eq found.now wanted.now ≡ true) }
+{
+    if found == wanted {
+        return Ok(());
     }
-    same(what, &found.len(), &wanted.len())
+    Err(difference(what, found, wanted))
+}
+
+/// What tells two lists apart that are not the same.
+fn difference<T: PartialEq + Debug>(what: &str, found: &[T], wanted: &[T]) -> Fail {
+    for (one, other) in found.iter().zip(wanted) {
+        if *one != *other {
+            return Fail::new(format_args!("{what}: {one:?}, and not {other:?}"));
+        }
+    }
+    let (one, other) = (found.len(), wanted.len());
+    Fail::new(format_args!("{what}: {one} of them, and not {other}"))
 }

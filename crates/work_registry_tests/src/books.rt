@@ -1,8 +1,9 @@
 //! Calls of two submitters, and the book that they are handed in to.
 
+use cwr_sheets::same;
 use std::alloc::Global;
 use std::test::Fail;
-use work_registry::{Book, Call, Fault, Faults, Reply, WorkKind};
+use work_registry::{Book, Call, Entry, Fault, Faults, Reply, WorkKind};
 
 /// The submitters of the sample files.
 pub(crate) const ONE: [u8; 11] = *b"PB000000123";
@@ -59,4 +60,30 @@ pub(crate) fn reply(book: &mut Book, call: Call) -> Result<Reply, Fail> {
         Ok(reply) => Ok(reply),
         Err(_refused) => Err("the call was refused")?,
     }
+}
+
+/// The reply to a claim that is accepted for a work, in this version.
+pub(crate) const fn accepted(work: u32, version: u32) -> Reply {
+    Reply::Accepted { work, version }
+}
+
+/// Hands a call in, which must get this reply.
+pub(crate) fn expect_reply(book: &mut Book, call: Call, wanted: Reply) -> Result<(), Fail> {
+    same("a reply", &reply(book, call)?, &wanted)
+}
+
+/// What an entry must say: its session, the submitter's number of the work, the faults of the call, and the reply.
+#[derive(Drop)]
+pub(crate) struct Said<'a> {
+    pub(crate) session: u32,
+    pub(crate) number: [u8; 14],
+    pub(crate) faults: &'a [Fault],
+    pub(crate) reply: Reply,
+}
+
+pub(crate) fn expect_entry(entry: &Entry, wanted: &Said) -> Result<(), Fail> {
+    same("a session", &entry.session(), &wanted.session)?;
+    same("a number", &entry.call().number(), &wanted.number)?;
+    same("the faults", &entry.call().faults(), &wanted.faults)?;
+    same("a reply", &entry.reply(), &wanted.reply)
 }

@@ -1,8 +1,8 @@
 //! A register of one entry that is damaged.
 
-use crate::registers::{ONE_ENTRY, fault_of};
+use crate::registers::{ONE_ENTRY, expect_fault, expect_fault_at};
+use cwr_sheets::same;
 use std::alloc::Global;
-use std::process::Abort;
 use std::test::Fail;
 use work_registry::{RegisterRefusal, read_register};
 
@@ -18,14 +18,13 @@ fn changed(alloc: Global, place: usize, text: &str) -> Result<Vec<u8>, Fail> {
 
 /// Each of these texts at its place makes a text with this fault, or another register.
 fn expect_changes(
-    rt: &impl Abort,
     alloc: Global,
     changes: &[(usize, &str)],
     wanted: Option<(u8, u64)>,
 ) -> Result<(), Fail> {
     for (place, text) in changes {
-        let fault = fault_of(alloc, &changed(alloc, *place, text)?)?;
-        assert_eq!(rt; fault, wanted, "{text} at {place}");
+        let bytes = changed(alloc, *place, text)?;
+        expect_fault_at(alloc, *place, &bytes, wanted)?;
     }
     Ok(())
 }
@@ -46,14 +45,14 @@ fn malformed_lines(rt: HostRuntime) -> Result<(), Fail> {
         (165, "000000001"),
         (165, "999999999"),
     ];
-    expect_changes(&rt, rt.alloc(), &changes, Some((1, 2)))
+    expect_changes(rt.alloc(), &changes, Some((1, 2)))
 }
 
 /// An index that is not that of the line.
 #[test]
 fn misplaced_lines(rt: HostRuntime) -> Result<(), Fail> {
     let changes = [(4, "00000002"), (4, "00000000"), (4, "10000001")];
-    expect_changes(&rt, rt.alloc(), &changes, Some((2, 2)))
+    expect_changes(rt.alloc(), &changes, Some((2, 2)))
 }
 
 /// Another reply than the registry gives.
@@ -69,7 +68,7 @@ fn unlawful_lines(rt: HostRuntime) -> Result<(), Fail> {
         (157, "00000002"),
         (157, "00000000"),
     ];
-    expect_changes(&rt, rt.alloc(), &changes, Some((3, 2)))
+    expect_changes(rt.alloc(), &changes, Some((3, 2)))
 }
 
 /// Another call to which the reply is the same.
@@ -84,7 +83,14 @@ fn lines_of_other_calls(rt: HostRuntime) -> Result<(), Fail> {
         (111, "000000010006"),
         (135, "000000000000"),
     ];
-    expect_changes(&rt, rt.alloc(), &changes, None)
+    expect_changes(rt.alloc(), &changes, None)
+}
+
+/// The register with a control character in place of the byte with this index.
+fn spoilt(alloc: Global, at: usize) -> Result<Vec<u8>, Fail> {
+    let mut bytes = ONE_ENTRY.as_bytes().to_vec(alloc)?;
+    *bytes.get_mut(at).ok_or("a byte")? = 31;
+    Ok(bytes)
 }
 
 /// A control character in place of any byte leaves no line of its form.
@@ -92,12 +98,20 @@ fn lines_of_other_calls(rt: HostRuntime) -> Result<(), Fail> {
 fn each_byte(rt: HostRuntime) -> Result<(), Fail> {
     let alloc = rt.alloc();
     for at in 0..ONE_ENTRY.len() {
-        let mut bytes = ONE_ENTRY.as_bytes().to_vec(alloc)?;
-        *bytes.get_mut(at).ok_or("a byte")? = 31;
         let line = if at < 12 { 1 } else { 2 };
-        assert_eq!(rt; fault_of(alloc, &bytes)?, Some((1, line)), "{at}");
+        expect_fault_at(alloc, at, &spoilt(alloc, at)?, Some((1, line)))?;
     }
     Ok(())
+}
+
+/// The fault of the register's first bytes, so many of its 186.
+fn fault_of_front(len: usize) -> (u8, u64) {
+    match len {
+        0 => (2, 1),
+        1..=11 => (1, 1),
+        12 => (2, 2),
+        _ => (1, 2),
+    }
 }
 
 /// A text that ends early: within a line, or before it.
@@ -106,37 +120,33 @@ fn each_front(rt: HostRuntime) -> Result<(), Fail> {
     let alloc = rt.alloc();
     for len in 0..ONE_ENTRY.len() {
         let front = ONE_ENTRY.as_bytes().get(..len).unwrap_or(&[]);
-        let wanted = match len {
-            0 => (2, 1),
-            1..=11 => (1, 1),
-            12 => (2, 2),
-            _ => (1, 2),
-        };
-        assert_eq!(rt; fault_of(alloc, front)?, Some(wanted), "{len}");
+        expect_fault_at(alloc, len, front, Some(fault_of_front(len)))?;
     }
     Ok(())
 }
 
-/// More entries told than follow, fewer, and more than the limit.
+/// The register with this first line has this fault.
+fn expect_count(alloc: Global, first: &str, wanted: (u8, u64)) -> Result<(), Fail> {
+    let mut text = first.as_bytes().to_vec(alloc)?;
+    text.extend_from_slice(ONE_ENTRY.as_bytes().get(12..).unwrap_or(&[]))?;
+    expect_fault(alloc, first, &text, Some(wanted))
+}
+
+/// More entries told than follow, and fewer.
 #[test]
 fn wrong_counts(rt: HostRuntime) -> Result<(), Fail> {
     let alloc = rt.alloc();
-    let entry = ONE_ENTRY.as_bytes().get(12..).unwrap_or(&[]);
-    for (first, wanted) in [
-        ("REG00000002\n", (2, 3)),
-        ("REG00000000\n", (2, 2)),
-        ("REG99999999\n", (2, 3)),
-        ("REG0000001\n", (1, 1)),
-        ("reg00000001\n", (1, 1)),
-    ] {
-        let mut text = first.as_bytes().to_vec(alloc)?;
-        text.extend_from_slice(entry)?;
-        assert_eq!(rt; fault_of(alloc, &text)?, Some(wanted), "{first}");
-    }
-    let refusal = read_register(alloc, b"REG00000003\n", 2).err();
-    assert_eq!(rt;
-        refusal,
-        Some(RegisterRefusal::Fault { number: 4, line: 1 })
-    );
-    Ok(())
+    expect_count(alloc, "REG00000002\n", (2, 3))?;
+    expect_count(alloc, "REG00000000\n", (2, 2))?;
+    expect_count(alloc, "REG99999999\n", (2, 3))?;
+    expect_count(alloc, "REG0000001\n", (1, 1))?;
+    expect_count(alloc, "reg00000001\n", (1, 1))
+}
+
+/// More entries told than the limit.
+#[test]
+fn count_above_the_limit(rt: HostRuntime) -> Result<(), Fail> {
+    let refusal = read_register(rt.alloc(), b"REG00000003\n", 2).err();
+    let too_many = RegisterRefusal::Fault { number: 4, line: 1 };
+    same("why it is refused", &refusal, &Some(too_many))
 }

@@ -1,10 +1,14 @@
 //! How many entries a book takes, and what they are.
 
-use crate::books::{ONE, W1, call, call_with_fault, reply};
+ghost use Rattle.std.specs.Prelude.{◌≤◌};
+
+use crate::books::{
+    ONE, Said, W1, accepted, call, call_with_fault, expect_entry, expect_reply, reply,
+};
+use cwr_sheets::same;
 use std::alloc::Global;
-use std::process::Abort;
 use std::test::Fail;
-use work_registry::{Book, Call, Entry, Refused, Reply, WhyRefused, WorkKind};
+use work_registry::{Book, Call, Fault, Reply, WhyRefused, WorkKind};
 
 const W2: [u8; 14] = *b"W2            ";
 
@@ -14,69 +18,92 @@ fn whole(alloc: Global, number: [u8; 14]) -> Result<Call, Fail> {
     call(alloc, ONE, WorkKind::Nwr, number, None, 10000)
 }
 
-/// A book of two entries.
-fn filled(rt: &impl Abort, alloc: Global) -> Result<Book, Fail> {
-    let mut book = Book::new(alloc, 2);
-    for (number, work) in [(W1, 1), (W2, 2)] {
-        let wanted = Reply::Accepted { work, version: 1 };
-        assert_eq!(rt; reply(&mut book, whole(alloc, number)?)?, wanted);
-    }
-    Ok(book)
+/// A full book must hand the call for this number of a work back.
+fn expect_full(book: &mut Book, call: Call, number: [u8; 14]) -> Result<(), Fail> {
+    let answer = book.apply(1, call);
+    let refused = answer.err().ok_or("a full book took a call")?;
+    same("why it is refused", &refused.why, &WhyRefused::Full)?;
+    same("the call", &refused.call.number(), &number)
 }
 
-fn expect_full(rt: &impl Abort, refused: &Refused, number: [u8; 14]) {
-    assert_eq!(rt; refused.why, WhyRefused::Full);
-    assert_eq!(rt; refused.call.number(), number);
+/// Fills a book of two entries, which then hands the third call back.
+fn expect_two_and_no_more(book: &mut Book, alloc: Global) -> Result<(), Fail> {
+    expect_reply(book, whole(alloc, W1)?, accepted(1, 1))?;
+    expect_reply(book, whole(alloc, W2)?, accepted(2, 1))?;
+    let third = whole(alloc, W3)?;
+    expect_full(book, third, W3)?;
+    same("entries", &book.len(), &2)
 }
 
-/// A book of two entries hands the third call back.
 #[test]
 fn full_book(rt: HostRuntime) -> Result<(), Fail> {
-    let mut book = filled(&rt, rt.alloc())?;
-    let third = whole(rt.alloc(), W3)?;
-    match book.apply(1, third) {
-        Ok(_reply) => Err("a full book took a call")?,
-        Err(refused) => expect_full(&rt, &refused, W3),
-    }
-    assert_eq!(rt; book.len(), 2);
-    Ok(())
+    let mut book = Book::new(rt.alloc(), 2);
+    expect_two_and_no_more(&mut book, rt.alloc())
 }
 
-/// An entry has its session and the number of faults of its call.
-fn expect_entry(rt: &impl Abort, entry: &Entry, number: [u8; 14], faults: usize, reply: Reply) {
-    assert_eq!(rt; entry.session(), 1);
-    assert_eq!(rt; entry.call().number(), number);
-    assert_eq!(rt; entry.call().faults().len(), faults);
-    assert_eq!(rt; entry.reply(), reply);
+/// The book must have these two entries, and no others.
+fn expect_two(book: &Book, first: &Said, second: &Said) -> Result<(), Fail> {
+    let [one, other] = book.history() else {
+        return Err(Fail::from("not two entries"));
+    };
+    expect_entry(one, first)?;
+    expect_entry(other, second)
+}
+
+/// A rejected call, and then an accepted one.
+fn expect_rejected_and_taken(book: &Book) -> Result<(), Fail> {
+    let faults = [Fault {
+        sequence: 0,
+        number: 4,
+        rtype: *b"REV",
+    }];
+    let rejected = Said {
+        session: 1,
+        number: W1,
+        faults: &faults,
+        reply: Reply::Rejected,
+    };
+    let taken = Said {
+        session: 1,
+        number: W2,
+        faults: &[],
+        reply: accepted(1, 1),
+    };
+    expect_two(book, &rejected, &taken)
+}
+
+fn expect_entries(book: &mut Book, alloc: Global) -> Result<(), Fail> {
+    reply(book, call_with_fault(alloc)?)?;
+    reply(book, whole(alloc, W2)?)?;
+    expect_rejected_and_taken(book)
 }
 
 /// Each call that is taken is an entry, a rejected one too.
 #[test]
 fn entries_of_a_book(rt: HostRuntime) -> Result<(), Fail> {
     let mut book = Book::new(rt.alloc(), 2);
-    reply(&mut book, call_with_fault(rt.alloc())?)?;
-    reply(&mut book, whole(rt.alloc(), W2)?)?;
-    let [rejected, accepted] = book.history() else {
-        return Err("not two entries")?;
-    };
-    expect_entry(&rt, rejected, W1, 1, Reply::Rejected);
-    let first = Reply::Accepted {
-        work: 1,
-        version: 1,
-    };
-    expect_entry(&rt, accepted, W2, 0, first);
-    Ok(())
+    expect_entries(&mut book, rt.alloc())
+}
+
+/// Hands a call in for a session, after which the book must be an opening, or must not.
+fn expect_opening(book: &mut Book, call: Call, session: u32, opening: bool) -> Result<(), Fail>
+    requires { session ≤ 63 }
+{
+    let taken = book.apply(session, call).is_ok();
+    same("a call is taken", &taken, &true)?;
+    same("the book is an opening", &book.is_opening(), &opening)
+}
+
+fn expect_openings(book: &mut Book, alloc: Global) -> Result<(), Fail> {
+    same("an empty book is an opening", &book.is_opening(), &true)?;
+    expect_opening(book, whole(alloc, W1)?, 0, true)?;
+    expect_opening(book, whole(alloc, W1)?, 63, false)?;
+    expect_opening(book, whole(alloc, W1)?, 0, false)
 }
 
 /// A book is an opening as long as every entry is of session 0.
 #[test]
 fn openings(rt: HostRuntime) -> Result<(), Fail> {
     let mut book = Book::new(rt.alloc(), 3);
-    assert!(rt; book.is_opening());
-    for (session, is_opening) in [(0, true), (63, false), (0, false)] {
-        let next = whole(rt.alloc(), W1)?;
-        assert!(rt; book.apply(session, next).is_ok());
-        assert_eq!(rt; book.is_opening(), is_opening);
-    }
-    Ok(())
+    expect_openings(&mut book, rt.alloc())
 }

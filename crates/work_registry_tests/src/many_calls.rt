@@ -1,9 +1,9 @@
 //! Many calls, with the replies that the plain registry gives.
 
-use crate::books::{call, reply};
+use crate::books::{call, expect_reply};
 use crate::plain;
+use cwr_sheets::same;
 use std::alloc::Global;
-use std::process::Abort;
 use std::test::Fail;
 use work_registry::{Book, Call, WorkKind};
 
@@ -48,58 +48,66 @@ fn call_of(alloc: Global, x: u64) -> Result<Call, Fail> {
     )
 }
 
-fn compare_claims(rt: &impl Abort, book: &Book) {
-    for sender in 0..4 {
-        for value in 0..51 {
-            let (submitter, number) = (submitter(sender), number(value));
-            let wanted = plain::claim(book.history(), &submitter, &number);
-            assert_eq!(rt; book.claim(&submitter, &number), wanted);
-        }
-    }
+/// The book must answer for a submitter's number of a work as its history does.
+fn expect_claim(book: &Book, submitter: &[u8; 11], number: &[u8; 14]) -> Result<(), Fail> {
+    let wanted = plain::claim(book.history(), submitter, number);
+    same("a claim", &book.claim(submitter, number), &wanted)
 }
 
-fn compare_iswcs(rt: &impl Abort, book: &Book) {
+fn compare_claims(book: &Book) -> Result<(), Fail> {
+    for sender in 0..4 {
+        for value in 0..51 {
+            expect_claim(book, &submitter(sender), &number(value))?;
+        }
+    }
+    Ok(())
+}
+
+fn compare_iswcs(book: &Book) -> Result<(), Fail> {
     for iswc in 0..21 {
         let wanted = plain::work_of_iswc(book.history(), iswc);
-        assert_eq!(rt; book.work_of_iswc(iswc), wanted);
+        same("the work of an ISWC", &book.work_of_iswc(iswc), &wanted)?;
     }
+    Ok(())
 }
 
 /// There is a work at most for each of the 150 keys.
-fn compare_works(rt: &impl Abort, book: &Book) {
+fn compare_works(book: &Book) -> Result<(), Fail> {
     for work in 0..152 {
         let wanted = plain::control_of(book.history(), work, None);
-        assert_eq!(rt; book.control_of(work), wanted);
+        same("what all control", &book.control_of(work), &wanted)?;
     }
+    Ok(())
 }
 
-fn compare(rt: &impl Abort, book: &Book) {
-    compare_claims(rt, book);
-    compare_iswcs(rt, book);
-    compare_works(rt, book);
+fn compare(book: &Book) -> Result<(), Fail> {
+    compare_claims(book)?;
+    compare_iswcs(book)?;
+    compare_works(book)
 }
 
-/// Hands the calls of a sequence in. Each must have the reply that the history gives, and after every 100th the book
-/// must answer as the history does.
-fn filled(rt: &impl Abort, alloc: Global, calls: u32) -> Result<Book, Fail> {
-    let mut book = Book::new(alloc, 10000);
+/// Hands a call in, which must have the reply that the history gives.
+fn expect_plain_reply(book: &mut Book, call: Call) -> Result<(), Fail> {
+    let wanted = plain::reply(book.history(), &call);
+    expect_reply(book, call, wanted)
+}
+
+/// Hands the calls of a sequence in. After every 100th the book must answer as the history does.
+fn fill(book: &mut Book, alloc: Global, calls: u32) -> Result<(), Fail> {
     let mut x: u64 = 1;
     for before in 0..calls {
         x = x.wrapping_mul(48271) % 2147483647;
-        let next = call_of(alloc, x)?;
-        let wanted = plain::reply(book.history(), &next);
-        assert_eq!(rt; reply(&mut book, next)?, wanted);
+        expect_plain_reply(book, call_of(alloc, x)?)?;
         if before % 100 == 99 {
-            compare(rt, &book);
+            compare(book)?;
         }
     }
-    Ok(book)
+    same("entries", &book.len(), &10000)
 }
 
 /// Indexes and running totals answer as the history does.
 #[test]
 fn indexes_and_history(rt: HostRuntime) -> Result<(), Fail> {
-    let book = filled(&rt, rt.alloc(), 10000)?;
-    assert_eq!(rt; book.len(), 10000);
-    Ok(())
+    let mut book = Book::new(rt.alloc(), 10000);
+    fill(&mut book, rt.alloc(), 10000)
 }

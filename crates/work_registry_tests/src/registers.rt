@@ -1,6 +1,7 @@
 //! The register of one entry, and the faults of texts.
 
 use crate::books::{ONE, TITLE, W1, call};
+use cwr_sheets::same;
 use std::alloc::Global;
 use std::test::Fail;
 use work_registry::{Call, Fault, Faults, RegisterRefusal, WorkKind, audit};
@@ -45,4 +46,29 @@ pub(crate) fn fault_of(alloc: Global, text: &[u8]) -> Result<Option<(u8, u64)>, 
         Err(RegisterRefusal::Fault { number, line }) => Ok(Some((number, line))),
         Err(RegisterRefusal::Memory) => Err("no memory")?,
     }
+}
+
+/// A text, which this names, must have this fault, or be a register where there is none.
+pub(crate) fn expect_fault(
+    alloc: Global,
+    what: &str,
+    text: &[u8],
+    wanted: Option<(u8, u64)>,
+) -> Result<(), Fail> {
+    same(what, &fault_of(alloc, text)?, &wanted)
+}
+
+/// The same of a text that was changed at this place.
+pub(crate) fn expect_fault_at(
+    alloc: Global,
+    place: usize,
+    text: &[u8],
+    wanted: Option<(u8, u64)>,
+) -> Result<(), Fail> {
+    let found = fault_of(alloc, text)?;
+    same(
+        "a place, and the fault of the text",
+        &(place, found),
+        &(place, wanted),
+    )
 }

@@ -1,37 +1,55 @@
 //! A register of ten entries, with each kind of reply, and what becomes of it where it is damaged.
 
-use crate::books::{ISWC, ONE, W1, call, call_with_fault, reply};
-use crate::registers::{fault_of, whole_call};
-use crate::revisions::revised;
+ghost use Rattle.std.specs.Prelude.{◌<◌};
+
+use crate::books::{ISWC, ONE, W1, accepted, call, call_with_fault, expect_reply};
+use crate::registers::{expect_fault, expect_fault_at, whole_call};
+use crate::revisions::revise;
+use cwr_sheets::{same, same_bytes};
 use std::alloc::Global;
-use std::process::Abort;
 use std::test::Fail;
 use work_registry::{Book, RegisterRefusal, Reply, WorkKind, read_register};
 
-/// Two submitters share a work, after four calls. Then one registers its part anew, its call with a fault is rejected,
-/// and it registers four works more.
-fn book_of_ten(rt: &impl Abort, alloc: Global) -> Result<Book, Fail> {
-    let mut book = revised(rt, alloc)?;
-    let again = call(alloc, ONE, WorkKind::Nwr, W1, ISWC, 5000)?;
-    assert_eq!(rt; reply(&mut book, again)?, Reply::Duplicate { work: 1 });
-    assert_eq!(rt; reply(&mut book, call_with_fault(alloc)?)?, Reply::Rejected);
-    for (number, work) in [
-        (*b"W2            ", 2),
-        (*b"W3            ", 3),
-        (*b"W4            ", 4),
-        (*b"W5            ", 5),
-    ] {
-        let wanted = Reply::Accepted { work, version: 1 };
-        assert_eq!(rt; reply(&mut book, whole_call(alloc, number)?)?, wanted);
-    }
-    Ok(book)
+/// Registers a work under a number, which must be new.
+fn add_work(book: &mut Book, alloc: Global, number: [u8; 14], work: u32) -> Result<(), Fail> {
+    expect_reply(book, whole_call(alloc, number)?, accepted(work, 1))
 }
 
-/// Its text: line 1 has 12 bytes, and that of an entry 174 and 13 for its fault.
-fn text_of_ten(rt: &impl Abort, alloc: Global) -> Result<Vec<u8>, Fail> {
-    let text = book_of_ten(rt, alloc)?.write_register(alloc)?;
-    assert_eq!(rt; text.len(), 12 + 10 * 174 + 13);
-    assert_eq!(rt; fault_of(alloc, &text)?, None);
+/// Registers four works.
+fn add_four(book: &mut Book, alloc: Global) -> Result<(), Fail> {
+    add_work(book, alloc, *b"W2            ", 2)?;
+    add_work(book, alloc, *b"W3            ", 3)?;
+    add_work(book, alloc, *b"W4            ", 4)?;
+    add_work(book, alloc, *b"W5            ", 5)
+}
+
+/// Two submitters share a work, after four calls. Then one registers its part anew, its call with a fault is rejected,
+/// and it registers four works more.
+fn add_ten(book: &mut Book, alloc: Global) -> Result<(), Fail> {
+    revise(book, alloc)?;
+    let again = call(alloc, ONE, WorkKind::Nwr, W1, ISWC, 5000)?;
+    expect_reply(book, again, Reply::Duplicate { work: 1 })?;
+    expect_reply(book, call_with_fault(alloc)?, Reply::Rejected)?;
+    add_four(book, alloc)
+}
+
+/// The register of a book after these ten calls.
+fn register_of_ten(book: &mut Book, alloc: Global) -> Result<Vec<u8>, Fail> {
+    add_ten(book, alloc)?;
+    Ok(book.write_register(alloc)?)
+}
+
+/// Line 1 has 12 bytes, and that of an entry 174 and 13 for its fault.
+fn expect_ten(alloc: Global, text: &[u8]) -> Result<(), Fail> {
+    same("its length", &text.len(), &(12 + 10 * 174 + 13))?;
+    expect_fault(alloc, "ten entries", text, None)
+}
+
+/// The register of ten entries.
+fn text_of_ten(alloc: Global) -> Result<Vec<u8>, Fail> {
+    let mut book = Book::new(alloc, 100);
+    let text = register_of_ten(&mut book, alloc)?;
+    expect_ten(alloc, &text)?;
     Ok(text)
 }
 
@@ -64,30 +82,59 @@ fn place(text: &[u8], at: usize) -> (u64, usize) {
     (line, column)
 }
 
+/// A book that was read is written again as this text.
+fn expect_written(alloc: Global, book: &Book, text: &[u8]) -> Result<(), Fail> {
+    same_bytes("what is written again", &book.write_register(alloc)?, text)
+}
+
 /// The fault of a text. Where it has none, and so is a register, it is written again as it was read.
-fn fault_or_same(rt: &impl Abort, alloc: Global, text: &[u8]) -> Result<Option<(u8, u64)>, Fail> {
+fn fault_or_same(alloc: Global, text: &[u8]) -> Result<Option<(u8, u64)>, Fail> {
     match read_register(alloc, text, 99999999) {
-        Ok(book) => {
-            assert_eq!(rt; book.write_register(alloc)?.as_slice(), text);
-            Ok(None)
-        }
+        Ok(book) => expect_written(alloc, &book, text).map(|()| None),
         Err(RegisterRefusal::Fault { number, line }) => Ok(Some((number, line))),
         Err(RegisterRefusal::Memory) => Err("no memory")?,
     }
 }
 
+/// A fault is one of G1 to G3, in this line or a later one.
+fn expect_later(number: u8, line: u64, first: u64) -> Result<(), Fail> {
+    same(
+        "a fault's number",
+        &(number, (1..=3).contains(&number)),
+        &(number, true),
+    )?;
+    same(
+        "a fault's line",
+        &(line, (first..=12).contains(&line)),
+        &(line, true),
+    )
+}
+
 /// The text is another register, or it has a fault in this line or a later one.
-fn expect_register_or_fault(
-    rt: &impl Abort,
+fn expect_register_or_fault(alloc: Global, text: &[u8], first: u64) -> Result<(), Fail> {
+    match fault_or_same(alloc, text)? {
+        Some((number, line)) => expect_later(number, line, first),
+        None => Ok(()),
+    }
+}
+
+/// The text with other bytes in place of so many from this index on is the text itself, or has a fault in this line
+/// that shows that the line is not of its form.
+fn expect_no_form(
     alloc: Global,
     text: &[u8],
-    first: u64,
+    at: usize,
+    taken: usize,
+    added: &str,
 ) -> Result<(), Fail> {
-    if let Some((number, line)) = fault_or_same(rt, alloc, text)? {
-        assert!(rt; (1..=3).contains(&number), "G{number}");
-        assert!(rt; (first..=12).contains(&line), "line {line}");
-    }
-    Ok(())
+    let bytes = changed(alloc, text, at, taken, added.as_bytes())?;
+    let (line, _) = place(text, at);
+    let wanted = if bytes.as_slice() == text {
+        None
+    } else {
+        Some((1, line))
+    };
+    expect_fault_at(alloc, at, &bytes, wanted)
 }
 
 /// A control character or an end of line in place of a byte, a byte left out, and a control character before it: the
@@ -95,14 +142,12 @@ fn expect_register_or_fault(
 #[test]
 fn each_byte_spoilt(rt: HostRuntime) -> Result<(), Fail> {
     let alloc = rt.alloc();
-    let text = text_of_ten(&rt, alloc)?;
+    let text = text_of_ten(alloc)?;
     for at in 0..text.len() {
-        let (line, _) = place(&text, at);
-        for (taken, added) in [(1, "\x1f"), (1, "\n"), (1, ""), (0, "\x1f")] {
-            let bytes = changed(alloc, &text, at, taken, added.as_bytes())?;
-            let wanted = if bytes == text { None } else { Some((1, line)) };
-            assert_eq!(rt; fault_of(alloc, &bytes)?, wanted, "{taken} at {at}");
-        }
+        expect_no_form(alloc, &text, at, 1, "\x1f")?;
+        expect_no_form(alloc, &text, at, 1, "\n")?;
+        expect_no_form(alloc, &text, at, 1, "")?;
+        expect_no_form(alloc, &text, at, 0, "\x1f")?;
     }
     Ok(())
 }
@@ -113,19 +158,27 @@ fn is_certain(line: u64, column: usize) -> bool {
     line > 1 && matches!(column, 1..=11 | 23..=85 | 147..=173)
 }
 
+/// The bytes that are put in place of others: digits, a blank and a letter.
+const REPLACING: [u8; 4] = *b"09 A";
+
+/// The text with other bytes in place of one in this line.
+fn expect_replaced(alloc: Global, text: &[u8], at: usize, line: u64) -> Result<(), Fail> {
+    for byte in REPLACING {
+        let bytes = changed(alloc, text, at, 1, &[byte])?;
+        expect_register_or_fault(alloc, &bytes, line)?;
+    }
+    Ok(())
+}
+
 /// A digit, a blank or a letter in place of one of the rest.
 #[test]
 fn each_other_byte_replaced(rt: HostRuntime) -> Result<(), Fail> {
     let alloc = rt.alloc();
-    let text = text_of_ten(&rt, alloc)?;
+    let text = text_of_ten(alloc)?;
     for at in 0..text.len() {
         let (line, column) = place(&text, at);
-        if is_certain(line, column) {
-            continue;
-        }
-        for byte in [b'0', b'9', b' ', b'A'] {
-            let bytes = changed(alloc, &text, at, 1, &[byte])?;
-            expect_register_or_fault(&rt, alloc, &bytes, line)?;
+        if !is_certain(line, column) {
+            expect_replaced(alloc, &text, at, line)?;
         }
     }
     Ok(())
@@ -141,24 +194,46 @@ fn fault_in(column: usize, byte: u8) -> Option<u8> {
     }
 }
 
+/// The text with other bytes in place of such a byte, which has this line and column.
+fn expect_certain(
+    alloc: Global,
+    text: &[u8],
+    at: usize,
+    line: u64,
+    column: usize,
+) -> Result<(), Fail> {
+    for byte in REPLACING {
+        let bytes = changed(alloc, text, at, 1, &[byte])?;
+        let number = fault_in(column, byte).filter(|_| bytes.as_slice() != text);
+        let wanted = number.map(|number| (number, line));
+        let found = fault_or_same(alloc, &bytes)?;
+        same(
+            "a place, and the fault of the text",
+            &(at, found),
+            &(at, wanted),
+        )?;
+    }
+    Ok(())
+}
+
 /// A digit, a blank or a letter in place of such a byte.
 #[test]
 fn each_certain_byte_replaced(rt: HostRuntime) -> Result<(), Fail> {
     let alloc = rt.alloc();
-    let text = text_of_ten(&rt, alloc)?;
+    let text = text_of_ten(alloc)?;
     for at in 0..text.len() {
         let (line, column) = place(&text, at);
-        if !is_certain(line, column) {
-            continue;
-        }
-        for byte in [b'0', b'9', b' ', b'A'] {
-            let bytes = changed(alloc, &text, at, 1, &[byte])?;
-            let wanted = fault_in(column, byte).filter(|_| bytes != text);
-            let found = fault_or_same(&rt, alloc, &bytes)?;
-            assert_eq!(rt; found, wanted.map(|number| (number, line)), "{at}");
+        if is_certain(line, column) {
+            expect_certain(alloc, &text, at, line, column)?;
         }
     }
     Ok(())
+}
+
+/// The text with another number of entries in line 1 has this fault.
+fn expect_count(alloc: Global, text: &[u8], count: &str, line: u64) -> Result<(), Fail> {
+    let bytes = changed(alloc, text, 3, 8, count.as_bytes())?;
+    expect_fault(alloc, count, &bytes, Some((2, line)))
 }
 
 /// Another number of entries than follow. One that is missing has the fault at the line after the last, one that is
@@ -166,22 +241,20 @@ fn each_certain_byte_replaced(rt: HostRuntime) -> Result<(), Fail> {
 #[test]
 fn other_counts(rt: HostRuntime) -> Result<(), Fail> {
     let alloc = rt.alloc();
-    let text = text_of_ten(&rt, alloc)?;
-    for (count, line) in [
-        ("00000009", 11),
-        ("00000011", 12),
-        ("00000000", 2),
-        ("99999999", 12),
-    ] {
-        let bytes = changed(alloc, &text, 3, 8, count.as_bytes())?;
-        assert_eq!(rt; fault_of(alloc, &bytes)?, Some((2, line)), "{count}");
-    }
-    let refusal = read_register(alloc, &text, 9).err();
-    assert_eq!(rt;
-        refusal,
-        Some(RegisterRefusal::Fault { number: 4, line: 1 })
-    );
-    Ok(())
+    let text = text_of_ten(alloc)?;
+    expect_count(alloc, &text, "00000009", 11)?;
+    expect_count(alloc, &text, "00000011", 12)?;
+    expect_count(alloc, &text, "00000000", 2)?;
+    expect_count(alloc, &text, "99999999", 12)
+}
+
+/// Ten entries, and a limit of nine.
+#[test]
+fn ten_above_the_limit(rt: HostRuntime) -> Result<(), Fail> {
+    let text = text_of_ten(rt.alloc())?;
+    let refusal = read_register(rt.alloc(), &text, 9).err();
+    let too_many = RegisterRefusal::Fault { number: 4, line: 1 };
+    same("why it is refused", &refusal, &Some(too_many))
 }
 
 /// The index of the first byte of a line, and the number of its bytes. That of the rejected call is line 7.
@@ -194,19 +267,26 @@ fn extent(line: u64) -> (usize, usize) {
     }
 }
 
+/// The text without this line has its fault there, and with the line twice in the next one.
+fn expect_line(alloc: Global, text: &[u8], line: u64) -> Result<(), Fail>
+    requires { line < 100 }
+{
+    let (at, len) = extent(line);
+    let without = changed(alloc, text, at, len, &[])?;
+    expect_fault_at(alloc, at, &without, Some((2, line)))?;
+    let own = text.get(at..at.saturating_add(len)).ok_or("a line")?;
+    let doubled = changed(alloc, text, at, 0, own)?;
+    expect_fault_at(alloc, at, &doubled, Some((2, line + 1)))
+}
+
 /// The line of an entry left out, so that the one after it has another index, or none is there; and the line of an
 /// entry twice, so that the second has another index, or is not counted.
 #[test]
 fn each_line_left_out_or_doubled(rt: HostRuntime) -> Result<(), Fail> {
     let alloc = rt.alloc();
-    let text = text_of_ten(&rt, alloc)?;
+    let text = text_of_ten(alloc)?;
     for line in 2..12 {
-        let (at, len) = extent(line);
-        let without = changed(alloc, &text, at, len, &[])?;
-        assert_eq!(rt; fault_of(alloc, &without)?, Some((2, line)), "{line}");
-        let own = text.get(at..at.saturating_add(len)).ok_or("a line")?;
-        let doubled = changed(alloc, &text, at, 0, own)?;
-        assert_eq!(rt; fault_of(alloc, &doubled)?, Some((2, line + 1)), "{line}");
+        expect_line(alloc, &text, line)?;
     }
     Ok(())
 }
@@ -215,12 +295,12 @@ fn each_line_left_out_or_doubled(rt: HostRuntime) -> Result<(), Fail> {
 #[test]
 fn each_front_of_ten_entries(rt: HostRuntime) -> Result<(), Fail> {
     let alloc = rt.alloc();
-    let text = text_of_ten(&rt, alloc)?;
+    let text = text_of_ten(alloc)?;
     for len in 0..text.len() {
         let (line, column) = place(&text, len);
         let number = if column == 1 { 2 } else { 1 };
         let front = text.get(..len).unwrap_or(&[]);
-        assert_eq!(rt; fault_of(alloc, front)?, Some((number, line)), "{len}");
+        expect_fault_at(alloc, len, front, Some((number, line)))?;
     }
     Ok(())
 }

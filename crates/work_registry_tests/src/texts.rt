@@ -1,47 +1,61 @@
 //! Registers, byte for byte.
 
-use crate::books::{W1, reply};
-use crate::registers::{ONE_ENTRY, fault_of, faulty_call, whole_call};
+use crate::books::{Said, W1, accepted, expect_entry, expect_reply, reply};
+use crate::registers::{ONE_ENTRY, expect_fault, faulty_call, whole_call};
+use cwr_sheets::{same, same_bytes, same_text};
 use std::alloc::{AllocError, Global};
-use std::process::Abort;
 use std::test::Fail;
-use work_registry::{Book, Entry, Fault, RegisterRefusal, Reply, audit, read_register};
+use work_registry::{Book, Call, Fault, RegisterRefusal, Reply, audit, read_register};
 
-/// Twelve bytes without an entry, and no line at all.
+/// The audit of a register counts so many entries.
+fn expect_audited(alloc: Global, text: &[u8], entries: u64) -> Result<(), Fail> {
+    same(
+        "the entries that are audited",
+        &audit(alloc, text),
+        &Ok(entries),
+    )
+}
+
+/// Twelve bytes without an entry.
 #[test]
 fn without_entries(rt: HostRuntime) -> Result<(), Fail> {
-    let alloc = rt.alloc();
-    let text = Book::new(alloc, 10).write_register(alloc)?;
-    assert_eq!(rt; text.as_slice(), b"REG00000000\n".as_slice());
-    assert_eq!(rt; audit(alloc, &text), Ok(0));
-    for (text, wanted) in [
-        ("", (2, 1)),
-        ("REG00000000\nX", (2, 2)),
-        ("REG00000000\r\n", (1, 1)),
-    ] {
-        assert_eq!(rt; fault_of(alloc, text.as_bytes())?, Some(wanted), "{text:?}");
-    }
-    Ok(())
+    let text = Book::new(rt.alloc(), 10).write_register(rt.alloc())?;
+    same_bytes("a register", &text, b"REG00000000\n")?;
+    expect_audited(rt.alloc(), &text, 0)
+}
+
+/// No line at all, and more than those twelve bytes.
+#[test]
+fn near_no_entries(rt: HostRuntime) -> Result<(), Fail> {
+    expect_fault(rt.alloc(), "no text", b"", Some((2, 1)))?;
+    expect_fault(rt.alloc(), "X behind it", b"REG00000000\nX", Some((2, 2)))?;
+    expect_fault(rt.alloc(), "CR LF", b"REG00000000\r\n", Some((1, 1)))
+}
+
+/// The register of a book after this call.
+fn register_after(book: &mut Book, alloc: Global, call: Call) -> Result<Vec<u8>, Fail> {
+    reply(book, call)?;
+    Ok(book.write_register(alloc)?)
+}
+
+/// The register of one call.
+fn register_of(alloc: Global, call: Call) -> Result<Vec<u8>, Fail> {
+    let mut book = Book::new(alloc, 10);
+    register_after(&mut book, alloc, call)
 }
 
 /// An accepted claim, twelve bytes and 174.
 #[test]
 fn with_one_entry(rt: HostRuntime) -> Result<(), Fail> {
-    let alloc = rt.alloc();
-    let mut book = Book::new(alloc, 10);
-    reply(&mut book, whole_call(alloc, W1)?)?;
-    let text = book.write_register(alloc)?;
-    assert_eq!(rt; text.len(), 186);
-    assert_eq!(rt; text.as_slice(), ONE_ENTRY.as_bytes());
-    assert_eq!(rt; audit(alloc, &text), Ok(1));
-    Ok(())
+    let text = register_of(rt.alloc(), whole_call(rt.alloc(), W1)?)?;
+    same("its length", &text.len(), &186)?;
+    same_bytes("a register", &text, ONE_ENTRY.as_bytes())?;
+    expect_audited(rt.alloc(), &text, 1)
 }
 
-/// The register of a book with one rejected call.
+/// The register of one rejected call.
 fn with_a_fault(alloc: Global) -> Result<Vec<u8>, Fail> {
-    let mut book = Book::new(alloc, 10);
-    reply(&mut book, faulty_call(alloc)?)?;
-    Ok(book.write_register(alloc)?)
+    register_of(alloc, faulty_call(alloc)?)
 }
 
 /// Its text up to the number of its fault.
@@ -61,68 +75,76 @@ fn faulty_line(alloc: Global, number: &str) -> Result<String, AllocError> {
 #[test]
 fn text_with_a_fault(rt: HostRuntime) -> Result<(), Fail> {
     let text = with_a_fault(rt.alloc())?;
-    assert_eq!(rt; text.len(), 12 + 186 + 1);
-    assert_eq!(rt; text.as_slice(), faulty_line(rt.alloc(), "06")?.as_bytes());
-    assert_eq!(rt; audit(rt.alloc(), &text), Ok(1));
-    Ok(())
+    same("its length", &text.len(), &(12 + 186 + 1))?;
+    let wanted = faulty_line(rt.alloc(), "06")?;
+    same_bytes("a register", &text, wanted.as_bytes())?;
+    expect_audited(rt.alloc(), &text, 1)
+}
+
+/// The text with this number of the fault has this fault itself, or is a register.
+fn expect_rule(alloc: Global, number: &str, wanted: Option<(u8, u64)>) -> Result<(), Fail> {
+    let text = faulty_line(alloc, number)?;
+    expect_fault(alloc, number, text.as_bytes(), wanted)
 }
 
 /// There are rules from 1 to 15.
 #[test]
 fn text_with_another_fault(rt: HostRuntime) -> Result<(), Fail> {
-    for (number, wanted) in [("15", None), ("16", Some((1, 2))), ("00", Some((1, 2)))] {
-        let text = faulty_line(rt.alloc(), number)?;
-        assert_eq!(rt; fault_of(rt.alloc(), text.as_bytes())?, wanted, "{number}");
-    }
-    Ok(())
+    expect_rule(rt.alloc(), "15", None)?;
+    expect_rule(rt.alloc(), "16", Some((1, 2)))?;
+    expect_rule(rt.alloc(), "00", Some((1, 2)))
 }
 
-/// The reply to the first call for a work.
-fn new_work(work: u32) -> Reply {
-    Reply::Accepted { work, version: 1 }
+/// The register of two works.
+fn register_after_two(book: &mut Book, alloc: Global) -> Result<Vec<u8>, Fail> {
+    reply(book, whole_call(alloc, W1)?)?;
+    register_after(book, alloc, whole_call(alloc, *b"W2            ")?)
 }
 
 /// The register of a book that is full with two works.
 fn of_two_works(alloc: Global) -> Result<Vec<u8>, Fail> {
     let mut book = Book::new(alloc, 2);
-    reply(&mut book, whole_call(alloc, W1)?)?;
-    reply(&mut book, whole_call(alloc, *b"W2            ")?)?;
-    Ok(book.write_register(alloc)?)
+    register_after_two(&mut book, alloc)
 }
 
-/// What an entry is to say: the number of its work, its faults and the reply to it.
-type Said<'a> = ([u8; 14], &'a [Fault], Reply);
-
-fn expect_entry(rt: &impl Abort, entry: &Entry, wanted: &Said) {
-    let (number, faults, reply) = wanted;
-    assert_eq!(rt; entry.session(), 0);
-    assert_eq!(rt; entry.call().number(), *number);
-    assert_eq!(rt; entry.call().faults(), *faults);
-    assert_eq!(rt; entry.reply(), *reply);
-}
-
-/// The text is read as these entries, every one of the opening, and written again it is the same.
-fn expect_again(rt: &impl Abort, alloc: Global, text: &[u8], wanted: &[Said]) -> Result<(), Fail> {
-    let book = read_register(alloc, text, 10)?;
-    assert_eq!(rt; book.limit(), 10);
-    assert!(rt; book.is_opening());
-    assert_eq!(rt; book.len(), wanted.len());
-    for (entry, wanted) in book.history().iter().zip(wanted) {
-        expect_entry(rt, entry, wanted);
+/// An accepted claim of the opening.
+fn claimed(number: [u8; 14], work: u32) -> Said<'static> {
+    Said {
+        session: 0,
+        number,
+        faults: &[],
+        reply: accepted(work, 1),
     }
-    assert_eq!(rt; book.write_register(alloc)?.as_slice(), text);
-    Ok(())
+}
+
+/// A book that was read has these entries, every one of the opening.
+fn expect_entries(book: &Book, wanted: &[Said]) -> Result<(), Fail> {
+    for (entry, said) in book.history().iter().zip(wanted) {
+        expect_entry(entry, said)?;
+    }
+    same("the limit", &book.limit(), &10)?;
+    same("entries", &book.len(), &wanted.len())?;
+    same("the book is an opening", &book.is_opening(), &true)
+}
+
+/// It has these entries, and is written again as this text.
+fn expect_read(alloc: Global, book: &Book, wanted: &[Said], text: &[u8]) -> Result<(), Fail> {
+    expect_entries(book, wanted)?;
+    same_bytes("what is written again", &book.write_register(alloc)?, text)
+}
+
+/// The text is read as these entries, and written again it is the same.
+fn expect_again(alloc: Global, text: &[u8], wanted: &[Said]) -> Result<(), Fail> {
+    let book = read_register(alloc, text, 10)?;
+    expect_read(alloc, &book, wanted, text)
 }
 
 /// What was written is read again: two works of one submitter.
 #[test]
 fn read_again(rt: HostRuntime) -> Result<(), Fail> {
     let text = of_two_works(rt.alloc())?;
-    let works = [
-        (W1, [].as_slice(), new_work(1)),
-        (*b"W2            ", [].as_slice(), new_work(2)),
-    ];
-    expect_again(&rt, rt.alloc(), &text, &works)
+    let works = [claimed(W1, 1), claimed(*b"W2            ", 2)];
+    expect_again(rt.alloc(), &text, &works)
 }
 
 /// So is a rejected call.
@@ -134,26 +156,37 @@ fn read_a_fault_again(rt: HostRuntime) -> Result<(), Fail> {
         number: 6,
         rtype: *b"SWR",
     }];
-    let rejected = [(W1, faults.as_slice(), Reply::Rejected)];
-    expect_again(&rt, rt.alloc(), &text, &rejected)
+    let rejected = Said {
+        session: 0,
+        number: W1,
+        faults: &faults,
+        reply: Reply::Rejected,
+    };
+    expect_again(rt.alloc(), &text, &[rejected])
 }
 
 /// So is the text of one entry.
 #[test]
 fn read_one_entry_again(rt: HostRuntime) -> Result<(), Fail> {
-    let wanted = [(W1, [].as_slice(), new_work(1))];
-    expect_again(&rt, rt.alloc(), ONE_ENTRY.as_bytes(), &wanted)
+    expect_again(rt.alloc(), ONE_ENTRY.as_bytes(), &[claimed(W1, 1)])
 }
 
 #[test]
 fn read_above_the_limit(rt: HostRuntime) -> Result<(), Fail> {
     let text = of_two_works(rt.alloc())?;
     let refusal = read_register(rt.alloc(), &text, 1).err();
-    assert_eq!(rt;
-        refusal,
-        Some(RegisterRefusal::Fault { number: 4, line: 1 })
-    );
-    Ok(())
+    let too_many = RegisterRefusal::Fault { number: 4, line: 1 };
+    same("why it is refused", &refusal, &Some(too_many))
+}
+
+/// A book of these two works answers three calls, and then has five entries.
+fn expect_five(book: &mut Book, alloc: Global) -> Result<(), Fail> {
+    let first = Reply::Duplicate { work: 1 };
+    expect_reply(book, whole_call(alloc, W1)?, first)?;
+    let second = Reply::Duplicate { work: 2 };
+    expect_reply(book, whole_call(alloc, *b"W2            ")?, second)?;
+    expect_reply(book, whole_call(alloc, *b"W3            ")?, accepted(3, 1))?;
+    expect_audited(alloc, &book.write_register(alloc)?, 5)
 }
 
 /// A book that was read goes on where it ended.
@@ -161,27 +194,15 @@ fn read_above_the_limit(rt: HostRuntime) -> Result<(), Fail> {
 fn calls_after_reading(rt: HostRuntime) -> Result<(), Fail> {
     let text = of_two_works(rt.alloc())?;
     let mut book = read_register(rt.alloc(), &text, 10)?;
-    for (number, wanted) in [
-        (W1, Reply::Duplicate { work: 1 }),
-        (*b"W2            ", Reply::Duplicate { work: 2 }),
-        (*b"W3            ", new_work(3)),
-    ] {
-        let call = whole_call(rt.alloc(), number)?;
-        assert_eq!(rt; reply(&mut book, call)?, wanted);
-    }
-    let longer = book.write_register(rt.alloc())?;
-    assert_eq!(rt; audit(rt.alloc(), &longer), Ok(5));
-    Ok(())
+    expect_five(&mut book, rt.alloc())
 }
 
 #[test]
 fn texts_of_refusals(rt: HostRuntime) -> Result<(), Fail> {
     let fault = RegisterRefusal::Fault { number: 3, line: 2 };
-    assert_eq!(rt;
-        format!(in rt.alloc(); "{fault}")?.as_str(),
-        "refused G3 at line 2"
-    );
+    let told = format!(in rt.alloc(); "{fault}")?;
+    same_text("a fault", &told, "refused G3 at line 2")?;
     let memory = RegisterRefusal::Memory;
-    assert_eq!(rt; format!(in rt.alloc(); "{memory}")?.as_str(), "memory");
-    Ok(())
+    let told = format!(in rt.alloc(); "{memory}")?;
+    same_text("no memory", &told, "memory")
 }
