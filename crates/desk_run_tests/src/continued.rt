@@ -37,6 +37,16 @@ fn run_by<'a, T: Threads + Wait + Sync>(
     }
 }
 
+/// The register of a book that was full after two of three works.
+fn register_of_full(alloc: Global, run: &MemoryRun) -> Result<Vec<u8>, Fail> {
+    let end = FileOutcome::Stopped {
+        handed: 2,
+        why: Why::Full,
+    };
+    expect_run(run, end, b"", &[accepted(1, 1), accepted(2, 1)])?;
+    Ok(run.book.write_register(alloc)?)
+}
+
 /// The register of a book of two entries, which is full before the file's third work.
 fn full_register<T: Threads + Wait + Sync>(
     rt: &T,
@@ -45,35 +55,18 @@ fn full_register<T: Threads + Wait + Sync>(
     input: &[u8],
 ) -> Result<Vec<u8>, Fail> {
     let run = run_by(rt, alloc, call, Book::new(alloc, 2), input)?;
-    let end = FileOutcome::Stopped {
-        handed: 2,
-        why: Why::Full,
-    };
-    expect_run(&run, end, b"", &[accepted(1, 1), accepted(2, 1)])?;
-    Ok(run.book.write_register(alloc)?)
+    register_of_full(alloc, &run)
 }
 
-/// The file once more, with the book of a register and room for ten entries.
-fn expect_continued<T: Threads + Wait + Sync>(
-    rt: &T,
-    alloc: Global,
-    call: Call,
-    input: &[u8],
-    register: &[u8],
-) -> Result<Book, Fail> {
-    let Ok(book) = read_register(alloc, register, 10) else {
-        return Err(Fail::from("no register"));
-    };
-    let run = run_by(rt, alloc, call, book, input)?;
-    expect_ends(&run, &[FileOutcome::Acked { transactions: 3 }])?;
+/// The acknowledgement of the second run: the third work alone is new.
+fn expect_third_new(alloc: Global, run: &MemoryRun) -> Result<(), Fail> {
     let answers = [
         decision(0, "NWR", "W1", "00000001", "DU", &[]),
         decision(1, "NWR", "W2", "00000002", "DU", &[]),
         decision(2, "NWR", "W3", "00000003", "AS", &[]),
     ];
     let wanted = acknowledgement(alloc, &answers)?;
-    expect_written(&run, &[&wanted])?;
-    Ok(run.book)
+    expect_written(run, &[&wanted])
 }
 
 /// The book that the second run leaves: two entries of the opening, and three of its job.
@@ -87,12 +80,29 @@ fn expect_five(alloc: Global, book: &Book) -> Result<(), Fail> {
     ];
     expect_history(book, &history)?;
     same("the limit", &book.limit(), &10)?;
-    let register = book.write_register(alloc)?;
-    same(
-        "the entries that are audited",
-        &audit(alloc, &register).ok(),
-        &Some(5),
-    )
+    let entries = audit(alloc, &book.write_register(alloc)?).ok();
+    same("the entries that are audited", &entries, &Some(5))
+}
+
+/// What the second run leaves.
+fn expect_continued(alloc: Global, run: &MemoryRun) -> Result<(), Fail> {
+    expect_ends(run, &[FileOutcome::Acked { transactions: 3 }])?;
+    expect_third_new(alloc, run)?;
+    expect_five(alloc, &run.book)
+}
+
+/// Works the file once more, with the book of a register and room for ten entries.
+fn run_again<'a, T: Threads + Wait + Sync>(
+    rt: &T,
+    alloc: Global,
+    call: Call,
+    input: &'a [u8],
+    register: &[u8],
+) -> Result<MemoryRun<'a>, Fail> {
+    let Ok(book) = read_register(alloc, register, 10) else {
+        return Err(Fail::from("no register"));
+    };
+    run_by(rt, alloc, call, book, input)
 }
 
 /// The register has more entries than a book of one may hold.
@@ -107,8 +117,8 @@ fn expect_all<T: Threads + Wait + Sync>(rt: &T, alloc: Global, call: Call) -> Re
     let input = three_works(alloc)?;
     let register = full_register(rt, alloc, call, &input)?;
     expect_too_small(alloc, &register)?;
-    let book = expect_continued(rt, alloc, call, &input, &register)?;
-    expect_five(alloc, &book)
+    let run = run_again(rt, alloc, call, &input, &register)?;
+    expect_continued(alloc, &run)
 }
 
 #[test]

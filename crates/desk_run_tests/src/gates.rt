@@ -6,7 +6,7 @@ use cwr_desk::{Book, FileOutcome, Gate, Reply, Shut, Why};
 use cwr_sheets::{
     OTHER_SENDER, SENDER, acknowledgement, decision, same, same_lists, three_works, work_twice,
 };
-use desk_runs::{accepted, expect_ends, expect_run, expect_written, run_at_desk, whole};
+use desk_runs::{MemoryRun, accepted, expect_ends, expect_run, expect_written, run_at_desk, whole};
 use std::alloc::Global;
 use std::sync::Mutex;
 use std::test::Fail;
@@ -73,28 +73,39 @@ fn expect_both(alloc: Global, book: &Book) -> Result<u32, Fail> {
     Ok(whole)
 }
 
+/// The acknowledgement of a file that holds a work twice, which has this number.
+fn told_twice(alloc: Global, work: u32) -> Result<Vec<u8>, Fail> {
+    let number = format!(in alloc; "{work:08}")?;
+    let answers = [
+        decision(0, "NWR", "W1", &number, "AS", &[]),
+        decision(1, "NWR", "W1", &number, "DU", &[]),
+    ];
+    acknowledgement(alloc, &answers)
+}
+
+/// How the two ended, of which the first was stopped.
+const TWO_ENDS: [FileOutcome; 2] = [
+    FileOutcome::Stopped {
+        handed: 1,
+        why: Why::Gate,
+    },
+    FileOutcome::Acked { transactions: 2 },
+];
+
+fn expect_one_shut(alloc: Global, run: &MemoryRun) -> Result<(), Fail> {
+    expect_ends(run, &TWO_ENDS)?;
+    let whole = expect_both(alloc, &run.book)?;
+    let wanted = told_twice(alloc, whole)?;
+    expect_written(run, &[b"", &wanted])
+}
+
 #[test]
 fn a_gate_that_shuts_for_one_of_two(rt: HostRuntime) -> Result<(), Fail> {
     let alloc = rt.alloc();
     let one = work_twice(alloc, SENDER)?;
     let other = work_twice(alloc, OTHER_SENDER)?;
     let run = serve_two(&rt, alloc, &one, &other, &SHUT)?;
-    let stopped = FileOutcome::Stopped {
-        handed: 1,
-        why: Why::Gate,
-    };
-    let acknowledged = FileOutcome::Acked { transactions: 2 };
-    expect_ends(&run, &[stopped, acknowledged])?;
-    let whole = expect_both(alloc, &run.book)?;
-    let number = format!(in alloc; "{whole:08}")?;
-    let wanted = acknowledgement(
-        alloc,
-        &[
-            decision(0, "NWR", "W1", &number, "AS", &[]),
-            decision(1, "NWR", "W1", &number, "DU", &[]),
-        ],
-    )?;
-    expect_written(&run, &[b"", &wanted])
+    expect_one_shut(alloc, &run)
 }
 
 /// That a worker passed a gate, at one of its transactions.
@@ -125,6 +136,11 @@ impl Recording {
         }
     }
 
+    /// Who passed it, in order.
+    fn into_passed(self) -> Vec<Passed> {
+        self.passed.into_inner()
+    }
+
     fn keep(&self, passed: Passed) {
         if let Some(mut kept) = self.passed.try_lock() {
             let _kept = kept.push(passed).is_ok();
@@ -145,9 +161,11 @@ impl Gate for Recording {
     }
 }
 
-/// Who must have passed the gate, in order.
-fn expect_passed(gate: Recording, wanted: &[Passed]) -> Result<(), Fail> {
-    same_lists("who passed the gate", &gate.passed.into_inner(), wanted)
+/// Both transactions passed the gate, one after the other.
+fn expect_two_passed(run: &MemoryRun, passed: &[Passed]) -> Result<(), Fail> {
+    expect_ends(run, &[FileOutcome::Acked { transactions: 2 }])?;
+    let wanted = [before(0), after(0), before(1), after(1)];
+    same_lists("who passed the gate", passed, &wanted)
 }
 
 #[test]
@@ -156,8 +174,18 @@ fn each_transaction_passes_the_gate(rt: HostRuntime) -> Result<(), Fail> {
     let input = work_twice(alloc, SENDER)?;
     let gate = Recording::new(alloc);
     let run = run_at_desk(&rt, alloc, Book::new(alloc, 100), &[whole(&input)], &gate)?;
-    expect_ends(&run, &[FileOutcome::Acked { transactions: 2 }])?;
-    expect_passed(gate, &[before(0), after(0), before(1), after(1)])
+    expect_two_passed(&run, &gate.into_passed())
+}
+
+/// The first transaction passed the gate. The second one, for which the book had no room, did not get behind it.
+fn expect_one_passed(run: &MemoryRun, passed: &[Passed]) -> Result<(), Fail> {
+    let end = FileOutcome::Stopped {
+        handed: 1,
+        why: Why::Full,
+    };
+    expect_run(run, end, b"", &[accepted(1, 1)])?;
+    let wanted = [before(0), after(0), before(1)];
+    same_lists("who passed the gate", passed, &wanted)
 }
 
 #[test]
@@ -166,10 +194,5 @@ fn a_refused_transaction_does_not_pass(rt: HostRuntime) -> Result<(), Fail> {
     let input = three_works(alloc)?;
     let gate = Recording::new(alloc);
     let run = run_at_desk(&rt, alloc, Book::new(alloc, 1), &[whole(&input)], &gate)?;
-    let end = FileOutcome::Stopped {
-        handed: 1,
-        why: Why::Full,
-    };
-    expect_run(&run, end, b"", &[accepted(1, 1)])?;
-    expect_passed(gate, &[before(0), after(0), before(1)])
+    expect_one_passed(&run, &gate.into_passed())
 }

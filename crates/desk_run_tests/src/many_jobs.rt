@@ -3,7 +3,8 @@
 use cwr_desk::{Book, Entry, FileOutcome, OpenGate, Why};
 use cwr_sheets::{ALL, file, miscounted, one_answer, plain_file, same, work, writer};
 use desk_runs::{
-    ACKED, MemoryRun, accepted, expect_ends, expect_history, expect_written, run_at_desk,
+    ACKED, MemoryRun, accepted, expect_ends, expect_history, expect_written, run_at_desk, unread,
+    with_room,
 };
 use std::alloc::Global;
 use std::sync::Wait;
@@ -32,7 +33,7 @@ fn serve_all<'a, T: Threads + Wait + Sync>(
 ) -> Result<MemoryRun<'a>, Fail> {
     let mut inputs = Vec::new(alloc);
     for file in files {
-        inputs.push((file.as_slice(), None, 425))?;
+        inputs.push(with_room(file, 425))?;
     }
     run_at_desk(rt, alloc, Book::new(alloc, 100), &inputs, &OpenGate)
 }
@@ -62,13 +63,45 @@ fn expect_63(alloc: Global, entries: &[Entry]) -> Result<(), Fail> {
     Ok(())
 }
 
+fn expect_all_63(alloc: Global, run: &MemoryRun) -> Result<(), Fail> {
+    expect_ends(run, &[ACKED; 63])?;
+    expect_63(alloc, run.book.history())
+}
+
 #[test]
 fn jobs_of_63_submitters(rt: HostRuntime) -> Result<(), Fail> {
     let alloc = rt.alloc();
     let files = files(alloc)?;
     let run = serve_all(&rt, alloc, &files)?;
-    expect_ends(&run, &[ACKED; 63])?;
-    expect_63(alloc, run.book.history())
+    expect_all_63(alloc, &run)
+}
+
+/// Works a file that is refused, one whose read fails, and a good one at once, at an empty book of 100 entries.
+fn serve_three<'a, T: Threads + Wait + Sync>(
+    rt: &T,
+    alloc: Global,
+    bad: &'a [u8],
+    good: &'a [u8],
+) -> Result<MemoryRun<'a>, Fail> {
+    let inputs = [with_room(bad, 425), unread(good), with_room(good, 425)];
+    run_at_desk(rt, alloc, Book::new(alloc, 100), &inputs, &OpenGate)
+}
+
+/// How the three ended.
+const THREE_ENDS: [FileOutcome; 3] = [
+    FileOutcome::Refused { number: 9, line: 5 },
+    FileOutcome::Stopped {
+        handed: 0,
+        why: Why::Read,
+    },
+    ACKED,
+];
+
+fn expect_third_alone(alloc: Global, run: &MemoryRun) -> Result<(), Fail> {
+    expect_ends(run, &THREE_ENDS)?;
+    expect_history(&run.book, &[(3, accepted(1, 1))])?;
+    let wanted = one_answer(alloc, "AS")?;
+    expect_written(run, &[b"", b"", &wanted])
 }
 
 #[test]
@@ -76,19 +109,6 @@ fn a_refused_file_and_a_failed_read_beside_a_good_one(rt: HostRuntime) -> Result
     let alloc = rt.alloc();
     let bad = miscounted(alloc)?;
     let good = plain_file(alloc)?;
-    let inputs = [
-        (bad.as_slice(), None, 425),
-        (good.as_slice(), Some(1), 425),
-        (good.as_slice(), None, 425),
-    ];
-    let run = run_at_desk(&rt, alloc, Book::new(alloc, 100), &inputs, &OpenGate)?;
-    let unread = FileOutcome::Stopped {
-        handed: 0,
-        why: Why::Read,
-    };
-    let refused = FileOutcome::Refused { number: 9, line: 5 };
-    expect_ends(&run, &[refused, unread, ACKED])?;
-    expect_history(&run.book, &[(3, accepted(1, 1))])?;
-    let wanted = one_answer(alloc, "AS")?;
-    expect_written(&run, &[b"", b"", &wanted])
+    let run = serve_three(&rt, alloc, &bad, &good)?;
+    expect_third_alone(alloc, &run)
 }

@@ -9,6 +9,7 @@ use std::sync::Wait;
 use std::test::Fail;
 
 /// What two seats leave: the book, and how each file ended and what was written of its acknowledgement.
+#[derive(Drop)]
 struct Worked {
     book: Book,
     ends: [FileOutcome; 2],
@@ -59,24 +60,25 @@ fn work_two<T: Wait>(rt: &T, alloc: Global, one: &[u8], other: &[u8]) -> Result<
     })
 }
 
+/// The gate stopped the first file, and the second one was acknowledged.
+fn expect_second_alone(alloc: Global, worked: &Worked) -> Result<(), Fail> {
+    let stopped = FileOutcome::Stopped {
+        handed: 0,
+        why: Why::Gate,
+    };
+    same("how the files ended", &worked.ends, &[stopped, ACKED])?;
+    expect_history(&worked.book, &[(2, accepted(1, 1))])?;
+    let [first, second] = &worked.writers;
+    same_bytes("the first acknowledgement", first.bytes(), b"")?;
+    let wanted = one_answer(alloc, "AS")?;
+    same_bytes("the second acknowledgement", second.bytes(), &wanted)
+}
+
 #[test]
 fn the_first_seat_waits_in_vain(rt: HostRuntime) -> Result<(), Fail> {
     let alloc = rt.alloc();
     let files = rival_claims(alloc)?;
     let [one, other] = &files;
-    let Worked {
-        book,
-        ends,
-        writers,
-    } = work_two(&rt, alloc, one, other)?;
-    let stopped = FileOutcome::Stopped {
-        handed: 0,
-        why: Why::Gate,
-    };
-    same("how the files ended", &ends, &[stopped, ACKED])?;
-    expect_history(&book, &[(2, accepted(1, 1))])?;
-    let [first, second] = &writers;
-    same_bytes("the first acknowledgement", first.bytes(), b"")?;
-    let wanted = one_answer(alloc, "AS")?;
-    same_bytes("the second acknowledgement", second.bytes(), &wanted)
+    let worked = work_two(&rt, alloc, one, other)?;
+    expect_second_alone(alloc, &worked)
 }

@@ -1,6 +1,7 @@
 //! Jobs on threads of their own at one desk.
 ghost use Rattle.std.specs.Prelude.{true};
 
+use crate::turns::expect_no_jobs;
 use cwr_desk::{Book, FileOutcome, Gate, OpenGate, Reply, Shut, Why};
 use cwr_sheets::{one_answer, plain_file, rival_claims, same};
 use desk_runs::{
@@ -62,18 +63,33 @@ pub(crate) fn serve_two<'a, T: Threads + Wait + Sync, G: Gate + Sync>(
     run_at_desk(rt, alloc, Book::new(alloc, 100), &inputs, gate)
 }
 
+/// The second job registered the work, and the first one's claim to it is in conflict.
+fn expect_second_first(alloc: Global, run: &MemoryRun) -> Result<(), Fail> {
+    expect_ends(run, &[ACKED, ACKED])?;
+    let history = [(2, accepted(1, 1)), (1, Reply::Conflict { work: 1 })];
+    expect_history(&run.book, &history)?;
+    let conflict = one_answer(alloc, "CO")?;
+    let registered = one_answer(alloc, "AS")?;
+    expect_written(run, &[&conflict, &registered])
+}
+
 #[test]
 fn two_workers_meet_at_the_gate(rt: HostRuntime) -> Result<(), Fail> {
     let alloc = rt.alloc();
     let claims = rival_claims(alloc)?;
     let [one, other] = &claims;
     let run = serve_two(&rt, alloc, one, other, &SecondFirst::new())?;
-    expect_ends(&run, &[ACKED, ACKED])?;
-    let history = [(2, accepted(1, 1)), (1, Reply::Conflict { work: 1 })];
-    expect_history(&run.book, &history)?;
-    let conflict = one_answer(alloc, "CO")?;
-    let registered = one_answer(alloc, "AS")?;
-    expect_written(&run, &[&conflict, &registered])
+    expect_second_first(alloc, &run)
+}
+
+/// The gate stopped the one job before it handed anything in.
+fn expect_stopped(run: &MemoryRun) -> Result<(), Fail> {
+    let stopped = FileOutcome::Stopped {
+        handed: 0,
+        why: Why::Gate,
+    };
+    expect_ends(run, &[stopped])?;
+    same("entries", &run.book.len(), &0)
 }
 
 #[test]
@@ -82,31 +98,37 @@ fn one_worker_waits_in_vain(rt: HostRuntime) -> Result<(), Fail> {
     let input = plain_file(alloc)?;
     let book = Book::new(alloc, 100);
     let run = run_at_desk(&rt, alloc, book, &[whole(&input)], &SecondFirst::new())?;
-    let stopped = FileOutcome::Stopped {
-        handed: 0,
-        why: Why::Gate,
-    };
-    expect_ends(&run, &[stopped])?;
-    same("entries", &run.book.len(), &0)
+    expect_stopped(&run)
+}
+
+/// What was written of the two acknowledgements of the plain file: the first, where it came first, tells a new work.
+fn expect_both_written(alloc: Global, run: &MemoryRun, first_came: bool) -> Result<(), Fail> {
+    let registered = one_answer(alloc, "AS")?;
+    let duplicate = one_answer(alloc, "DU")?;
+    if first_came {
+        expect_written(run, &[&registered, &duplicate])
+    } else {
+        expect_written(run, &[&duplicate, &registered])
+    }
 }
 
 /// Both jobs acknowledged the plain file, first the one of this session and then the other one.
 fn expect_twice(alloc: Global, run: &MemoryRun, sessions: [u32; 2]) -> Result<(), Fail> {
     expect_ends(run, &[ACKED, ACKED])?;
-    same("jobs", &run.jobs.len(), &2)?;
     let [earlier, later] = sessions;
     let history = [
         (earlier, accepted(1, 1)),
         (later, Reply::Duplicate { work: 1 }),
     ];
     expect_history(&run.book, &history)?;
-    let registered = one_answer(alloc, "AS")?;
-    let duplicate = one_answer(alloc, "DU")?;
-    if earlier == 1 {
-        expect_written(run, &[&registered, &duplicate])
-    } else {
-        expect_written(run, &[&duplicate, &registered])
-    }
+    expect_both_written(alloc, run, earlier == 1)
+}
+
+/// The same, in whichever order they came.
+fn expect_twice_somehow(alloc: Global, run: &MemoryRun) -> Result<(), Fail> {
+    let first = run.book.history().first().ok_or("an entry")?;
+    let sessions = if first.session() == 1 { [1, 2] } else { [2, 1] };
+    expect_twice(alloc, run, sessions)
 }
 
 #[test]
@@ -114,9 +136,7 @@ fn one_file_twice_at_once(rt: HostRuntime) -> Result<(), Fail> {
     let alloc = rt.alloc();
     let input = plain_file(alloc)?;
     let run = serve_two(&rt, alloc, &input, &input, &OpenGate)?;
-    let first = run.book.history().first().ok_or("an entry")?;
-    let sessions = if first.session() == 1 { [1, 2] } else { [2, 1] };
-    expect_twice(alloc, &run, sessions)
+    expect_twice_somehow(alloc, &run)
 }
 
 #[test]
@@ -131,7 +151,5 @@ fn one_file_twice_and_the_second_job_first(rt: HostRuntime) -> Result<(), Fail> 
 fn no_jobs_at_the_desk(rt: HostRuntime) -> Result<(), Fail> {
     let alloc = rt.alloc();
     let run = run_at_desk(&rt, alloc, Book::new(alloc, 100), &[], &OpenGate)?;
-    same("outcomes", &run.outcomes.len(), &0)?;
-    same("jobs", &run.jobs.len(), &0)?;
-    same("the book", &(run.book.len(), run.book.limit()), &(0, 100))
+    expect_no_jobs(&run)
 }

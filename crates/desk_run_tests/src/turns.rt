@@ -1,29 +1,43 @@
 //! Jobs in turn at one book.
 
-use cwr_desk::{Book, FileOutcome, Reply, Why};
+use cwr_desk::{Book, Claim, FileOutcome, Reply, Why};
 use cwr_sheets::{
     OTHER_SENDER, SENDER, Told, acknowledgement, decision, miscounted, one_answer, one_work,
     plain_file, same, same_bytes, three_works,
 };
 use desk_runs::{
     ACKED, Input, MemoryRun, accepted, expect_ends, expect_history, expect_run, expect_written,
-    run_in_turn, whole,
+    run_in_turn, unread, whole, with_room,
 };
 use std::alloc::Global;
 use std::test::Fail;
 
-#[test]
-fn no_jobs(rt: HostRuntime) -> Result<(), Fail> {
-    let alloc = rt.alloc();
-    let run = run_in_turn(alloc, Book::new(alloc, 100), &[])?;
+/// A run without files leaves no outcome and no job, and the book as it was: empty, with room for 100 entries.
+pub(crate) fn expect_no_jobs(run: &MemoryRun) -> Result<(), Fail> {
     same("outcomes", &run.outcomes.len(), &0)?;
     same("jobs", &run.jobs.len(), &0)?;
-    same("the book", &(run.book.len(), run.book.limit()), &(0, 100))
+    same("entries", &run.book.len(), &0)?;
+    same("the limit", &run.book.limit(), &100)
+}
+
+#[test]
+fn no_jobs(rt: HostRuntime) -> Result<(), Fail> {
+    let run = run_in_turn(rt.alloc(), Book::new(rt.alloc(), 100), &[])?;
+    expect_no_jobs(&run)
 }
 
 /// Works two files in turn, into an empty book of 100 entries.
 fn run_two<'a>(alloc: Global, first: &'a [u8], second: &'a [u8]) -> Result<MemoryRun<'a>, Fail> {
     run_in_turn(alloc, Book::new(alloc, 100), &[whole(first), whole(second)])
+}
+
+/// The first file was refused, and the second one acknowledged.
+fn expect_second_alone(alloc: Global, run: &MemoryRun) -> Result<(), Fail> {
+    let refused = FileOutcome::Refused { number: 9, line: 5 };
+    expect_ends(run, &[refused, ACKED])?;
+    expect_history(&run.book, &[(2, accepted(1, 1))])?;
+    let wanted = one_answer(alloc, "AS")?;
+    expect_written(run, &[b"", &wanted])
 }
 
 #[test]
@@ -32,45 +46,48 @@ fn a_refused_file_and_another_one(rt: HostRuntime) -> Result<(), Fail> {
     let bad = miscounted(alloc)?;
     let good = plain_file(alloc)?;
     let run = run_two(alloc, &bad, &good)?;
-    expect_ends(&run, &[FileOutcome::Refused { number: 9, line: 5 }, ACKED])?;
-    expect_history(&run.book, &[(2, accepted(1, 1))])?;
-    let wanted = one_answer(alloc, "AS")?;
-    expect_written(&run, &[b"", &wanted])
+    expect_second_alone(alloc, &run)
 }
 
 /// Works one file three times in turn: with a read that fails, with room for 100 bytes, and with room for all.
 fn run_three(alloc: Global, input: &[u8]) -> Result<MemoryRun<'_>, Fail> {
-    let inputs = [
-        (input, Some(1), 1000),
-        (input, None, 100),
-        (input, None, 425),
-    ];
+    let inputs = [unread(input), with_room(input, 100), with_room(input, 425)];
     run_in_turn(alloc, Book::new(alloc, 100), &inputs)
+}
+
+/// How the three ended.
+const THREE_ENDS: [FileOutcome; 3] = [
+    FileOutcome::Stopped {
+        handed: 0,
+        why: Why::Read,
+    },
+    FileOutcome::Stopped {
+        handed: 1,
+        why: Why::Write { sent: 100 },
+    },
+    ACKED,
+];
+
+/// What was written of the three acknowledgements: nothing, 100 bytes, and all.
+fn expect_three_written(alloc: Global, run: &MemoryRun) -> Result<(), Fail> {
+    let registered = one_answer(alloc, "AS")?;
+    let sent = registered.get(..100).ok_or("100 bytes")?;
+    let again = one_answer(alloc, "DU")?;
+    expect_written(run, &[b"", sent, &again])
+}
+
+fn expect_three(alloc: Global, run: &MemoryRun) -> Result<(), Fail> {
+    expect_ends(run, &THREE_ENDS)?;
+    let history = [(2, accepted(1, 1)), (3, Reply::Duplicate { work: 1 })];
+    expect_history(&run.book, &history)?;
+    expect_three_written(alloc, run)
 }
 
 #[test]
 fn a_failed_read_and_a_failed_write(rt: HostRuntime) -> Result<(), Fail> {
-    let alloc = rt.alloc();
-    let input = plain_file(alloc)?;
-    let run = run_three(alloc, &input)?;
-    let ends = [
-        FileOutcome::Stopped {
-            handed: 0,
-            why: Why::Read,
-        },
-        FileOutcome::Stopped {
-            handed: 1,
-            why: Why::Write { sent: 100 },
-        },
-        ACKED,
-    ];
-    expect_ends(&run, &ends)?;
-    let history = [(2, accepted(1, 1)), (3, Reply::Duplicate { work: 1 })];
-    expect_history(&run.book, &history)?;
-    let registered = one_answer(alloc, "AS")?;
-    let sent = registered.get(..100).ok_or("100 bytes")?;
-    let again = one_answer(alloc, "DU")?;
-    expect_written(&run, &[b"", sent, &again])
+    let input = plain_file(rt.alloc())?;
+    let run = run_three(rt.alloc(), &input)?;
+    expect_three(rt.alloc(), &run)
 }
 
 #[test]
@@ -85,13 +102,18 @@ fn a_full_book(rt: HostRuntime) -> Result<(), Fail> {
     expect_run(&run, end, b"", &[accepted(1, 1), accepted(2, 1)])
 }
 
+/// Both files were acknowledged, and the second one's work got this reply.
+fn expect_second_reply(run: &MemoryRun, second: Reply) -> Result<(), Fail> {
+    expect_ends(run, &[ACKED, ACKED])?;
+    expect_history(&run.book, &[(1, accepted(1, 1)), (2, second)])
+}
+
 /// What becomes of a work of another submitter with the same number.
 fn two_submitters(alloc: Global, iswc: &str, shares: [&str; 2], second: Reply) -> Result<(), Fail> {
     let one = one_work(alloc, SENDER, "NWR", "W1", iswc, ["05000", "05000"])?;
     let other = one_work(alloc, OTHER_SENDER, "NWR", "W1", iswc, shares)?;
     let run = run_two(alloc, &one, &other)?;
-    expect_ends(&run, &[ACKED, ACKED])?;
-    expect_history(&run.book, &[(1, accepted(1, 1)), (2, second)])
+    expect_second_reply(&run, second)
 }
 
 #[test]
@@ -114,27 +136,28 @@ fn claims_to_one_work(alloc: Global) -> Result<[Vec<u8>; 3], Fail> {
     ])
 }
 
-/// Works these files in turn, into an empty book of 100 entries. Each must be acknowledged.
+/// Works these files in turn, into an empty book of 100 entries.
 fn run_all<'a>(alloc: Global, files: &[Input<'a>]) -> Result<MemoryRun<'a>, Fail> {
-    let run = run_in_turn(alloc, Book::new(alloc, 100), files)?;
-    same("outcomes", &run.outcomes.len(), &files.len())?;
+    run_in_turn(alloc, Book::new(alloc, 100), files)
+}
+
+/// A run of so many files, each of which was acknowledged.
+fn expect_all_acknowledged(run: &MemoryRun, files: usize) -> Result<(), Fail> {
     for outcome in &run.outcomes {
         same("how a file ended", outcome, &ACKED)?;
     }
-    Ok(run)
+    same("outcomes", &run.outcomes.len(), &files)
 }
 
 /// The claim to the work that two submitters share: its version, and half of each right.
 fn expect_claim(book: &Book, version: u32) -> Result<(), Fail> {
-    let claim = book
-        .claim(b"PB000000123", b"W1            ")
-        .ok_or("a claim")?;
-    same(
-        "a work and its version",
-        &(claim.work, claim.version),
-        &(1, version),
-    )?;
-    same("what the submitter controls", &claim.control, &[5000; 3])?;
+    let wanted = Claim {
+        work: 1,
+        version,
+        control: [5000; 3],
+    };
+    let claim = book.claim(b"PB000000123", b"W1            ");
+    same("a claim", &claim, &Some(wanted))?;
     same("what all control", &book.control_of(1), &[10000; 3])?;
     same(
         "the work of the ISWC",
@@ -143,13 +166,9 @@ fn expect_claim(book: &Book, version: u32) -> Result<(), Fail> {
     )
 }
 
-#[test]
-fn a_claim_and_its_new_version(rt: HostRuntime) -> Result<(), Fail> {
-    let alloc = rt.alloc();
-    let claims = claims_to_one_work(alloc)?;
-    let [first, second, third] = &claims;
-    let files = [whole(first), whole(second), whole(third), whole(second)];
-    let run = run_all(alloc, &files)?;
+/// The replies to the first claim, the other one, the new version, and the other one again.
+fn expect_four(run: &MemoryRun) -> Result<(), Fail> {
+    expect_all_acknowledged(run, 4)?;
     let history = [
         (1, accepted(1, 1)),
         (2, Reply::Conflict { work: 1 }),
@@ -157,38 +176,73 @@ fn a_claim_and_its_new_version(rt: HostRuntime) -> Result<(), Fail> {
         (4, accepted(1, 1)),
     ];
     expect_history(&run.book, &history)?;
-    same("entries", &run.book.len(), &4)?;
     expect_claim(&run.book, 2)
 }
 
-/// Works six files on one work, the fifth without an ISWC, the last with this one, which gets this reply.
-fn run_six(alloc: Global, last: &str, reply: Reply, written: &[u8]) -> Result<(), Fail> {
-    let half = ["05000", "05000"];
-    let claims = claims_to_one_work(alloc)?;
+#[test]
+fn a_claim_and_its_new_version(rt: HostRuntime) -> Result<(), Fail> {
+    let claims = claims_to_one_work(rt.alloc())?;
     let [first, second, third] = &claims;
-    let fifth = one_work(alloc, SENDER, "REV", "W1", "", half)?;
-    let sixth = one_work(alloc, SENDER, "REV", "W1", last, half)?;
+    let files = [whole(first), whole(second), whole(third), whole(second)];
+    let run = run_all(rt.alloc(), &files)?;
+    expect_four(&run)
+}
+
+/// Two more versions of the first submitter's claim, without an ISWC and with this one.
+fn versions_of_the_claim(alloc: Global, last: &str) -> Result<[Vec<u8>; 2], Fail> {
+    let half = ["05000", "05000"];
+    Ok([
+        one_work(alloc, SENDER, "REV", "W1", "", half)?,
+        one_work(alloc, SENDER, "REV", "W1", last, half)?,
+    ])
+}
+
+/// Works six files on one work: the three claims, the second of them again, and these two versions.
+fn run_six<'a>(
+    alloc: Global,
+    claims: &'a [Vec<u8>; 3],
+    versions: &'a [Vec<u8>; 2],
+) -> Result<MemoryRun<'a>, Fail> {
+    let [first, second, third] = claims;
+    let [fifth, sixth] = versions;
     let files = [
         whole(first),
         whole(second),
         whole(third),
         whole(second),
-        whole(&fifth),
-        whole(&sixth),
+        whole(fifth),
+        whole(sixth),
     ];
-    let run = run_all(alloc, &files)?;
+    run_all(alloc, &files)
+}
+
+/// The replies to the six, the last of which is this one.
+fn expect_six_replies(book: &Book, last: Reply) -> Result<(), Fail> {
     let history = [
         (1, accepted(1, 1)),
         (2, Reply::Conflict { work: 1 }),
         (3, accepted(1, 2)),
         (4, accepted(1, 1)),
         (5, accepted(1, 3)),
-        (6, reply),
+        (6, last),
     ];
-    expect_history(&run.book, &history)?;
+    expect_history(book, &history)
+}
+
+fn expect_six(run: &MemoryRun, last: Reply, written: &[u8]) -> Result<(), Fail> {
+    expect_all_acknowledged(run, 6)?;
+    expect_six_replies(&run.book, last)?;
     let job = run.jobs.last().ok_or("a job")?;
     same_bytes("the last acknowledgement", job.writer.bytes(), written)?;
     expect_claim(&run.book, 3)
+}
+
+/// The last of six files has this ISWC: the reply to it, and its acknowledgement.
+fn expect_last(alloc: Global, iswc: &str, reply: Reply, written: &[u8]) -> Result<(), Fail> {
+    let claims = claims_to_one_work(alloc)?;
+    let versions = versions_of_the_claim(alloc, iswc)?;
+    let run = run_six(alloc, &claims, &versions)?;
+    expect_six(&run, reply, written)
 }
 
 #[test]
@@ -197,7 +251,7 @@ fn a_new_version_with_another_iswc(rt: HostRuntime) -> Result<(), Fail> {
     let answers = [decision(0, "REV", "W1", "00000001", "CO", &[])];
     let written = acknowledgement(alloc, &answers)?;
     let reply = Reply::Conflict { work: 1 };
-    run_six(alloc, "T0000000010", reply, &written)
+    expect_last(alloc, "T0000000010", reply, &written)
 }
 
 #[test]
@@ -206,5 +260,5 @@ fn a_new_version_with_a_wrong_iswc(rt: HostRuntime) -> Result<(), Fail> {
     let faults: &[Told] = &[(0, "REV", 4, "ISWC IS NOT VALID")];
     let answers = [decision(0, "REV", "W1", "", "RJ", faults)];
     let written = acknowledgement(alloc, &answers)?;
-    run_six(alloc, "T0000000019", Reply::Rejected, &written)
+    expect_last(alloc, "T0000000019", Reply::Rejected, &written)
 }

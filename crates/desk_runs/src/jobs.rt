@@ -6,9 +6,16 @@ use cwr_desk::{Job, Run};
 use std::alloc::Global;
 use std::test::Fail;
 
-/// The bytes of a file, the read at which its reader fails, if one does, and how many bytes its writer takes before it
-/// fails.
-pub type Input<'a> = (&'a [u8], Option<u64>, usize);
+/// A file to be worked.
+#[derive(Clone, Copy)]
+pub struct Input<'a> {
+    /// Its bytes.
+    pub bytes: &'a [u8],
+    /// The read at which its reader fails, from 1 on, if one does.
+    pub fail: Option<u64>,
+    /// How many bytes its writer takes before it fails.
+    pub room: usize,
+}
 
 /// What a run over files in memory leaves.
 pub type MemoryRun<'a> = Run<Feed<'a>, Room>;
@@ -17,17 +24,35 @@ type MemoryJob<'a> = Job<Feed<'a>, Room>;
 
 /// A file whose reader does not fail, with room for its acknowledgement.
 pub fn whole(bytes: &[u8]) -> Input<'_> {
-    (bytes, None, 1000)
+    with_room(bytes, 1000)
+}
+
+/// A file whose reader does not fail, with room for so many bytes of its acknowledgement.
+pub fn with_room(bytes: &[u8], room: usize) -> Input<'_> {
+    Input {
+        bytes,
+        fail: None,
+        room,
+    }
+}
+
+/// A file whose reader fails at its first read, with room for an acknowledgement.
+pub fn unread(bytes: &[u8]) -> Input<'_> {
+    Input {
+        bytes,
+        fail: Some(1),
+        room: 1000,
+    }
 }
 
 /// A job for a file.
 fn job<'a>(alloc: Global, input: Input<'a>) -> Result<MemoryJob<'a>, Fail>
     ensures { IfOk result (λ j. (j.reader.has_failed ≡ false) × (j.writer.has_failed ≡ false)) }
 {
-    let (bytes, fail, size) = input;
+    let Input { bytes, fail, room } = input;
     Ok(Job {
         reader: Feed::new(bytes, 4096, fail),
-        writer: Room::new(alloc, size, true)?,
+        writer: Room::new(alloc, room, true)?,
     })
 }
 

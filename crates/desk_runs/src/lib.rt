@@ -6,5 +6,5 @@ mod jobs;
 mod runs;
 
 pub use ends::{ACKED, accepted, expect_ends, expect_history, expect_run, expect_written};
-pub use jobs::{Input, MemoryRun, whole};
+pub use jobs::{Input, MemoryRun, unread, whole, with_room};
 pub use runs::{run_at_desk, run_in_turn};
