@@ -8,8 +8,8 @@ ghost use Rattle.cwr_acknowledgement.specs.Acknowledgement.{FitsItem, FitsFault,
 use cwr_field::{cut, date, put_text, time};
 use cwr_file::{AckItem, Fault, Faults, Header, Lines, Memory, Stamp, Status, WorkKind, ack_file};
 use cwr_record::{read_header, read_message};
+use cwr_sheets::{same, same_bytes, same_lists};
 use std::alloc::Global;
-use std::process::Abort;
 use std::test::Fail;
 
 /// Both first lines, which the stamp alone determines.
@@ -110,44 +110,35 @@ fn rejected(title: &[u8], number: &[u8], faults: Vec<Fault>) -> AckItem
     }
 }
 
-/// The acknowledgement of these items, which must be these texts.
-fn expect_text(
-    rt: &impl Abort,
-    alloc: Global,
-    items: &[AckItem],
-    wanted: &[&str],
-) -> Result<Vec<u8>, Fail>
+/// The acknowledgement of these items, which must be these texts, all room for it asked for at once.
+fn expect_text(alloc: Global, items: &[AckItem], wanted: &[&str]) -> Result<(), Fail>
     requires few { length items.now + told_count items.now ≤ 99999995 }
     requires fit { AllByRecursion FitsItem items.now }
 {
     let text = ack_file(alloc, &stamp()?, &header(alloc)?, items)?;
-    assert_eq!(rt; text.as_slice(), spelled(alloc, wanted)?.as_slice());
-    Ok(text)
+    same_bytes("an acknowledgement", &text, &spelled(alloc, wanted)?)?;
+    same("its room", &text.capacity(), &text.len())
 }
+
+/// The acknowledgement of one work that is registered.
+const REGISTERED: [&str; 5] = [
+    START,
+    ONE,
+    "00000000NWRSONG ONE~52~W1~18~00000001~12~20240601AS\r\n",
+    "GRT000010000000100000003~13~\r\n",
+    "TRL000010000000100000005\r\n",
+];
 
 #[test]
 fn acknowledges_one_work(rt: HostRuntime) -> Result<(), Fail> {
+    same("its length", &spelled(rt.alloc(), &REGISTERED)?.len(), &425)?;
     let items = [item(rt.alloc(), 0, WorkKind::Nwr, Status::Accepted)];
-    let text = expect_text(
-        &rt,
-        rt.alloc(),
-        &items,
-        &[
-            START,
-            ONE,
-            "00000000NWRSONG ONE~52~W1~18~00000001~12~20240601AS\r\n",
-            "GRT000010000000100000003~13~\r\n",
-            "TRL000010000000100000005\r\n",
-        ],
-    )?;
-    assert_eq!(rt; text.len(), 425);
-    Ok(())
+    expect_text(rt.alloc(), &items, &REGISTERED)
 }
 
 #[test]
 fn acknowledges_no_work(rt: HostRuntime) -> Result<(), Fail> {
     expect_text(
-        &rt,
         rt.alloc(),
         &[],
         &[
@@ -155,8 +146,7 @@ fn acknowledges_no_work(rt: HostRuntime) -> Result<(), Fail> {
             "GRT000010000000000000002~13~\r\n",
             "TRL000010000000000000004\r\n",
         ],
-    )?;
-    Ok(())
+    )
 }
 
 #[test]
@@ -166,7 +156,6 @@ fn acknowledges_a_work_twice(rt: HostRuntime) -> Result<(), Fail> {
         item(rt.alloc(), 1, WorkKind::Nwr, Status::Duplicate),
     ];
     expect_text(
-        &rt,
         rt.alloc(),
         &items,
         &[
@@ -178,17 +167,15 @@ fn acknowledges_a_work_twice(rt: HostRuntime) -> Result<(), Fail> {
             "GRT000010000000200000004~13~\r\n",
             "TRL000010000000200000006\r\n",
         ],
-    )?;
-    Ok(())
+    )
 }
 
 #[test]
 fn acknowledges_a_conflict(rt: HostRuntime) -> Result<(), Fail> {
-    let revised = item(rt.alloc(), 0, WorkKind::Rev, Status::Conflict);
+    let items = [item(rt.alloc(), 0, WorkKind::Rev, Status::Conflict)];
     expect_text(
-        &rt,
         rt.alloc(),
-        &[revised],
+        &items,
         &[
             START,
             ONE,
@@ -196,8 +183,7 @@ fn acknowledges_a_conflict(rt: HostRuntime) -> Result<(), Fail> {
             "GRT000010000000100000003~13~\r\n",
             "TRL000010000000100000005\r\n",
         ],
-    )?;
-    Ok(())
+    )
 }
 
 /// A header alone: no title, no number, no writer.
@@ -208,11 +194,10 @@ fn tells_three_faults(rt: HostRuntime) -> Result<(), Fail> {
         fault(0, 3, *b"NWR"),
         fault(0, 10, *b"NWR"),
     ];
-    let blank = rejected(b"", b"", faults.to_vec(rt.alloc())?);
-    let text = expect_text(
-        &rt,
+    let items = [rejected(b"", b"", faults.to_vec(rt.alloc())?)];
+    expect_text(
         rt.alloc(),
-        &[blank],
+        &items,
         &[
             START,
             ONE,
@@ -223,20 +208,17 @@ fn tells_three_faults(rt: HostRuntime) -> Result<(), Fail> {
             "GRT000010000000100000006~13~\r\n",
             "TRL000010000000100000008\r\n",
         ],
-    )?;
-    assert_eq!(rt; text.capacity(), text.len(), "reserved once");
-    Ok(())
+    )
 }
 
 /// The writer's record, with a share of 10001.
 #[test]
 fn tells_a_share(rt: HostRuntime) -> Result<(), Fail> {
     let faults = [fault(1, 6, *b"SWR")];
-    let shared = rejected(b"SONG ONE", b"W1", faults.to_vec(rt.alloc())?);
+    let items = [rejected(b"SONG ONE", b"W1", faults.to_vec(rt.alloc())?)];
     expect_text(
-        &rt,
         rt.alloc(),
-        &[shared],
+        &items,
         &[
             START,
             ONE,
@@ -245,8 +227,7 @@ fn tells_a_share(rt: HostRuntime) -> Result<(), Fail> {
             "GRT000010000000100000004~13~\r\n",
             "TRL000010000000100000006\r\n",
         ],
-    )?;
-    Ok(())
+    )
 }
 
 /// An item in conflict, which has faults all the same.
@@ -267,44 +248,74 @@ fn in_conflict(faults: Vec<Fault>) -> AckItem
 }
 
 /// The acknowledgement of an item tells these faults, and no others.
-fn expect_told(rt: &impl Abort, alloc: Global, item: AckItem, wanted: &[Fault]) -> Result<(), Fail>
+fn expect_told(alloc: Global, item: AckItem, wanted: &[Fault]) -> Result<(), Fail>
     requires few { length (told_faults item) ≤ 15 }
     requires fit { FitsItem item }
 {
-    let text = ack_file(alloc, &stamp()?, &header(alloc)?, &[item])?;
-    expect_messages(rt, &text, wanted)
+    let items = [item];
+    let text = ack_file(alloc, &stamp()?, &header(alloc)?, &items)?;
+    expect_messages(&text, wanted)
+}
+
+/// A message tells this fault.
+fn expect_message(line: &[u8], fault: &Fault) -> Result<(), Fail> {
+    let message = read_message(line)?;
+    same("a sequence", &message.original_record, &fault.sequence)?;
+    same(
+        "a number",
+        &message.validation_number,
+        &(fault.number as u16),
+    )?;
+    same("a type", &message.record_type, &fault.rtype)
 }
 
 /// The messages of an acknowledgement tell these faults, and no others.
-fn expect_messages(rt: &impl Abort, text: &[u8], wanted: &[Fault]) -> Result<(), Fail> {
+fn expect_messages(text: &[u8], wanted: &[Fault]) -> Result<(), Fail> {
     let mut told: usize = 0;
     for line in Lines::of(text) {
-        if !line.starts_with(b"MSG") {
-            continue;
+        if line.starts_with(b"MSG") {
+            expect_message(line, wanted.get(told).ok_or("one fault too many")?)?;
+            told = told.saturating_add(1);
         }
-        let message = read_message(line)?;
-        let fault = wanted.get(told).ok_or("one fault too many")?;
-        assert_eq!(rt;
-            (message.original_record, message.validation_number),
-            (fault.sequence, fault.number as u16)
-        );
-        assert_eq!(rt; message.record_type, fault.rtype);
-        told = told.saturating_add(1);
     }
-    assert_eq!(rt; told, wanted.len());
-    Ok(())
+    same("messages", &told, &wanted.len())
 }
 
-/// Faults go into an item and come out again as they were, and only a rejected item tells them.
+const TWO_FAULTS: [Fault; 2] = [
+    Fault {
+        sequence: 1,
+        number: 1,
+        rtype: *b"SWT",
+    },
+    Fault {
+        sequence: 1,
+        number: 6,
+        rtype: *b"SWR",
+    },
+];
+
+/// Faults go into an item and come out again as they were.
 #[test]
 fn keeps_faults(rt: HostRuntime) -> Result<(), Fail> {
-    let faults = [fault(1, 1, *b"SWT"), fault(1, 6, *b"SWR")];
-    let kept = rejected(b"SONG ONE", b"W1", faults.to_vec(rt.alloc())?);
-    assert_eq!(rt; kept.faults.as_slice(), faults.as_slice());
-    expect_told(&rt, rt.alloc(), kept, &faults)?;
-    let conflict = in_conflict(faults.to_vec(rt.alloc())?);
-    expect_told(&rt, rt.alloc(), conflict, &[])?;
-    let taken = Faults::new(faults.to_vec(rt.alloc())?).into_vec();
-    assert_eq!(rt; taken.as_slice(), faults.as_slice());
-    Ok(())
+    let faults = Faults::new(TWO_FAULTS.to_vec(rt.alloc())?);
+    same_lists("faults", faults.as_slice(), &TWO_FAULTS)?;
+    same_lists("faults", &faults.into_vec(), &TWO_FAULTS)
+}
+
+/// A rejected item tells them.
+#[test]
+fn tells_the_faults_of_a_rejected_item(rt: HostRuntime) -> Result<(), Fail> {
+    let faults = TWO_FAULTS.to_vec(rt.alloc())?;
+    expect_told(
+        rt.alloc(),
+        rejected(b"SONG ONE", b"W1", faults),
+        &TWO_FAULTS,
+    )
+}
+
+/// No other item does.
+#[test]
+fn tells_no_faults_of_a_conflict(rt: HostRuntime) -> Result<(), Fail> {
+    let faults = TWO_FAULTS.to_vec(rt.alloc())?;
+    expect_told(rt.alloc(), in_conflict(faults), &[])
 }

@@ -1,10 +1,10 @@
 //! Bytes in and out, each cut and each failure, and the lines of small texts.
 
 use cwr_file::{Failed, Feed, Lines, Memory, Room, Sink, Source, Through, WriteStopped, write_out};
+use cwr_sheets::{same, same_bytes, same_lists, same_text};
 use std::alloc::Global;
-use std::io;
-use std::process::Abort;
 use std::test::Fail;
+use std::{io, str};
 
 /// What a source gives in rooms of four bytes, up to its end or its failure, and the number of reads that answered.
 fn drained<R: Source>(alloc: Global, source: &mut R) -> Result<(Vec<u8>, u64), Fail> {
@@ -34,7 +34,6 @@ fn long_text() -> [u8; 150] {
 
 /// What the feed gives up to its end or its failure, in so many reads that answer, and whether it has failed then.
 fn expect_drained(
-    rt: &impl Abort,
     alloc: Global,
     feed: &mut Feed,
     bytes: &[u8],
@@ -42,82 +41,93 @@ fn expect_drained(
     failed: bool,
 ) -> Result<(), Fail> {
     let (given, answered) = drained(alloc, feed)?;
-    assert_eq!(rt; given.as_slice(), bytes);
-    assert_eq!(rt; (answered, feed.failed()), (reads, failed));
-    Ok(())
+    same_bytes("what was read", &given, bytes)?;
+    same("reads", &(answered, feed.failed()), &(reads, failed))
 }
+
+const TEXT: &[u8] = b"HDRPB 1234";
 
 #[test]
 fn feeds_in_pieces(rt: HostRuntime) -> Result<(), Fail> {
-    let text = b"HDRPB 1234".as_slice();
-    for (piece, reads) in [(1, 11), (3, 5), (4, 4), (100, 4)] {
-        let mut feed = Feed::new(text, piece, None);
-        expect_drained(&rt, rt.alloc(), &mut feed, text, reads, false)?;
-    }
-    expect_drained(&rt, rt.alloc(), &mut Feed::new(b"", 1, None), b"", 1, false)
+    let alloc = rt.alloc();
+    expect_drained(alloc, &mut Feed::new(TEXT, 1, None), TEXT, 11, false)?;
+    expect_drained(alloc, &mut Feed::new(TEXT, 3, None), TEXT, 5, false)?;
+    expect_drained(alloc, &mut Feed::new(TEXT, 4, None), TEXT, 4, false)?;
+    expect_drained(alloc, &mut Feed::new(TEXT, 100, None), TEXT, 4, false)?;
+    expect_drained(alloc, &mut Feed::new(b"", 1, None), b"", 1, false)
 }
 
 #[test]
 fn feeds_up_to_the_read_that_fails(rt: HostRuntime) -> Result<(), Fail> {
-    let text = b"HDRPB 1234".as_slice();
     for before in 0..=10 {
-        let front = text.get(..before).ok_or("a front")?;
+        let front = TEXT.get(..before).ok_or("a front")?;
         let reads = before as u64;
-        let mut feed = Feed::new(text, 1, Some(reads + 1));
-        expect_drained(&rt, rt.alloc(), &mut feed, front, reads, true)?;
-    }
-    // Its twelfth read is never made, and there is no read 0.
-    for fail in [12, 0] {
-        let mut feed = Feed::new(text, 1, Some(fail));
-        expect_drained(&rt, rt.alloc(), &mut feed, text, 11, false)?;
+        let mut feed = Feed::new(TEXT, 1, Some(reads + 1));
+        expect_drained(rt.alloc(), &mut feed, front, reads, true)?;
     }
     Ok(())
 }
 
-/// What a read answered, and that the room has the first two bytes.
-fn expect_two(
-    rt: &impl Abort,
-    answer: Result<usize, Failed>,
-    wanted: Result<usize, Failed>,
-    room: &[u8],
-) {
-    assert_eq!(rt; answer, wanted);
-    assert_eq!(rt; room, b"HD??".as_slice());
+/// Its twelfth read is never made, and there is no read 0.
+#[test]
+fn feeds_past_a_read_that_is_not_made(rt: HostRuntime) -> Result<(), Fail> {
+    let alloc = rt.alloc();
+    expect_drained(alloc, &mut Feed::new(TEXT, 1, Some(12)), TEXT, 11, false)?;
+    expect_drained(alloc, &mut Feed::new(TEXT, 1, Some(0)), TEXT, 11, false)
 }
 
 #[test]
-fn a_failed_read_moves_nothing(rt: HostRuntime) {
+fn a_failed_read_moves_nothing() -> Result<(), Fail> {
     let mut room = *b"????";
     let mut feed = Feed::new(b"HDR", 2, Some(2));
-    let answer = feed.read_some(&mut room);
-    expect_two(&rt, answer, Ok(2), &room);
-    assert!(rt; !feed.failed());
-    let answer = feed.read_some(&mut room);
-    expect_two(&rt, answer, Err(Failed), &room);
-    assert!(rt; feed.failed());
+    same("a read", &feed.read_some(&mut room), &Ok(2))?;
+    same("the room", &room, b"HD??")?;
+    same("it has failed", &feed.failed(), &false)?;
+    same("the next read", &feed.read_some(&mut room), &Err(Failed))?;
+    same("the room after it", &room, b"HD??")?;
+    same("it has failed then", &feed.failed(), &true)
+}
 
+#[test]
+fn reads_into_no_room() -> Result<(), Fail> {
+    let mut room = *b"????";
     let mut feed = Feed::new(b"HDR", 2, None);
-    assert_eq!(rt; feed.read_some(&mut []), Ok(0));
-    assert_eq!(rt; feed.read_some(&mut room), Ok(2));
+    same("no room", &feed.read_some(&mut []), &Ok(0))?;
+    same("room", &feed.read_some(&mut room), &Ok(2))
+}
+
+/// A room of this size takes a text so far, and has failed then.
+fn expect_stopped(alloc: Global, size: usize, fails: bool) -> Result<(), Fail> {
+    let text = long_text();
+    let mut room = Room::new(alloc, size, fails)?;
+    let result = write_out(&mut room, &text);
+    let stopped = WriteStopped { sent: size as u64 };
+    same("a write", &result, &Err(stopped))?;
+    same_bytes(
+        "what was written",
+        room.bytes(),
+        text.get(..size).ok_or("a front")?,
+    )?;
+    same("it has failed", &room.failed(), &true)
+}
+
+/// A room of this size takes all of a text.
+fn expect_written(alloc: Global, size: usize, fails: bool) -> Result<(), Fail> {
+    let text = long_text();
+    let mut room = Room::new(alloc, size, fails)?;
+    same("a write", &write_out(&mut room, &text), &Ok(()))?;
+    same_bytes("what was written", room.bytes(), &text)?;
+    same("it has failed", &room.failed(), &false)
 }
 
 #[test]
 fn writes_up_to_the_room(rt: HostRuntime) -> Result<(), Fail> {
-    let text = long_text();
     for fails in [true, false] {
-        for (size, sent) in [(0, 0), (1, 1), (100, 100), (149, 149)] {
-            let mut room = Room::new(rt.alloc(), size, fails)?;
-            let result = write_out(&mut room, &text);
-            assert_eq!(rt; result, Err(WriteStopped { sent }), "room for {size}");
-            assert_eq!(rt;
-                (Some(room.bytes()), room.failed()),
-                (text.get(..size), true)
-            );
+        for size in [0, 1, 100, 149] {
+            expect_stopped(rt.alloc(), size, fails)?;
         }
         for size in [150, 151] {
-            let mut room = Room::new(rt.alloc(), size, fails)?;
-            assert_eq!(rt; write_out(&mut room, &text), Ok(()));
-            assert_eq!(rt; (room.bytes(), room.failed()), (text.as_slice(), false));
+            expect_written(rt.alloc(), size, fails)?;
         }
     }
     Ok(())
@@ -131,29 +141,32 @@ fn writes_one_text_after_another(rt: HostRuntime) -> Result<(), Fail> {
     write_out(&mut room, b"GRH")?;
     // No bytes go into a full room too.
     write_out(&mut room, b"")?;
-    assert_eq!(rt; room.bytes(), b"HDRGRH".as_slice());
-    assert_eq!(rt; write_out(&mut room, b"NWR"), Err(WriteStopped { sent: 0 }));
-    assert_eq!(rt; room.bytes(), b"HDRGRH".as_slice());
-    Ok(())
+    same_bytes("what was written", room.bytes(), b"HDRGRH")?;
+    let result = write_out(&mut room, b"NWR");
+    same("a write", &result, &Err(WriteStopped { sent: 0 }))?;
+    same_bytes("what is there then", room.bytes(), b"HDRGRH")
+}
+
+/// A room of two bytes, which are in it, answers one byte more so, and has failed then.
+fn expect_full(alloc: Global, fails: bool, wanted: Result<usize, Failed>) -> Result<(), Fail> {
+    let mut room = Room::new(alloc, 2, fails)?;
+    same("a write", &room.write_some(b"HDR"), &Ok(2))?;
+    same("it has failed", &room.failed(), &false)?;
+    same("the next write", &room.write_some(b"R"), &wanted)?;
+    same("it has failed then", &room.failed(), &true)?;
+    same_bytes("what was written", room.bytes(), b"HD")
 }
 
 #[test]
 fn a_full_room_fails_or_takes_nothing(rt: HostRuntime) -> Result<(), Fail> {
-    for (fails, wanted) in [(true, Err(Failed)), (false, Ok(0))] {
-        let mut room = Room::new(rt.alloc(), 2, fails)?;
-        assert_eq!(rt; room.write_some(b"HDR"), Ok(2));
-        assert!(rt; !room.failed());
-        assert_eq!(rt; room.write_some(b"R"), wanted);
-        assert!(rt; room.failed());
-        assert_eq!(rt; room.bytes(), b"HD".as_slice());
-    }
-    Ok(())
+    expect_full(rt.alloc(), true, Err(Failed))?;
+    expect_full(rt.alloc(), false, Ok(0))
 }
 
 #[test]
-fn memory_is_refused_as_memory(rt: HostRuntime) {
+fn memory_is_refused_as_memory(rt: HostRuntime) -> Result<(), Fail> {
     let refused = Room::new(rt.alloc(), usize::MAX, true).map(|room| room.failed());
-    assert_eq!(rt; refused, Err(Memory));
+    same("a room", &refused, &Err(Memory))
 }
 
 /// A reader and a writer of std that gives an error each time.
@@ -178,18 +191,19 @@ impl io::Write for Broken {
 
 #[test]
 fn reads_through_a_reader(rt: HostRuntime) -> Result<(), Fail> {
-    let text = b"HDRPB 1234".as_slice();
-    let mut source = Through::new(text);
+    let mut source = Through::new(TEXT);
     let (bytes, answered) = drained(rt.alloc(), &mut source)?;
-    assert_eq!(rt; bytes.as_slice(), text);
-    assert_eq!(rt; answered, 4);
-    assert!(rt; source.into_inner().is_empty());
+    same_bytes("what was read", &bytes, TEXT)?;
+    same("reads", &answered, &4)?;
+    same_bytes("what is left", source.into_inner(), b"")
+}
 
+#[test]
+fn fails_through_a_reader() -> Result<(), Fail> {
     let mut source = Through::new(Broken);
     let mut room = *b"????";
-    assert_eq!(rt; source.read_some(&mut room), Err(Failed));
-    assert!(rt; Source::failed(&source));
-    Ok(())
+    same("a read", &source.read_some(&mut room), &Err(Failed))?;
+    same("it has failed", &Source::failed(&source), &true)
 }
 
 #[test]
@@ -197,61 +211,66 @@ fn writes_through_a_writer(rt: HostRuntime) -> Result<(), Fail> {
     let text = long_text();
     let mut sink = Through::new(Vec::new(rt.alloc()));
     let result = write_out(&mut sink, &text);
-    assert_eq!(rt; (result, sink.failed()), (Ok(()), false));
-    assert_eq!(rt; sink.into_inner().as_slice(), text.as_slice());
+    same("a write", &(result, sink.failed()), &(Ok(()), false))?;
+    same_bytes("what was written", &sink.into_inner(), &text)
+}
 
-    // A slice takes no byte past its end, and that is a failure.
+/// A slice takes no byte past its end, and that is a failure.
+#[test]
+fn fails_through_a_full_writer() -> Result<(), Fail> {
     let mut first = [b'?'; 100];
     let mut sink = Through::new(first.as_mut_slice());
-    let result = write_out(&mut sink, &text);
-    assert_eq!(rt;
-        (result, sink.failed()),
-        (Err(WriteStopped { sent: 100 }), true)
-    );
+    let result = write_out(&mut sink, &long_text());
+    let stopped = Err(WriteStopped { sent: 100 });
+    same("a write", &(result, sink.failed()), &(stopped, true))
+}
 
+#[test]
+fn fails_through_a_broken_writer() -> Result<(), Fail> {
     let mut sink = Through::new(Broken);
-    let result = write_out(&mut sink, &text);
-    assert_eq!(rt;
-        (result, Sink::failed(&sink)),
-        (Err(WriteStopped { sent: 0 }), true)
-    );
-    Ok(())
+    let result = write_out(&mut sink, &long_text());
+    let stopped = Err(WriteStopped { sent: 0 });
+    same("a write", &(result, Sink::failed(&sink)), &(stopped, true))
+}
+
+/// A text has these lines.
+fn expect_lines(alloc: Global, text: &str, wanted: &[&str]) -> Result<(), Fail> {
+    let mut lines = Vec::new(alloc);
+    for line in Lines::of(text.as_bytes()) {
+        lines.push(str::from_utf8(line).ok().ok_or("no text")?)?;
+    }
+    same_lists(text, &lines, wanted)
 }
 
 #[test]
 fn cuts_lines(rt: HostRuntime) -> Result<(), Fail> {
-    for (text, wanted) in [
-        ("", [].as_slice()),
-        ("a", ["a"].as_slice()),
-        ("a\n", ["a"].as_slice()),
-        ("a\r\nb", ["a", "b"].as_slice()),
-        ("\r\n", [""].as_slice()),
-        ("\n\n", ["", ""].as_slice()),
-        ("a\r", ["a\r"].as_slice()),
-        ("\r", ["\r"].as_slice()),
-        ("\r\r\n", ["\r"].as_slice()),
-        ("a\rb\n\r", ["a\rb", "\r"].as_slice()),
-        ("HDR\r\nGRH\nTRL\r\n", ["HDR", "GRH", "TRL"].as_slice()),
-    ] {
-        let mut lines = Vec::new(rt.alloc());
-        for line in Lines::of(text.as_bytes()) {
-            lines.push(line)?;
-        }
-        assert_eq!(rt; lines.len(), wanted.len(), "{text:?}");
-        for (line, wanted) in lines.iter().zip(wanted) {
-            assert_eq!(rt; *line, wanted.as_bytes(), "{text:?}");
-        }
-    }
-    Ok(())
+    let alloc = rt.alloc();
+    expect_lines(alloc, "", &[])?;
+    expect_lines(alloc, "a", &["a"])?;
+    expect_lines(alloc, "a\n", &["a"])?;
+    expect_lines(alloc, "a\r\nb", &["a", "b"])?;
+    expect_lines(alloc, "\r\n", &[""])?;
+    expect_lines(alloc, "\n\n", &["", ""])?;
+    expect_lines(alloc, "HDR\r\nGRH\nTRL\r\n", &["HDR", "GRH", "TRL"])
+}
+
+/// CR is a byte like others where no LF follows it.
+#[test]
+fn cuts_no_lines_at_cr(rt: HostRuntime) -> Result<(), Fail> {
+    let alloc = rt.alloc();
+    expect_lines(alloc, "a\r", &["a\r"])?;
+    expect_lines(alloc, "\r", &["\r"])?;
+    expect_lines(alloc, "\r\r\n", &["\r"])?;
+    expect_lines(alloc, "a\rb\n\r", &["a\rb", "\r"])
 }
 
 #[test]
-fn lines_end_for_good(rt: HostRuntime) {
+fn lines_end_for_good() -> Result<(), Fail> {
     let mut lines = Lines::of(b"a\nb");
-    assert!(rt; lines.next() == Some(b"a".as_slice()));
-    assert_eq!(rt; lines.by_ref().count(), 1);
-    assert!(rt; lines.next().is_none());
-    assert!(rt; lines.next().is_none());
+    same_bytes("the first", lines.next().ok_or("a line")?, b"a")?;
+    same("the rest", &lines.by_ref().count(), &1)?;
+    same("a third", &lines.next().is_some(), &false)?;
+    same("a fourth", &lines.next().is_some(), &false)
 }
 
 /// Takes only what may go to another thread, as a job's reader and writer do.
@@ -261,20 +280,18 @@ fn sent<T: Send + Drop>(value: T) -> T {
 
 #[test]
 fn sources_and_sinks_are_send(rt: HostRuntime) -> Result<(), Fail> {
-    let feed = sent(Feed::new(b"HDR", 1, None));
     let room = sent(Room::new(rt.alloc(), 1, true)?);
-    assert!(rt; !feed.failed() && !room.failed());
-    assert_eq!(rt; sent(Through::new(7)).into_inner(), 7);
-    Ok(())
+    same("a room has failed", &room.failed(), &false)?;
+    let feed = sent(Feed::new(b"HDR", 1, None));
+    same("a feed has failed", &feed.failed(), &false)?;
+    same("what it reads", &sent(Through::new(7)).into_inner(), &7)
 }
 
 #[test]
 fn failures_have_texts(rt: HostRuntime) -> Result<(), Fail> {
+    let told = format!(in rt.alloc(); "{Failed}")?;
+    same_text("a failure", &told, "failed")?;
     let stopped = WriteStopped { sent: 424 };
-    assert_eq!(rt; format!(in rt.alloc(); "{Failed}")?.as_str(), "failed");
-    assert_eq!(rt;
-        format!(in rt.alloc(); "{stopped}")?.as_str(),
-        "write after 424 bytes"
-    );
-    Ok(())
+    let told = format!(in rt.alloc(); "{stopped}")?;
+    same_text("a stopped write", &told, "write after 424 bytes")
 }
