@@ -1,0 +1,3 @@
+mod Within
+mod Counting
+mod Ending
