@@ -1,0 +1,101 @@
+//! An acknowledgement file.
+ghost use Rattle.std.specs.Prelude.{◌≡◌, ◌∷◌, []};
+ghost use Rattle.cwr_acknowledgement.specs.AckItem.{told_faults};
+ghost use Rattle.cwr_acknowledgement.specs.Acknowledgement.{FitsItem};
+
+use crate::control_records::text;
+use cwr_acknowledgement::{AckItem, ack_file};
+use cwr_call::{Fault, Faults};
+use cwr_record::{Header, Stamp, Status, WorkKind, read_header};
+use cwr_sheets::{SENDER, acknowledgement, decision, header, same_bytes, stamp};
+use refusing::{Ended, Refusing, Sweep, answered, refuse_each};
+use std::test::Fail;
+
+/// The share that is told.
+const SHARE: Fault = Fault {
+    sequence: 1,
+    number: 6,
+    rtype: *b"SWR",
+};
+
+/// The first transaction, a work that was accepted.
+fn accepted<'m>(memory: &'m Refusing) -> AckItem<&'m Refusing>
+    ensures fits { FitsItem result }
+    ensures told { told_faults result ≡ [] }
+{
+    AckItem {
+        group: 1,
+        sequence: 0,
+        kind: WorkKind::Nwr,
+        title: text(b"SONG ONE"),
+        number: text(b"W1"),
+        status: Status::Accepted,
+        work: Some(1),
+        faults: Faults::new(Vec::new(memory)),
+    }
+}
+
+/// The second one, which was rejected for a share.
+fn rejected<'m>(faults: Vec<Fault, &'m Refusing>) -> AckItem<&'m Refusing>
+    requires { faults.items ≡ SHARE ∷ [] }
+    ensures fits { FitsItem result }
+    ensures told { told_faults result ≡ SHARE ∷ [] }
+{
+    AckItem {
+        group: 1,
+        sequence: 1,
+        kind: WorkKind::Nwr,
+        title: text(b"SONG ONE"),
+        number: text(b"W2"),
+        status: Status::Rejected,
+        work: None,
+        faults: Faults::new(faults),
+    }
+}
+
+#[derive(Drop)]
+struct AckFile<'a> {
+    stamp: Stamp,
+    header: Header,
+    wanted: &'a [u8],
+}
+
+impl Sweep for AckFile<'_> {
+    fn ends(&self, memory: &Refusing) -> Ended {
+        let mut faults = Vec::new(memory);
+        if faults.push(SHARE).is_err() {
+            return Ok(true);
+        }
+        let items = [accepted(memory), rejected(faults)];
+        match ack_file(memory, &self.stamp, &self.header, &items) {
+            Ok(answer) => answered(same_bytes("the acknowledgement", &answer, self.wanted)),
+            Err(_) => Ok(true),
+        }
+    }
+}
+
+#[test]
+fn acknowledgements(rt: HostRuntime) -> Result<(), Fail> {
+    let alloc = rt.alloc();
+    let head = header(alloc, SENDER, "20240501")?;
+    let wanted = acknowledgement(
+        alloc,
+        &[
+            decision(0, "NWR", "W1", "00000001", "AS", &[]),
+            decision(
+                1,
+                "NWR",
+                "W2",
+                "",
+                "RJ",
+                &[(1, "SWR", 6, "SHARE IS NOT VALID")],
+            ),
+        ],
+    )?;
+    let sweep = AckFile {
+        stamp: stamp()?,
+        header: read_header(head.as_bytes())?,
+        wanted: &wanted,
+    };
+    refuse_each(alloc, &sweep)
+}

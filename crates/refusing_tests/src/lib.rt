@@ -1,0 +1,17 @@
+//! Tests with `refusing` of the crates that keep no works: each request for memory of each of their calls is refused in turn.
+#![tactic(auto)]
+
+#[cfg(test)]
+mod allocators;
+#[cfg(test)]
+mod answers;
+#[cfg(test)]
+mod control_records;
+#[cfg(test)]
+mod files;
+#[cfg(test)]
+mod locks;
+#[cfg(test)]
+mod texts;
+#[cfg(test)]
+mod work_records;
