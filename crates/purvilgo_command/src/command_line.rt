@@ -1,6 +1,6 @@
 //! The command lines that the program takes.
 
-use crate::run_command::run_command;
+use crate::run_command::{run_command, verbose_flag};
 use clap::{Arg, Command};
 use std::alloc::{AllocError, Global};
 
@@ -13,7 +13,7 @@ pub(crate) fn command_line<'a>(alloc: Global) -> Result<Command<'a>, AllocError>
         .subcommand(audit_command(alloc)?)
 }
 
-/// `check FILE`.
+/// `check [--verbose] FILE`. Its list of options leaves `--verbose` out, and stays as it was.
 fn check_command<'a>(alloc: Global) -> Result<Command<'a>, AllocError> {
     Command::new(alloc, "check")
         .about("Tells which rules a CWR 2.2 file breaks")
@@ -21,10 +21,11 @@ fn check_command<'a>(alloc: Global) -> Result<Command<'a>, AllocError> {
             Arg::new(alloc, "FILE")
                 .required(true)
                 .help("a CWR 2.2 file"),
-        )
+        )?
+        .arg(verbose_flag(alloc).hide(true))
 }
 
-/// `audit REGISTER`.
+/// `audit [--verbose] REGISTER`.
 fn audit_command<'a>(alloc: Global) -> Result<Command<'a>, AllocError> {
     Command::new(alloc, "audit")
         .about("Checks every decision of a register")
@@ -32,5 +33,6 @@ fn audit_command<'a>(alloc: Global) -> Result<Command<'a>, AllocError> {
             Arg::new(alloc, "REGISTER")
                 .required(true)
                 .help("a register"),
-        )
+        )?
+        .arg(verbose_flag(alloc))
 }

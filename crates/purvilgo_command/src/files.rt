@@ -2,25 +2,52 @@
 
 ghost use Rattle.std.specs.Prelude.{◌≡◌, ◌≤◌, false, None, length, IfOk};
 
+use crate::telling::tell_reason;
 use byte_streams::{Failed, ReadCount, ReadRefused, Sink, Source, Through, read_file};
-use std::fs;
 use std::fs::File;
 use std::io::{Read, Write};
 use std::rt::Files;
+use std::{fs, io};
 
 /// The name of standard input.
 const STANDARD_INPUT: &str = "-";
 
 /// The bytes of a file, or of standard input where the name is `-`: at most `limit`.
-pub(crate) fn bytes_of<R: AllocGlobal + Input + Files>(
+pub(crate) fn bytes_of<R: AllocGlobal + Input + Eprint + Files>(
     rt: &R,
     name: &str,
     limit: usize,
+    verbose: bool,
 ) -> Result<Vec<u8>, ReadRefused> {
     if name == STANDARD_INPUT {
-        read_file(rt.alloc(), &mut Through::new(rt.reader()), limit)
+        let reader = StandardInput {
+            rt,
+            reader: rt.reader(),
+            verbose,
+        };
+        read_file(rt.alloc(), &mut Through::new(reader), limit)
     } else {
-        read_file(rt.alloc(), &mut InputFile::new(rt, name), limit)
+        read_file(rt.alloc(), &mut InputFile::new(rt, name, verbose), limit)
+    }
+}
+
+/// Standard input. Why it cannot be read is told on standard error, where that is asked for.
+#[derive(Drop)]
+struct StandardInput<'a, R: Input> {
+    rt: &'a R,
+    reader: R::Reader,
+    verbose: bool,
+}
+
+impl<R: AllocGlobal + Input + Eprint> Read for StandardInput<'_, R> {
+    fn read(&mut self, room: &mut [u8]) -> io::Result<usize> {
+        let read = self.reader.read(room);
+        if let Err(error) = &read {
+            if self.verbose {
+                tell_reason(self.rt, STANDARD_INPUT, error);
+            }
+        }
+        read
     }
 }
 
@@ -31,19 +58,25 @@ pub(crate) fn bytes_of<R: AllocGlobal + Input + Files>(
 pub(crate) struct InputFile<'a, R: Files> {
     rt: &'a R,
     path: &'a str,
+    /// Whether its end, or why it failed, is told on standard error.
+    verbose: bool,
+    /// How many bytes were read.
+    bytes: usize,
     file: Option<R::File>,
     failed: bool,
     reads: ReadCount,
 }
 
-impl<'a, R: Files> InputFile<'a, R> {
+impl<'a, R: AllocGlobal + Eprint + Files> InputFile<'a, R> {
     /// The file of this name, which is not opened yet.
-    pub(crate) fn new(rt: &'a R, path: &'a str) -> InputFile<'a, R>
+    pub(crate) fn new(rt: &'a R, path: &'a str, verbose: bool) -> InputFile<'a, R>
         ensures { result.failed ≡ false }
     {
         InputFile {
             rt,
             path,
+            verbose,
+            bytes: 0,
             file: None,
             failed: false,
             reads: ReadCount::zero(),
@@ -58,7 +91,7 @@ impl<'a, R: Files> InputFile<'a, R> {
         if self.file.is_none() {
             match fs::open(self.rt, self.path) {
                 Ok(file) => self.file = Some(file),
-                Err(_) => return Err(Failed),
+                Err(error) => return Err(self.fail(&error)),
             }
         }
         Ok(())
@@ -71,14 +104,40 @@ impl<'a, R: Files> InputFile<'a, R> {
         ensures failed { self.new.failed ≡ self.old.failed }
     {
         self.open()?;
-        match &mut self.file {
-            Some(file) => file.read(room).map_err(|_| Failed),
-            None => Err(Failed),
+        let read = match &mut self.file {
+            Some(file) => file.read(room),
+            None => return Err(Failed),
+        };
+        match read {
+            Ok(n) => {
+                self.count(n);
+                Ok(n)
+            }
+            Err(error) => Err(self.fail(&error)),
         }
+    }
+
+    /// Counts the bytes that were read, and tells the end, which is where there are none.
+    fn count(&mut self, n: usize)
+        ensures reads { self.new.reads ≡ self.old.reads }
+        ensures failed { self.new.failed ≡ self.old.failed }
+    {
+        self.bytes = self.bytes.saturating_add(n);
+        if n == 0 && self.verbose {
+            let _ = eprintln!(self.rt; "{}: read, {} bytes", self.path, self.bytes);
+        }
+    }
+
+    /// Tells why it failed.
+    fn fail(&self, error: &io::Error) -> Failed {
+        if self.verbose {
+            tell_reason(self.rt, self.path, error);
+        }
+        Failed
     }
 }
 
-impl<R: Files> Source for InputFile<'_, R> {
+impl<R: AllocGlobal + Eprint + Files> Source for InputFile<'_, R> {
     ghost left = { λ _. None };
 
     ghost reads = { λ s. s.reads };
@@ -106,19 +165,22 @@ pub(crate) struct OutputFile<'a, R: Files> {
     path: &'a str,
     /// Whether a file that is there already may be opened.
     replaces: bool,
+    /// Whether each write, or why it failed, is told on standard error.
+    verbose: bool,
     file: Option<R::File>,
     failed: bool,
 }
 
-impl<'a, R: Files> OutputFile<'a, R> {
+impl<'a, R: AllocGlobal + Eprint + Files> OutputFile<'a, R> {
     /// The file of this name, which is not opened yet. Where it `replaces` none, it cannot be opened if it is there then.
-    pub(crate) fn new(rt: &'a R, path: &'a str, replaces: bool) -> OutputFile<'a, R>
+    pub(crate) fn new(rt: &'a R, path: &'a str, replaces: bool, verbose: bool) -> OutputFile<'a, R>
         ensures { result.failed ≡ false }
     {
         OutputFile {
             rt,
             path,
             replaces,
+            verbose,
             file: None,
             failed: false,
         }
@@ -136,7 +198,7 @@ impl<'a, R: Files> OutputFile<'a, R> {
             };
             match opened {
                 Ok(file) => self.file = Some(file),
-                Err(_) => return Err(Failed),
+                Err(error) => return Err(self.fail(&error)),
             }
         }
         Ok(())
@@ -148,14 +210,31 @@ impl<'a, R: Files> OutputFile<'a, R> {
         ensures failed { self.new.failed ≡ self.old.failed }
     {
         self.open()?;
-        match &mut self.file {
-            Some(file) => file.write(bytes).map_err(|_| Failed),
-            None => Err(Failed),
+        let written = match &mut self.file {
+            Some(file) => file.write(bytes),
+            None => return Err(Failed),
+        };
+        match written {
+            Ok(n) => {
+                if self.verbose {
+                    let _ = eprintln!(self.rt; "{}: written, {n} bytes", self.path);
+                }
+                Ok(n)
+            }
+            Err(error) => Err(self.fail(&error)),
         }
+    }
+
+    /// Tells why it failed.
+    fn fail(&self, error: &io::Error) -> Failed {
+        if self.verbose {
+            tell_reason(self.rt, self.path, error);
+        }
+        Failed
     }
 }
 
-impl<R: Files> Sink for OutputFile<'_, R> {
+impl<R: AllocGlobal + Eprint + Files> Sink for OutputFile<'_, R> {
     ghost taken = { λ _. None };
 
     ghost has_failed = { λ s. s.failed };

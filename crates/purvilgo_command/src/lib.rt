@@ -4,12 +4,14 @@
 
 mod command_line;
 mod files;
+mod help;
 mod program;
 mod registers;
 mod run_command;
 mod running;
 mod same_files;
 mod status;
+mod telling;
 mod version;
 
 pub use program::run_program;

@@ -1,5 +1,6 @@
 use crate::command_line::command_line;
 use crate::files::bytes_of;
+use crate::help::page_asked_for;
 use crate::registers::audit_file;
 use crate::running::run_files;
 use crate::status::{BAD_WORDS, bad_words, no_memory};
@@ -27,7 +28,7 @@ use std::{env, io, str};
 /// The status is 0 without words where the input is acknowledged; of `run` where all files are, each outcome is told,
 /// and the register that is asked for is kept; of `check` and `audit` where there is no fault, and that is told; of
 /// `--version` where it is told. It is 2 where the words are not taken: one of them is not text, `clap` answers with a
-/// text of its own (so also where help is asked for), or those of `run` have a [`RunFault`](run_words::RunFault) or name
+/// text of its own, help is asked for, or those of `run` have a [`RunFault`](run_words::RunFault) or name
 /// one file of the system twice. Else it is 1, also where memory is refused for the words.
 pub fn run_program<R: Env + AllocGlobal + Input + Print + Eprint + Files + Threads + Wait + Sync>(
     rt: &R,
@@ -47,6 +48,10 @@ where
     };
     if asks_for_version(&words) {
         return tell_version(rt);
+    }
+    if let Some(page) = page_asked_for(&words) {
+        let _ = eprint!(rt; "{page}");
+        return ExitCode::from(BAD_WORDS);
     }
     let Ok(command) = command_line(rt.alloc()) else {
         return no_memory(rt);
@@ -104,16 +109,21 @@ fn run_on_file<R: AllocGlobal + Input + Print + Eprint + Files>(
     name: &str,
     given: &ArgMatches,
 ) -> ExitCode {
+    let verbose = given.get_flag("verbose");
     match (name, given.get_str("FILE"), given.get_str("REGISTER")) {
-        ("check", Some(path), _) => check_file(rt, path),
-        ("audit", _, Some(path)) => audit_file(rt, path),
+        ("check", Some(path), _) => check_file(rt, path, verbose),
+        ("audit", _, Some(path)) => audit_file(rt, path, verbose),
         _ => bad_words(rt, "the command line is not taken"),
     }
 }
 
 /// Checks a file, or standard input for `-`, and tells on standard output what was found.
-fn check_file<R: AllocGlobal + Input + Print + Eprint + Files>(rt: &R, path: &str) -> ExitCode {
-    let text = match bytes_of(rt, path, MOST_BYTES) {
+fn check_file<R: AllocGlobal + Input + Print + Eprint + Files>(
+    rt: &R,
+    path: &str,
+    verbose: bool,
+) -> ExitCode {
+    let text = match bytes_of(rt, path, MOST_BYTES, verbose) {
         Ok(text) => text,
         Err(unread) => {
             let _ = eprintln!(rt; "stopped: {unread}");

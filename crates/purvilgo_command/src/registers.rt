@@ -15,10 +15,14 @@ use work_registry::{Book, RegisterRefusal, audit, read_register};
 const MOST_REGISTER_BYTES: usize = 68_719_476_736;
 
 /// The bytes of a file that a register is to lie in.
-fn register_bytes<R: AllocGlobal + Files>(rt: &R, path: &str) -> Result<Vec<u8>, ReadRefused> {
+fn register_bytes<R: AllocGlobal + Eprint + Files>(
+    rt: &R,
+    path: &str,
+    verbose: bool,
+) -> Result<Vec<u8>, ReadRefused> {
     read_file(
         rt.alloc(),
-        &mut InputFile::new(rt, path),
+        &mut InputFile::new(rt, path, verbose),
         MOST_REGISTER_BYTES,
     )
 }
@@ -27,20 +31,21 @@ fn register_bytes<R: AllocGlobal + Files>(rt: &R, path: &str) -> Result<Vec<u8>,
 pub(crate) fn opening_book<R: AllocGlobal + Eprint + Files>(
     rt: &R,
     from: Option<&str>,
+    verbose: bool,
 ) -> Option<Book>
     ensures { IfSome result (λ book. is_opening book.history ≡ true) }
 {
     match from {
         None => Some(Book::new(rt.alloc(), MOST_ENTRIES)),
-        Some(path) => book_in(rt, path),
+        Some(path) => book_in(rt, path, verbose),
     }
 }
 
 /// The book of a register. One that is refused is told on standard error.
-fn book_in<R: AllocGlobal + Eprint + Files>(rt: &R, path: &str) -> Option<Book>
+fn book_in<R: AllocGlobal + Eprint + Files>(rt: &R, path: &str, verbose: bool) -> Option<Book>
     ensures { IfSome result (λ book. is_opening book.history ≡ true) }
 {
-    let bytes = match register_bytes(rt, path) {
+    let bytes = match register_bytes(rt, path, verbose) {
         Ok(bytes) => bytes,
         Err(unread) => {
             let _ = eprintln!(rt; "register: stopped: {unread}");
@@ -48,7 +53,12 @@ fn book_in<R: AllocGlobal + Eprint + Files>(rt: &R, path: &str) -> Option<Book>
         }
     };
     match read_register(rt.alloc(), &bytes, MOST_ENTRIES) {
-        Ok(book) => Some(book),
+        Ok(book) => {
+            if verbose {
+                let _ = eprintln!(rt; "{path}: register read, {} entries", book.len());
+            }
+            Some(book)
+        }
         Err(RegisterRefusal::Memory) => {
             let _ = eprintln!(rt; "register: stopped: memory");
             None
@@ -62,13 +72,23 @@ fn book_in<R: AllocGlobal + Eprint + Files>(rt: &R, path: &str) -> Option<Book>
 
 /// Writes the register of a book into a file, in place of what the file held, and answers whether all of it is there.
 /// What stopped it is told on standard error.
-pub(crate) fn keep_book<R: AllocGlobal + Eprint + Files>(rt: &R, book: &Book, path: &str) -> bool {
+pub(crate) fn keep_book<R: AllocGlobal + Eprint + Files>(
+    rt: &R,
+    book: &Book,
+    path: &str,
+    verbose: bool,
+) -> bool {
     let Ok(text) = book.write_register(rt.alloc()) else {
         let _ = eprintln!(rt; "register: stopped: memory");
         return false;
     };
-    match write_out(&mut OutputFile::new(rt, path, true), &text) {
-        Ok(()) => true,
+    match write_out(&mut OutputFile::new(rt, path, true, verbose), &text) {
+        Ok(()) => {
+            if verbose {
+                let _ = eprintln!(rt; "{path}: register kept, {} entries", book.len());
+            }
+            true
+        }
         Err(cut) => {
             let _ = eprintln!(rt; "register: stopped: {cut}");
             false
@@ -80,8 +100,9 @@ pub(crate) fn keep_book<R: AllocGlobal + Eprint + Files>(rt: &R, book: &Book, pa
 pub(crate) fn audit_file<R: AllocGlobal + Input + Print + Eprint + Files>(
     rt: &R,
     path: &str,
+    verbose: bool,
 ) -> ExitCode {
-    let bytes = match bytes_of(rt, path, MOST_REGISTER_BYTES) {
+    let bytes = match bytes_of(rt, path, MOST_REGISTER_BYTES, verbose) {
         Ok(bytes) => bytes,
         Err(unread) => {
             let _ = eprintln!(rt; "stopped: {unread}");

@@ -12,7 +12,7 @@ use std::alloc::{AllocError, Global};
 use std::process::ExitCode;
 
 /// `run --society NNN --name TEXT --date YYYYMMDD --time HHMMSS [--from REGISTER] [--to REGISTER] [--in-turn]
-/// [--no-clobber] FILE..`
+/// [--no-clobber] [--verbose] FILE..`
 pub(crate) fn run_command<'a>(alloc: Global) -> Result<Command<'a>, AllocError> {
     let files = Arg::new(alloc, "FILE")
         .action(ArgAction::Append)
@@ -29,6 +29,7 @@ pub(crate) fn run_command<'a>(alloc: Global) -> Result<Command<'a>, AllocError> 
         .arg(option(alloc, "to", "REGISTER", "the register to write"))?
         .arg(flag(alloc, "in-turn", "one file after another, in their order"))?
         .arg(flag(alloc, "no-clobber", "write over no acknowledgement"))?
+        .arg(verbose_flag(alloc))?
         .arg(files)
 }
 
@@ -46,6 +47,11 @@ fn flag<'a>(alloc: Global, name: &'a str, help: &'a str) -> Arg<'a> {
         .long(name)
         .action(ArgAction::SetTrue)
         .help(help)
+}
+
+/// `--verbose`, as each command takes it.
+pub(crate) fn verbose_flag<'a>(alloc: Global) -> Arg<'a> {
+    flag(alloc, "verbose", "tell steps and reasons on standard error").short('v')
 }
 
 /// The words of a run, as they were given.
@@ -67,6 +73,8 @@ pub(crate) struct RunWords<'m, 'a> {
     pub(crate) in_turn: bool,
     /// Whether acknowledgements that are there stay.
     pub(crate) no_clobber: bool,
+    /// Whether steps, and the system's reasons, are told.
+    pub(crate) verbose: bool,
     /// The files to acknowledge.
     pub(crate) files: &'m [&'a str],
 }
@@ -83,6 +91,7 @@ impl<'m, 'a> RunWords<'m, 'a> {
             to: matches.get_str("to"),
             in_turn: matches.get_flag("in-turn"),
             no_clobber: matches.get_flag("no-clobber"),
+            verbose: matches.get_flag("verbose"),
             files: matches.get_strs("FILE")?,
         })
     }

@@ -52,10 +52,10 @@ where
     if words.no_clobber && tell_taken(rt, &answers) {
         return ExitCode::FAILURE;
     }
-    let Some(book) = opening_book(rt, words.from) else {
+    let Some(book) = opening_book(rt, words.from, words.verbose) else {
         return ExitCode::FAILURE;
     };
-    let Ok(jobs) = jobs_of(rt, words.files, &answers, !words.no_clobber) else {
+    let Ok(jobs) = jobs_of(rt, words.files, &answers, !words.no_clobber, words.verbose) else {
         return no_memory(rt);
     };
     let served = if words.in_turn {
@@ -68,7 +68,7 @@ where
     };
     let told = tell_outcomes(rt, words.files, &run.outcomes);
     let kept = match words.to {
-        Some(path) => keep_book(rt, &run.book, path),
+        Some(path) => keep_book(rt, &run.book, path, words.verbose),
         None => true,
     };
     if told && kept {
@@ -100,19 +100,20 @@ fn tell_taken<R: Eprint + Files>(rt: &R, answers: &[String]) -> bool {
 }
 
 /// A job for each file, and for its acknowledgement, which may replace one that is there or not. Nothing is opened yet.
-fn jobs_of<'a, R: AllocGlobal + Files>(
+fn jobs_of<'a, R: AllocGlobal + Eprint + Files>(
     rt: &'a R,
     files: &'a [&'a str],
     answers: &'a [String],
     replaces: bool,
+    verbose: bool,
 ) -> Result<Vec<Job<InputFile<'a, R>, OutputFile<'a, R>>>, Memory>
     ensures few { IfOk result (λ jobs. vec_len jobs ≤ length files.now) }
     ensures works { IfOk result (λ jobs. All (λ j. (j.reader.failed ≡ false) × (j.writer.failed ≡ false)) jobs.items) }
 {
     let mut jobs = Vec::with_capacity(rt.alloc(), files.len())?;
     for (file, answer) in files.iter().zip(answers) {
-        let reader = InputFile::new(rt, file);
-        let writer = OutputFile::new(rt, answer.as_str(), replaces);
+        let reader = InputFile::new(rt, file, verbose);
+        let writer = OutputFile::new(rt, answer.as_str(), replaces, verbose);
         jobs.push(Job { reader, writer })?;
     }
     Ok(jobs)

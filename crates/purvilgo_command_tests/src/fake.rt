@@ -14,6 +14,9 @@ use std::sync::{Mutex, Wait};
 use std::test::Fail;
 use std::thread::Threads;
 
+/// The number by which the system tells that there is no such file.
+const NO_SUCH_FILE: i32 = 2;
+
 pub(crate) struct Fake<'a, T> {
     /// The runtime that starts threads and waits.
     pub(crate) rt: &'a T,
@@ -260,7 +263,7 @@ impl<'a, T> Files for Fake<'a, T> {
                 return file.opened(how);
             }
         }
-        Err(io::Error::from(ErrorKind::NotFound))
+        Err(io::Error::from_raw_os_error(NO_SUCH_FILE))
     }
 
     fn open_dir(&self, _path: &str) -> io::Result<FakeFile<'a>> {

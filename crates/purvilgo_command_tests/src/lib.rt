@@ -10,6 +10,8 @@ mod fake_files;
 #[cfg(test)]
 mod given_words;
 #[cfg(test)]
+mod help_pages;
+#[cfg(test)]
 mod kept_registers;
 #[cfg(test)]
 mod other_words;
@@ -19,5 +21,7 @@ mod run_options;
 mod runs;
 #[cfg(test)]
 mod same_files;
+#[cfg(test)]
+mod steps;
 #[cfg(test)]
 mod words;

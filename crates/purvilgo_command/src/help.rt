@@ -1,0 +1,113 @@
+//! The pages of `purvilgo help`: what a command does, reads and writes, its options and statuses, and an example.
+
+/// The page of help that the words ask for behind the program's name: `help`, or `help` and a command.
+///
+/// The manual page `docs/purvilgo.1` has the same words.
+pub(crate) fn page_asked_for(words: &[String]) -> Option<&'static str> {
+    match words {
+        [_, help] if help.as_str() == "help" => Some(PROGRAM),
+        [_, help, command] if help.as_str() == "help" => page_of(command.as_str()),
+        _ => None,
+    }
+}
+
+/// The page of a command.
+fn page_of(command: &str) -> Option<&'static str> {
+    match command {
+        "run" => Some(RUN),
+        "check" => Some(CHECK),
+        "audit" => Some(AUDIT),
+        _ => None,
+    }
+}
+
+const PROGRAM: &str = "\
+Keeps a copyright society's registry of musical works.
+
+Usage: purvilgo [COMMAND]
+
+Without a command it acknowledges a CWR 2.2 file from standard input to standard
+output, with a fixed stamp and into an empty history.
+
+Commands:
+  run    acknowledges CWR 2.2 files into one history
+  check  tells which rules a CWR 2.2 file breaks
+  audit  checks every decision of a register
+  help   prints this page, or the page of a command
+
+Options:
+  -h, --help     the words in short
+  -V, --version  the version, on standard output
+
+Reads: standard input.
+Writes: the acknowledgement on standard output; on standard error why there is none.
+Status: 0 acknowledged; 1 refused or stopped; 2 the words are not taken, or help.
+
+Example:
+  purvilgo < in/a.v22 > in/a.v22.ack
+";
+
+const RUN: &str = "\
+Acknowledges CWR 2.2 files into one history, each to FILE.ack.
+
+Usage: purvilgo run [OPTIONS] --society NNN --name TEXT --date YYYYMMDD --time HHMMSS FILE..
+
+Options:
+  --society NNN    number of the society that acknowledges, three digits
+  --name TEXT      its name, 1 to 45 bytes
+  --date YYYYMMDD  date of the run
+  --time HHMMSS    time of the run
+  --from REGISTER  the register to go on from; else the history begins empty
+  --to REGISTER    the register to write, in place of a file that is there
+  --in-turn        one file after another, in the order of the words, so that the
+                   same files give the same bytes each time; else all at once
+  --no-clobber     write over no acknowledgement: where one is there already,
+                   nothing is read or written
+  -v, --verbose    tell steps and the system's reasons on standard error
+  -h, --help       the words in short
+
+Reads: 1 to 63 files, and the register of --from.
+Writes: FILE.ack of each file that is acknowledged, the register of --to, and on standard
+output a line for each file. Nothing that is read is written over: where two of FILE,
+FILE.ack and --to are one file, or --from and FILE.ack, the run is refused.
+Status: 0 all files acknowledged, and the register kept; 2 the words are not taken, or
+help; 1 else.
+
+Example:
+  purvilgo run --society 007 --name 'MY SOCIETY' --date 20240601 --time 090000 \\
+    --from 0041.register --to 0042.register --in-turn --no-clobber in/a.v22 in/b.v22
+";
+
+const CHECK: &str = "\
+Tells which rules a CWR 2.2 file breaks, before it is sent. Nothing is registered.
+
+Usage: purvilgo check [OPTIONS] FILE
+
+Options:
+  -v, --verbose  tell steps and the system's reasons on standard error
+  -h, --help     the words in short
+
+Reads: FILE, or standard input where FILE is -.
+Writes: on standard output a line for each transaction, or the file's first fault.
+Status: 0 no fault; 2 the words are not taken, or help; 1 else.
+
+Example:
+  purvilgo check in/a.v22
+";
+
+const AUDIT: &str = "\
+Decides on every entry of a register anew, and compares.
+
+Usage: purvilgo audit [OPTIONS] REGISTER
+
+Options:
+  -v, --verbose  tell steps and the system's reasons on standard error
+  -h, --help     the words in short
+
+Reads: REGISTER, or standard input where REGISTER is -.
+Writes: on standard output the number of entries, or the first fault.
+Status: 0 no fault; 2 the words are not taken, or help; 1 else.
+
+Example:
+  purvilgo audit 0042.register
+";
