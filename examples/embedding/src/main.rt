@@ -1,17 +1,21 @@
 //! The registry inside a program: two submissions in memory become acknowledgements and a register.
 #![tactic(auto)]
 
-ghost use Rattle.std.specs.Prelude.{◌≡◌, false, IfOk};
+ghost use Rattle.std.specs.Prelude.{◌≡◌, ◌<◌, All, false, IfOk, vec_len};
 
 use cwr_desk::{
-    Book, Feed, Job, Memory, OpenGate, Room, Stamp, outcome_line, read_register, serve,
+    Book, Feed, FileOutcome, Job, Memory, OpenGate, Room, Run, Stamp, outcome_line, read_register,
+    serve,
 };
 use cwr_field::{cut, date, time};
 use std::alloc::Global;
 use std::process::ExitCode;
-use std::str;
 use std::sync::Wait;
 use std::thread::Threads;
+
+type MemoryJob = Job<Feed<'static>, Room>;
+
+type MemoryRun = Run<Feed<'static>, Room>;
 
 const GOOD: &[u8] = b"\
 HDRPB000000123PUBLISHER A                                  01.102024050112000020240501\n\
@@ -28,13 +32,23 @@ HDRPB000000456PUBLISHER B                                  01.102024050112000020
 TRL000000000000000000003\n";
 
 /// A job over bytes in memory, with room for an acknowledgement of so many bytes.
-fn job(alloc: Global, bytes: &[u8], size: usize) -> Result<Job<Feed<'_>, Room>, Memory>
+fn job(alloc: Global, bytes: &'static [u8], size: usize) -> Result<MemoryJob, Memory>
     ensures { IfOk result (λ j. (j.reader.has_failed ≡ false) × (j.writer.has_failed ≡ false)) }
 {
     Ok(Job {
         reader: Feed::new(bytes, 4096, None),
         writer: Room::new(alloc, size, true)?,
     })
+}
+
+/// Both jobs, the good one first.
+fn both_jobs(alloc: Global) -> Result<Vec<MemoryJob>, Memory>
+    ensures few { IfOk result (λ jobs. vec_len jobs < 64) }
+    ensures works { IfOk result (λ jobs. All (λ j. (j.reader.has_failed ≡ false) × (j.writer.has_failed ≡ false)) jobs.items) }
+{
+    let good = job(alloc, GOOD, 1000)?;
+    let bad = job(alloc, BAD, 1000)?;
+    Ok(vec![in alloc; good, bad]?)
 }
 
 /// Society 7, on 1 June 2024 at nine.
@@ -44,29 +58,45 @@ fn stamp() -> Option<Stamp> {
     Stamp::new(7, b"MY SOCIETY", day, clock)
 }
 
-/// Works both submissions at once, and tells what became of them. `None` where memory was refused.
-fn work_both<R: Print + Threads + Wait + Sync>(rt: &R, alloc: Global) -> Option<()> {
-    let jobs = vec![in alloc; job(alloc, GOOD, 1000).ok()?, job(alloc, BAD, 1000).ok()?].ok()?;
+/// Works both jobs at once, each on a thread of its own. `None` where memory was refused.
+fn work_both<R: Threads + Wait + Sync>(rt: &R, alloc: Global) -> Option<MemoryRun> {
+    let jobs = both_jobs(alloc).ok()?;
     let book = Book::new(alloc, 1000);
-    let run = serve(rt, alloc, jobs, book, &stamp()?, &OpenGate).ok()?;
-    for (name, outcome) in ["good", "bad"].iter().zip(&run.outcomes) {
-        let line = outcome_line(alloc, name.as_bytes(), outcome).ok()?;
-        let _ = print!(rt; "{}", str::from_utf8(&line).ok()?);
+    serve(rt, alloc, jobs, book, &stamp()?, &OpenGate).ok()
+}
+
+/// Tells what became of a job.
+fn tell<R: Print>(rt: &R, alloc: Global, name: &str, outcome: &FileOutcome, job: &MemoryJob) {
+    if let Ok(line) = outcome_line(alloc, name.as_bytes(), outcome) {
+        let _ = rt.write_all(&line);
     }
-    for (name, job) in ["good", "bad"].iter().zip(&run.jobs) {
-        let _ = println!(rt; "{name}: {} bytes of acknowledgement", job.writer.bytes().len());
+    let _ = println!(rt; "{} bytes of acknowledgement", job.writer.bytes().len());
+}
+
+/// Tells what the book has under the number of the first work.
+fn tell_claim<R: Print>(rt: &R, book: &Book) {
+    if let Some(claim) = book.claim(b"PB000000123", b"W1            ") {
+        let _ = println!(rt; "work {}, version {}", claim.work, claim.version);
     }
-    let claim = run.book.claim(b"PB000000123", b"W1            ")?;
-    let _ = println!(rt; "work {}, version {}", claim.work, claim.version);
-    let register = run.book.write_register(alloc).ok()?;
-    let again = read_register(alloc, &register, 1000).ok()?;
-    let _ = println!(rt; "a register of {} bytes and {} entries", register.len(), again.len());
-    Some(())
+}
+
+/// Writes the register of the book and reads it again, as the next run would.
+fn read_again(alloc: Global, book: &Book) -> Option<Book> {
+    let register = book.write_register(alloc).ok()?;
+    read_register(alloc, &register, 1000).ok()
 }
 
 fn main(rt: HostRuntime) -> ExitCode {
-    match work_both(&rt, rt.alloc()) {
-        Some(()) => ExitCode::SUCCESS,
-        None => ExitCode::FAILURE,
+    let Some(run) = work_both(&rt, rt.alloc()) else {
+        return ExitCode::FAILURE;
+    };
+    for (outcome, job) in run.outcomes.iter().zip(&run.jobs) {
+        tell(&rt, rt.alloc(), "job", outcome, job);
     }
+    tell_claim(&rt, &run.book);
+    let Some(book) = read_again(rt.alloc(), &run.book) else {
+        return ExitCode::FAILURE;
+    };
+    let _ = println!(rt; "{} entries in the register", book.len());
+    ExitCode::SUCCESS
 }
