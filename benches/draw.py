@@ -1,7 +1,7 @@
 #!/usr/bin/env python3
-"""Draws times.svg from the table of runs and audits in README.md: draw.py [--check]
+"""Draws times.svg from the tables of README.md, of runs and audits and of plain scans: draw.py [--check]
 
-With --check it draws nothing, and the status is 1 where the picture is not that of the table."""
+With --check it draws nothing, and the status is 1 where the picture is not that of the tables."""
 import math
 import os
 import re
@@ -9,6 +9,7 @@ import sys
 
 HERE = os.path.dirname(os.path.abspath(__file__))
 ROW = re.compile(r"^\| (run|audit)[^|]*\| ([\d,]+) \| ([\d.]+) \| [\d.]+ \| ([\d.]+) \|")
+SCANS = re.compile(r"^\| `works` \| [\d,]+ \| ([\d,]+) \| ([\d,]+) \| ([\d,]+) \|$")
 WIDTH, HEIGHT, LEFT, TOP, GAP = 300, 220, 60, 40, 90
 COLOURS = {"run": "#1f5fa8", "audit": "#b8501c"}
 
@@ -21,6 +22,26 @@ def figures():
         if row:
             rows.append((row[1], int(row[2].replace(",", "")), float(row[3]), float(row[4])))
     return rows
+
+
+def scans():
+    """The microseconds of the row of ordinary files: a loop over the bytes, memchr, parse_file."""
+    for line in open(os.path.join(HERE, "README.md"), encoding="utf-8"):
+        row = SCANS.match(line)
+        if row:
+            return [int(number.replace(",", "")) for number in row.groups()]
+    sys.exit("README.md has no table of plain scans")
+
+
+def bars(left, title, values):
+    """One picture: a bar for each value, with its number."""
+    lines = [f'<text x="{left}" y="{TOP - 14}" font-weight="bold">{title}</text>']
+    for place, (name, colour, value) in enumerate(values):
+        top = TOP + HEIGHT * (1 - value / max(value for _, _, value in values) * 0.9)
+        lines.append(f'<rect x="{left + 80 * place}" y="{top:.1f}" width="50" height="{TOP + HEIGHT - top:.1f}" fill="{colour}"/>')
+        lines.append(f'<text x="{left + 80 * place + 25}" y="{top - 6:.1f}" text-anchor="middle">{value / 1000:.1f}</text>')
+        lines.append(f'<text x="{left + 80 * place + 25}" y="{TOP + HEIGHT + 18}" text-anchor="middle">{name}</text>')
+    return lines
 
 
 def decades(values):
@@ -59,11 +80,13 @@ def panel(left, title, rows, column):
     return lines
 
 
-def picture(rows):
-    width, height = LEFT + WIDTH + GAP + WIDTH + 30, TOP + HEIGHT + 50
+def picture(rows, plain):
+    width, height = LEFT + 2 * (WIDTH + GAP) + 230, TOP + HEIGHT + 50
     lines = [f'<svg xmlns="http://www.w3.org/2000/svg" width="{width}" height="{height}" viewBox="0 0 {width} {height}" font-family="sans-serif" font-size="12">',
              f'<rect width="{width}" height="{height}" fill="white"/>']
     lines += panel(LEFT, "Seconds", rows, 2) + panel(LEFT + WIDTH + GAP, "MB", rows, 3)
+    colours = ("#999", "#999", "#1f5fa8")
+    lines += bars(LEFT + 2 * (WIDTH + GAP) - 20, "Milliseconds for 16 MiB", list(zip(("byte loop", "memchr", "parse_file"), colours, plain)))
     return "\n".join([*lines, "</svg>", ""])
 
 
@@ -71,12 +94,13 @@ def main(words):
     rows = figures()
     if not {"run", "audit"} <= {row[0] for row in rows}:
         sys.exit("README.md has no table of runs and audits")
+    drawing = picture(rows, scans())
     file = os.path.join(HERE, "times.svg")
     if words == ["--check"]:
         drawn = open(file, encoding="utf-8").read() if os.path.exists(file) else ""
-        sys.exit(0 if drawn == picture(rows) else "times.svg is not drawn from the table of README.md: benches/draw.py")
+        sys.exit(0 if drawn == drawing else "times.svg is not drawn from the tables of README.md: benches/draw.py")
     with open(file, "w", encoding="utf-8") as out:
-        out.write(picture(rows))
+        out.write(drawing)
 
 
 main(sys.argv[1:])
