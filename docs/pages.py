@@ -1,10 +1,9 @@
 #!/usr/bin/env python3
-"""Tries what the pages show: docs/pages.py [--program FILE] [--build] [--lines] [PAGE..]
+"""Tries what the pages show: docs/pages.py [--program FILE] [--lines] [PAGE..]
 
     --program FILE   the built program; else crates/purvilgo/out/purvilgo
     --lines          first writes the line numbers of definitions anew, in links and in what docs/reading.py prints, for
                      files that have moved them
-    --build          also proves, builds and runs the program of examples/embedding, which takes minutes
     PAGE..           these pages alone; else README.md and each page of docs, docs/guide, examples and benches
 
 What is tried of a page:
@@ -212,21 +211,9 @@ def mend_lines(page):
         out.write(text)
 
 
-def build_embedding():
-    """Proves, builds and runs the program of examples/embedding, and compares what it prints."""
-    ran = subprocess.run([os.path.join(TOP, "examples/embedding/build")], stdout=subprocess.PIPE)
-    wanted = open(os.path.join(TOP, "examples/embedding/stdout"), "rb").read()
-    if ran.returncode != 0:
-        return [f"examples/embedding: status {ran.returncode}"]
-    if ran.stdout != wanted:
-        return [difference("examples/embedding", "stdout", wanted.decode(), ran.stdout.decode("utf-8", "backslashreplace"))]
-    return []
-
-
 def main():
     parser = argparse.ArgumentParser(description=__doc__, formatter_class=argparse.RawDescriptionHelpFormatter)
     parser.add_argument("--program", default=os.path.join(TOP, "crates/purvilgo/out/purvilgo"))
-    parser.add_argument("--build", action="store_true")
     parser.add_argument("--lines", action="store_true")
     parser.add_argument("pages", nargs="*", metavar="PAGE")
     words = parser.parse_args()
@@ -249,8 +236,6 @@ def main():
         all_commands += commands
         every_fault += faults
         print(f"{page}: {commands} commands, {files} files, {links} links" + "".join(f"; not run: {why}" for why in untried))
-    if words.build:
-        every_fault += build_embedding()
     for fault in every_fault:
         print(fault)
     if not words.pages and not all_commands:
