@@ -174,7 +174,8 @@ impl<A: Allocator + Copy + Drop> Book<A> {
 
     /// What is registered under a submitter's number of a work; `None` where no call under it was accepted.
     ///
-    /// The submitter is sender type and sender id, bytes 4 to 14 of HDR, and the number bytes 82 to 95 of NWR or REV.
+    /// The submitter is sender type and sender id of HDR, and the number the submitter work number of NWR or REV, each as it
+    /// stands.
     pub fn claim(&self, submitter: &[u8; 11], number: &[u8; 14]) -> Option<Claim>
         ensures { result ≡ claim_of (record { submitter = submitter.now; number = number.now }) (rows_of self.now.history) }
     {
