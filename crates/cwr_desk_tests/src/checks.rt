@@ -75,6 +75,15 @@ fn tells_groups_and_kinds(rt: HostRuntime) -> Result<(), Fail> {
     expect(alloc, &bytes, wanted, true)
 }
 
+/// The faults that are told of a work whose one writer has these shares.
+fn expect_shares(alloc: Global, shares: [&str; 3], faults: &str) -> Result<(), Fail> {
+    let wanted = format!(in alloc;
+        "00001 00000000 NWR rejected {faults}\n1 transactions, 1 with faults\n"
+    )?;
+    let bytes = one_writer(alloc, shares)?;
+    expect(alloc, &bytes, &wanted, false)
+}
+
 #[test]
 fn tells_every_fault(rt: HostRuntime) -> Result<(), Fail> {
     let alloc = rt.alloc();
@@ -88,19 +97,15 @@ fn tells_every_fault(rt: HostRuntime) -> Result<(), Fail> {
         ],
     )?;
     let wanted = "00001 00000000 NWR rejected 0:J2 0:J3 0:J10\n1 transactions, 1 with faults\n";
-    expect(alloc, &bare, wanted, false)?;
-    for (shares, faults) in [
-        (["10001", "10000", "10000"], "1:J6"),
-        (["10000", "09993", "10007"], "0:J12 1:J6"),
-        (["04993", "05000", "05000"], "0:J11 0:J12 0:J13"),
-    ] {
-        let wanted = format!(in alloc;
-            "00001 00000000 NWR rejected {faults}\n1 transactions, 1 with faults\n"
-        )?;
-        let bytes = one_writer(alloc, shares)?;
-        expect(alloc, &bytes, &wanted, false)?;
-    }
-    Ok(())
+    expect(alloc, &bare, wanted, false)
+}
+
+#[test]
+fn tells_faults_of_shares(rt: HostRuntime) -> Result<(), Fail> {
+    let alloc = rt.alloc();
+    expect_shares(alloc, ["10001", "10000", "10000"], "1:J6")?;
+    expect_shares(alloc, ["10000", "09993", "10007"], "0:J12 1:J6")?;
+    expect_shares(alloc, ["04993", "05000", "05000"], "0:J11 0:J12 0:J13")
 }
 
 #[test]

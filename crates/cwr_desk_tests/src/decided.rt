@@ -58,85 +58,124 @@ fn a_file_without_groups(rt: HostRuntime) -> Result<(), Fail> {
     expect(&rt, alloc, &input, &[], &[])
 }
 
+/// A work of two writers with these shares of the performing right, and half of the other rights each.
+fn expect_shares<T: Threads + Wait + Sync>(
+    rt: &T,
+    alloc: Global,
+    own: &str,
+    other: &str,
+    faults: &[Told],
+) -> Result<(), Fail> {
+    let lines = [
+        work(alloc, "NWR", 0, "W1", "")?,
+        writer(alloc, "SWR", 0, 1, [own, "05000", "05000"])?,
+        writer(alloc, "OWR", 0, 2, [other, "05000", "05000"])?,
+    ];
+    expect_one(rt, alloc, &lines, faults)
+}
+
 #[test]
 fn ownership_totals(rt: HostRuntime) -> Result<(), Fail> {
     let alloc = rt.alloc();
+    expect_shares(&rt, alloc, "04994", "05000", &[])?;
+    expect_shares(&rt, alloc, "05006", "05000", &[])?;
+    expect_shares(&rt, alloc, "00000", "00000", &[])?;
     let off: &[Told] = &[(0, "NWR", 11, "PR OWNERSHIP TOTAL IS NOT VALID")];
-    for (own, other, faults) in [
-        ("04994", "05000", [].as_slice()),
-        ("05006", "05000", [].as_slice()),
-        ("00000", "00000", [].as_slice()),
-        ("04993", "05000", off),
-        ("05007", "05000", off),
-    ] {
-        let lines = [
-            work(alloc, "NWR", 0, "W1", "")?,
-            writer(alloc, "SWR", 0, 1, [own, "05000", "05000"])?,
-            writer(alloc, "OWR", 0, 2, [other, "05000", "05000"])?,
-        ];
-        expect_one(&rt, alloc, &lines, faults)?;
-    }
-    Ok(())
+    expect_shares(&rt, alloc, "04993", "05000", off)?;
+    expect_shares(&rt, alloc, "05007", "05000", off)
+}
+
+/// A work with this ISWC.
+fn expect_iswc<T: Threads + Wait + Sync>(
+    rt: &T,
+    alloc: Global,
+    iswc: &str,
+    faults: &[Told],
+) -> Result<(), Fail> {
+    let lines = [
+        work(alloc, "NWR", 0, "W1", iswc)?,
+        writer(alloc, "SWR", 0, 1, ["05000"; 3])?,
+        writer(alloc, "OWR", 0, 2, ["05000"; 3])?,
+    ];
+    expect_one(rt, alloc, &lines, faults)
 }
 
 #[test]
 fn check_digits(rt: HostRuntime) -> Result<(), Fail> {
     let alloc = rt.alloc();
     let wrong: &[Told] = &[(0, "NWR", 4, "ISWC IS NOT VALID")];
-    for (iswc, faults) in [
-        ("T0345246801", [].as_slice()),
-        ("T0345246802", wrong),
-        ("", [].as_slice()),
-    ] {
-        let lines = [
-            work(alloc, "NWR", 0, "W1", iswc)?,
-            writer(alloc, "SWR", 0, 1, ["05000"; 3])?,
-            writer(alloc, "OWR", 0, 2, ["05000"; 3])?,
-        ];
-        expect_one(&rt, alloc, &lines, faults)?;
-    }
-    Ok(())
+    expect_iswc(&rt, alloc, "T0345246801", &[])?;
+    expect_iswc(&rt, alloc, "T0345246802", wrong)?;
+    expect_iswc(&rt, alloc, "", &[])
+}
+
+/// A work with this copyright date.
+fn expect_date<T: Threads + Wait + Sync>(
+    rt: &T,
+    alloc: Global,
+    date: &str,
+    faults: &[Told],
+) -> Result<(), Fail> {
+    let after = format!(in alloc; "{:11}{date}", "")?;
+    let lines = [
+        work(alloc, "NWR", 0, "W1", &after)?,
+        writer(alloc, "SWR", 0, 1, ALL)?,
+    ];
+    expect_one(rt, alloc, &lines, faults)
 }
 
 #[test]
 fn copyright_dates(rt: HostRuntime) -> Result<(), Fail> {
     let alloc = rt.alloc();
     let no_day: &[Told] = &[(0, "NWR", 5, "DATE OR DURATION IS NOT VALID")];
-    for (date, faults) in [
-        ("20230229", no_day),
-        ("20240229", [].as_slice()),
-        ("00000000", [].as_slice()),
-        ("", [].as_slice()),
-    ] {
-        let after = format!(in alloc; "{:11}{date}", "")?;
-        let lines = [
-            work(alloc, "NWR", 0, "W1", &after)?,
-            writer(alloc, "SWR", 0, 1, ALL)?,
-        ];
-        expect_one(&rt, alloc, &lines, faults)?;
+    expect_date(&rt, alloc, "20230229", no_day)?;
+    expect_date(&rt, alloc, "20240229", &[])?;
+    expect_date(&rt, alloc, "00000000", &[])?;
+    expect_date(&rt, alloc, "", &[])
+}
+
+/// Copies of these texts.
+fn lines_of(alloc: Global, texts: &[&str]) -> Result<Vec<String>, Fail> {
+    let mut lines = Vec::new(alloc);
+    for text in texts {
+        lines.push(String::from_str(alloc, text)?)?;
     }
-    Ok(())
+    Ok(lines)
+}
+
+/// The lines of a work with records that are carried, one of which, the sixth, is this one.
+pub(crate) fn carried_lines(alloc: Global, sixth: &str) -> Result<Vec<String>, Fail> {
+    let head = work(alloc, "NWR", 0, "W1", "")?;
+    let detail = writer(alloc, "SWR", 0, 1, ALL)?;
+    let texts = [
+        head.as_str(),
+        detail.as_str(),
+        "NWN0000000000000002",
+        "SWT0000000000000003000000001050000500005000I2136",
+        "ALT0000000000000004OTHER NAME",
+        sixth,
+        "REC0000000000000006",
+        "ORN0000000000000007LIB",
+        "XRF0000000000000008",
+    ];
+    lines_of(alloc, &texts)
+}
+
+/// The work is accepted with so many blanks at the end of that record.
+fn expect_carried<T: Threads + Wait + Sync>(
+    rt: &T,
+    alloc: Global,
+    blanks: usize,
+) -> Result<(), Fail> {
+    let sixth = format!(in alloc; "PER0000000000000005X{:blanks$}", "")?;
+    let lines = carried_lines(alloc, &sixth)?;
+    expect_one(rt, alloc, &lines, &[])
 }
 
 #[test]
 fn records_that_are_carried(rt: HostRuntime) -> Result<(), Fail> {
-    let alloc = rt.alloc();
-    for blanks in [0, 4076] {
-        let carried = format!(in alloc; "PER0000000000000005X{:blanks$}", "")?;
-        let lines = [
-            work(alloc, "NWR", 0, "W1", "")?,
-            writer(alloc, "SWR", 0, 1, ALL)?,
-            String::from_str(alloc, "NWN0000000000000002")?,
-            String::from_str(alloc, "SWT0000000000000003000000001050000500005000I2136")?,
-            String::from_str(alloc, "ALT0000000000000004OTHER NAME")?,
-            carried,
-            String::from_str(alloc, "REC0000000000000006")?,
-            String::from_str(alloc, "ORN0000000000000007LIB")?,
-            String::from_str(alloc, "XRF0000000000000008")?,
-        ];
-        expect_one(&rt, alloc, &lines, &[])?;
-    }
-    Ok(())
+    expect_carried(&rt, rt.alloc(), 0)?;
+    expect_carried(&rt, rt.alloc(), 4076)
 }
 
 #[test]
@@ -233,14 +272,25 @@ fn a_publisher_of_the_writer(rt: HostRuntime) -> Result<(), Fail> {
 }
 
 #[test]
-fn what_a_publisher_and_a_writer_control(rt: HostRuntime) -> Result<(), Fail> {
+fn what_a_publisher_and_a_writer_control_in_turn(rt: HostRuntime) -> Result<(), Fail> {
     let alloc = rt.alloc();
     let input = published(alloc, "000000002")?;
-    let inputs = [whole(&input)];
-    let run = run_in_turn(alloc, Book::new(alloc, 100), &inputs)?;
-    same("in turn", &run.book.control_of(1), &[10000; 3])?;
-    let run = run_at_desk(&rt, alloc, Book::new(alloc, 100), &inputs, &OpenGate)?;
-    same("at the desk", &run.book.control_of(1), &[10000; 3])
+    let run = run_in_turn(alloc, Book::new(alloc, 100), &[whole(&input)])?;
+    same("what all control", &run.book.control_of(1), &[10000; 3])
+}
+
+#[test]
+fn what_a_publisher_and_a_writer_control_at_the_desk(rt: HostRuntime) -> Result<(), Fail> {
+    let alloc = rt.alloc();
+    let input = published(alloc, "000000002")?;
+    let run = run_at_desk(
+        &rt,
+        alloc,
+        Book::new(alloc, 100),
+        &[whole(&input)],
+        &OpenGate,
+    )?;
+    same("what all control", &run.book.control_of(1), &[10000; 3])
 }
 
 #[test]

@@ -3,7 +3,7 @@
 ghost use Rattle.std.specs.Prelude.{◌≡◌, ◌<◌, None, false, IfOk};
 
 use byte_streams::{Failed, Feed, ReadCount, ReadRefused, Room, Source, read_file};
-use cwr_desk::{Book, FileOutcome, Job, Why, acknowledge, outcome_line, serve_in_turn};
+use cwr_desk::{Book, FileOutcome, Job, Run, Why, acknowledge, outcome_line, serve_in_turn};
 use cwr_sheets::{one_answer, plain_file, same, same_bytes, same_lists, stamp, with_newlines};
 use std::alloc::Global;
 use std::test::Fail;
@@ -114,23 +114,35 @@ fn stops_where_the_file_has_no_end(rt: HostRuntime) -> Result<(), Fail> {
     expect(alloc, &mut endless, 425, true, TOO_LONG, b"")
 }
 
-#[test]
-fn stops_a_job_whose_file_has_no_end(rt: HostRuntime) -> Result<(), Fail> {
-    let alloc = rt.alloc();
-    let mut jobs = Vec::new(alloc);
-    jobs.push(Job {
+/// A job for a file without an end.
+fn endless_job(alloc: Global) -> Result<Job<Endless, Room>, Fail>
+    ensures { IfOk result (λ job. job.writer.has_failed ≡ false) }
+{
+    Ok(Job {
+        writer: Room::new(alloc, 425, true)?,
         reader: Endless {
             reads: ReadCount::zero(),
         },
-        writer: Room::new(alloc, 425, true)?,
-    })?;
-    let run = serve_in_turn(alloc, jobs, Book::new(alloc, 100), &stamp()?)
-        .ok()
-        .ok_or("memory")?;
+    })
+}
+
+/// The one job of a run was stopped before anything was handed in, and nothing was written.
+fn expect_too_long(run: &Run<Endless, Room>) -> Result<(), Fail> {
     same_lists("how the job ended", &run.outcomes, &[TOO_LONG])?;
     same("entries", &run.book.len(), &0)?;
     let job = run.jobs.first().ok_or("a job")?;
     same_bytes("what it wrote", job.writer.bytes(), b"")
+}
+
+#[test]
+fn stops_a_job_whose_file_has_no_end(rt: HostRuntime) -> Result<(), Fail> {
+    let alloc = rt.alloc();
+    let mut jobs = Vec::new(alloc);
+    jobs.push(endless_job(alloc)?)?;
+    let run = serve_in_turn(alloc, jobs, Book::new(alloc, 100), &stamp()?)
+        .ok()
+        .ok_or("memory")?;
+    expect_too_long(&run)
 }
 
 #[test]
@@ -145,52 +157,56 @@ fn stops_where_a_read_fails(rt: HostRuntime) -> Result<(), Fail> {
 
 #[test]
 fn reads_up_to_the_limit(rt: HostRuntime) -> Result<(), Fail> {
-    let alloc = rt.alloc();
-    let whole = read_file(alloc, &mut Feed::new(b"abc", 2, None), 3)?;
-    same_bytes("a whole file", &whole, b"abc")?;
-    for (text, fail, wanted) in [
-        ("abcd", None, ReadRefused::TooLong),
-        ("abc", Some(2), ReadRefused::Read),
-    ] {
-        let mut reader = Feed::new(text.as_bytes(), 2, fail);
-        let refused = read_file(alloc, &mut reader, 3).map(|text| text.len());
-        same(text, &refused, &Err(wanted))?;
-    }
-    Ok(())
+    let whole = read_file(rt.alloc(), &mut Feed::new(b"abc", 2, None), 3)?;
+    same_bytes("a whole file", &whole, b"abc")
+}
+
+/// A file is refused, whose reader gives two bytes at a time and fails at this read, and of which three bytes are read.
+fn expect_refused(
+    alloc: Global,
+    text: &str,
+    fail: Option<u64>,
+    wanted: ReadRefused,
+) -> Result<(), Fail> {
+    let mut reader = Feed::new(text.as_bytes(), 2, fail);
+    let refused = read_file(alloc, &mut reader, 3).err();
+    same(text, &refused, &Some(wanted))
+}
+
+#[test]
+fn refuses_a_file_past_the_limit_and_a_failed_read(rt: HostRuntime) -> Result<(), Fail> {
+    expect_refused(rt.alloc(), "abcd", None, ReadRefused::TooLong)?;
+    expect_refused(rt.alloc(), "abc", Some(2), ReadRefused::Read)
+}
+
+/// The line that tells the outcome of a file.
+fn expect_line(alloc: Global, name: &str, outcome: FileOutcome, wanted: &str) -> Result<(), Fail> {
+    let line = outcome_line(alloc, name.as_bytes(), &outcome)?;
+    same_bytes("a line", &line, wanted.as_bytes())
 }
 
 #[test]
 fn tells_outcomes(rt: HostRuntime) -> Result<(), Fail> {
     let alloc = rt.alloc();
-    let stopped = |handed, why| FileOutcome::Stopped { handed, why };
-    for (name, outcome, wanted) in [
-        (
-            "a.v22",
-            FileOutcome::Acked { transactions: 12 },
-            "a.v22: acknowledged 12\n",
-        ),
-        (
-            "a.v22",
-            FileOutcome::Refused { number: 9, line: 5 },
-            "a.v22: refused F9 at line 5\n",
-        ),
-        ("-", stopped(0, Why::Memory), "-: stopped after 0: memory\n"),
-        ("-", stopped(2, Why::Full), "-: stopped after 2: full\n"),
-        ("-", stopped(0, Why::Read), "-: stopped after 0: read\n"),
-        (
-            "-",
-            stopped(0, Why::TooLong),
-            "-: stopped after 0: too long\n",
-        ),
-        ("-", stopped(1, Why::Gate), "-: stopped after 1: gate\n"),
-        (
-            "-",
-            stopped(1, Why::Write { sent: 100 }),
-            "-: stopped after 1: write after 100 bytes\n",
-        ),
-    ] {
-        let line = outcome_line(alloc, name.as_bytes(), &outcome)?;
-        same_bytes("a line", &line, wanted.as_bytes())?;
-    }
-    Ok(())
+    let acknowledged = FileOutcome::Acked { transactions: 12 };
+    expect_line(alloc, "a.v22", acknowledged, "a.v22: acknowledged 12\n")?;
+    let refused = FileOutcome::Refused { number: 9, line: 5 };
+    expect_line(alloc, "a.v22", refused, "a.v22: refused F9 at line 5\n")
+}
+
+/// The line of a file on standard input that was stopped after so many transactions.
+fn expect_stopped(alloc: Global, handed: u32, why: Why, wanted: &str) -> Result<(), Fail> {
+    expect_line(alloc, "-", FileOutcome::Stopped { handed, why }, wanted)
+}
+
+#[test]
+fn tells_why_a_file_was_stopped(rt: HostRuntime) -> Result<(), Fail> {
+    let alloc = rt.alloc();
+    expect_stopped(alloc, 0, Why::Memory, "-: stopped after 0: memory\n")?;
+    expect_stopped(alloc, 2, Why::Full, "-: stopped after 2: full\n")?;
+    expect_stopped(alloc, 0, Why::Read, "-: stopped after 0: read\n")?;
+    expect_stopped(alloc, 0, Why::TooLong, "-: stopped after 0: too long\n")?;
+    expect_stopped(alloc, 1, Why::Gate, "-: stopped after 1: gate\n")?;
+    let wanted = "-: stopped after 1: write after 100 bytes\n";
+    expect_stopped(alloc, 1, Why::Write { sent: 100 }, wanted)
 }

@@ -1,4 +1,5 @@
 //! Files with a fault: none of their transactions is decided, and no byte is written.
+use crate::decided::carried_lines;
 use crate::three_ways::expect_three_ways;
 use cwr_desk::FileOutcome;
 use cwr_sheets::{ALL, SENDER, file, file_of_lines, header, miscounted, work, writer};
@@ -135,26 +136,16 @@ fn a_day_that_no_month_has(rt: HostRuntime) -> Result<(), Fail> {
 
 /// A file of one work whose carried record, on line 8, has so many blanks and this text at its end.
 fn carried_file(alloc: Global, blanks: usize, end: &str) -> Result<Vec<u8>, Fail> {
-    let lines = [
-        work(alloc, "NWR", 0, "W1", "")?,
-        writer(alloc, "SWR", 0, 1, ALL)?,
-        String::from_str(alloc, "NWN0000000000000002")?,
-        String::from_str(alloc, "SWT0000000000000003000000001050000500005000I2136")?,
-        String::from_str(alloc, "ALT0000000000000004OTHER NAME")?,
-        format!(in alloc; "PER0000000000000005X{:blanks$}{end}", "")?,
-        String::from_str(alloc, "REC0000000000000006")?,
-        String::from_str(alloc, "ORN0000000000000007LIB")?,
-        String::from_str(alloc, "XRF0000000000000008")?,
-    ];
+    let sixth = format!(in alloc; "PER0000000000000005X{:blanks$}{end}", "")?;
+    let lines = carried_lines(alloc, &sixth)?;
     file(alloc, SENDER, "NWR", 1, &lines)
 }
 
 #[test]
 fn a_carried_line(rt: HostRuntime) -> Result<(), Fail> {
     let alloc = rt.alloc();
-    for (blanks, end, number) in [(4077, "", 12), (0, "\t", 2)] {
-        let input = carried_file(alloc, blanks, end)?;
-        expect_fault(&rt, alloc, &input, number, 8)?;
-    }
-    Ok(())
+    let long = carried_file(alloc, 4077, "")?;
+    expect_fault(&rt, alloc, &long, 12, 8)?;
+    let tabbed = carried_file(alloc, 0, "\t")?;
+    expect_fault(&rt, alloc, &tabbed, 2, 8)
 }

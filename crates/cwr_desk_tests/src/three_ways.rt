@@ -24,6 +24,31 @@ fn expect_alone(
     same_bytes("what was written", sink.bytes(), written)
 }
 
+/// Works a file into an empty book, as a job in turn: how it must end, what must be written, and the replies.
+fn expect_in_turn(
+    alloc: Global,
+    input: &[u8],
+    end: FileOutcome,
+    written: &[u8],
+    replies: &[Reply],
+) -> Result<(), Fail> {
+    let run = run_in_turn(alloc, Book::new(alloc, 100), &[whole(input)])?;
+    expect_run(&run, end, written, replies)
+}
+
+/// The same at the desk.
+fn expect_at_desk<T: Threads + Wait + Sync>(
+    rt: &T,
+    alloc: Global,
+    input: &[u8],
+    end: FileOutcome,
+    written: &[u8],
+    replies: &[Reply],
+) -> Result<(), Fail> {
+    let run = run_at_desk(rt, alloc, Book::new(alloc, 100), &[whole(input)], &OpenGate)?;
+    expect_run(&run, end, written, replies)
+}
+
 /// Works a file into an empty book, alone, as a job in turn, and at the desk: how it must end each time, what must be
 /// written, and the replies that the two books must hold.
 pub(crate) fn expect_three_ways<T: Threads + Wait + Sync>(
@@ -36,9 +61,6 @@ pub(crate) fn expect_three_ways<T: Threads + Wait + Sync>(
     replies: &[Reply],
 ) -> Result<(), Fail> {
     expect_alone(alloc, input, room, end, written)?;
-    let inputs = [whole(input)];
-    let run = run_in_turn(alloc, Book::new(alloc, 100), &inputs)?;
-    expect_run(&run, end, written, replies)?;
-    let run = run_at_desk(rt, alloc, Book::new(alloc, 100), &inputs, &OpenGate)?;
-    expect_run(&run, end, written, replies)
+    expect_in_turn(alloc, input, end, written, replies)?;
+    expect_at_desk(rt, alloc, input, end, written, replies)
 }
