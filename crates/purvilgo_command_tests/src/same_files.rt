@@ -9,9 +9,7 @@ use std::fs;
 use std::fs::Metadata;
 use std::process::ExitCode;
 use std::rt::Files;
-use std::sync::Wait;
 use std::test::Fail;
-use std::thread::Threads;
 
 const TWICE: &str = "file named twice\n";
 
@@ -52,23 +50,6 @@ fn writes_no_register_over_a_file(rt: HostRuntime) -> Result<(), Fail> {
     expect_untouched(&kept)
 }
 
-/// Runs with these words, where the system tells this of names: the run must be refused, and nothing written.
-fn refuses<T: AllocGlobal + Threads + Wait + Sync>(
-    rt: &T,
-    more: &[&str],
-    nodes: &[(&str, Metadata)],
-    links: &[(&str, &str)],
-) -> Result<(), Fail> {
-    let alloc = rt.alloc();
-    let kept = older(alloc)?;
-    let words = run_with(alloc, more)?;
-    let fake = Fake::new(rt, &words, b"")
-        .with_files(&[], &kept)
-        .with_names(nodes, links);
-    expect_program(fake, ExitCode::from(2), b"", TWICE)?;
-    expect_untouched(&kept)
-}
-
 /// Two files of the system that are not one.
 fn two_nodes<T: Files>(rt: &T) -> Result<(Metadata, Metadata), Fail> {
     Ok((fs::metadata(rt, "/")?, fs::metadata(rt, "/dev/null")?))
@@ -77,6 +58,8 @@ fn two_nodes<T: Files>(rt: &T) -> Result<(Metadata, Metadata), Fail> {
 /// Each run names a file that is there twice, as the system tells.
 #[test]
 fn knows_a_file_by_another_name(rt: HostRuntime) -> Result<(), Fail> {
+    let alloc = rt.alloc();
+    let kept = older(alloc)?;
     let (one, other) = two_nodes(&rt)?;
     let cases: [(&[&str], [&str; 2]); 8] = [
         (&["a", "in/b"], ["a", "in/b"]),
@@ -94,21 +77,37 @@ fn knows_a_file_by_another_name(rt: HostRuntime) -> Result<(), Fail> {
             (name, one.clone()?),
             (same, one.clone()?),
         ];
-        refuses(&rt, more, &nodes, &[])?;
+        let words = run_with(alloc, more)?;
+        let fake = Fake::new(&rt, &words, b"")
+            .with_files(&[], &kept)
+            .with_names(&nodes, &[]);
+        expect_program(fake, ExitCode::from(2), b"", TWICE)?;
     }
-    Ok(())
+    expect_untouched(&kept)
 }
 
 /// Each run would make one file twice, as the system tells of its directory.
 #[test]
 fn knows_a_file_that_is_not_there_yet(rt: HostRuntime) -> Result<(), Fail> {
+    let alloc = rt.alloc();
+    let kept = older(alloc)?;
     let (here, _) = two_nodes(&rt)?;
     let nodes = [(".", here.clone()?), ("../here", here)];
-    refuses(&rt, &["--to", "./a.ack", "a"], &nodes, &[])?;
-    refuses(&rt, &["--to", "../here/a.ack", "a"], &nodes, &[])?;
-    refuses(&rt, &["a", "../here/a"], &nodes, &[])?;
     let links = [("book", "next"), ("next", "a.ack")];
-    refuses(&rt, &["--to", "book", "a"], &nodes, &links)
+    let cases: [&[&str]; 4] = [
+        &["--to", "./a.ack", "a"],
+        &["--to", "../here/a.ack", "a"],
+        &["a", "../here/a"],
+        &["--to", "book", "a"],
+    ];
+    for more in cases {
+        let words = run_with(alloc, more)?;
+        let fake = Fake::new(&rt, &words, b"")
+            .with_files(&[], &kept)
+            .with_names(&nodes, &links);
+        expect_program(fake, ExitCode::from(2), b"", TWICE)?;
+    }
+    expect_untouched(&kept)
 }
 
 /// Files of other names, other directories and other numbers are not one, and `--from` and `--to` may be.
