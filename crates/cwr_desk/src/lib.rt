@@ -18,7 +18,7 @@ pub use cwr_engine::{
 pub use cwr_field::Memory;
 pub use cwr_record::Stamp;
 pub use registry_desk::{Desk, Seat};
-pub use run_words::{RunFault, run_fault};
+pub use run_words::{RunFault, run_fault, words_fault};
 pub use serving::serve;
 pub use work_registry::{
     Book, Call, Claim, Entry, Fault, Faults, Refused, RegisterRefusal, Reply, WhyRefused, WorkKind,
