@@ -65,11 +65,12 @@ class Command:
 
 class Run:
     """`run` of some files: of each its name, its bytes, its acknowledgement and the entries that it makes, each without
-    its index; the register of `--from`, and whether there is `--to`. Files to be written hold something already."""
+    its index; the register of `--from`, whether there is `--to`, and further options. Files to be written hold something
+    already, but for acknowledgements under `--no-clobber`."""
 
-    def __init__(self, jobs, opening=None, to=False):
+    def __init__(self, jobs, opening=None, to=False, options=()):
         self.jobs, self.opening, self.to = jobs, opening, to
-        self.words = ["run", *STAMP]
+        self.words = ["run", *options, *STAMP]
         self.given = b""
         self.files = {}
         if opening is not None:
@@ -81,8 +82,9 @@ class Run:
         for name, text, _, _ in jobs:
             self.words.append(name)
             self.files[name] = text
-            self.files[name + ".ack"] = OLD_ACK
-        self.rounds = ROUNDS_ON_THREADS
+            if "--no-clobber" not in options:
+                self.files[name + ".ack"] = OLD_ACK
+        self.rounds = 1 if "--in-turn" in options else ROUNDS_ON_THREADS
 
     def kind(self, answer):
         if answer.printed == b"" and answer.complained == NO_MEMORY:
@@ -157,6 +159,7 @@ def commands(examples):
     job = lambda name, entries: (name, sample(name), sample(name + ".ack"), entries)
     lone = job("conflict-1.v22", [first])
     conflict = job("conflict-2.v22", [second])
+    two = [job("accepted.v22", [accepted]), job("rejected.v22", [rejected])]
     both = register([first, second])
     wrong = both.replace(b"CO", b"AS")
     file = lambda name: [(name, sample(name))]
@@ -167,21 +170,32 @@ def commands(examples):
         ("check accepted.v22", Command(["check", "accepted.v22"], 0, b"00001 00000000 NWR ok\n1 transactions, 0 with faults\n", files=file("accepted.v22"))),
         ("check rejected.v22", Command(["check", "rejected.v22"], 1, b"00001 00000000 NWR rejected 0:J11\n1 transactions, 1 with faults\n", files=file("rejected.v22"))),
         ("check file-fault.v22", Command(["check", "file-fault.v22"], 1, b"refused F9 at line 5\n", files=file("file-fault.v22"))),
+        ("check -", Command(["check", "-"], 0, b"00001 00000000 NWR ok\n1 transactions, 0 with faults\n", given=sample("accepted.v22"))),
         ("check absent", Command(["check", "absent"], 1, complained=b"stopped: read\n")),
         ("audit, two entries", Command(["audit", "r"], 0, b"2 entries\n", files=[("r", both)])),
+        ("audit -", Command(["audit", "-"], 0, b"2 entries\n", given=both)),
         ("audit, a wrong entry", Command(["audit", "r"], 1, b"refused G3 at line 3\n", files=[("r", wrong)])),
         ("run", Run([job("duplicate.v22", [accepted, duplicate])])),
         ("run --to", Run([lone], to=True)),
         ("run --from", Run([conflict], opening=[first])),
         ("run --from --to", Run([conflict], opening=[first], to=True)),
-        ("run --to, two files", Run([job("accepted.v22", [accepted]), job("rejected.v22", [rejected])], to=True)),
+        ("run --to, two files", Run(two, to=True)),
+        ("run --in-turn --to, two files", Run(two, to=True, options=["--in-turn"])),
+        ("run --in-turn --from --to", Run([conflict], opening=[first], to=True, options=["--in-turn"])),
+        ("run --no-clobber --to, two files", Run(two, to=True, options=["--no-clobber"])),
+        ("run --no-clobber, one is there", Command(["run", "--no-clobber", *STAMP, "f"], 1, complained=b"f.ack: is there already\n", files=[("f", lone[1]), ("f.ack", OLD_ACK)])),
         ("run --from, wrong register", Command(["run", *STAMP, "--from", "r", "f"], 1, complained=b"register: refused G3 at line 3\n", files=[("r", wrong), ("f", lone[1])], opening=True)),
+        ("run, named twice", Command(["run", *STAMP, "f", "./f"], 2, complained=b"file named twice\n", files=[("f", lone[1])])),
         ("run, bad words", Command(["run", "--society", "7", *STAMP[2:], "f"], 2, complained=b"bad --society\n")),
     ]
 
 
-def clap_commands(program):
-    """Commands that `clap` answers by a text of its own: in ample memory that text, whatever it is, and status 2."""
+def told_commands(program):
+    """The version, and commands that are answered by a text of help: in ample memory that text, whatever it is, and
+    status 2."""
+    version = subprocess.run([NAME, "--version"], executable=program, capture_output=True, timeout=SECONDS).stdout
+    assert re.fullmatch(rb"purvilgo \d+\.\d+\.\d+\n", version), version
+    yield "--version", Command(["--version"], 0, version)
     for words, part in [
         (["--help"], b"Usage: purvilgo [COMMAND]\n"),
         (["help"], b"Usage: purvilgo [COMMAND]\n"),
@@ -263,11 +277,11 @@ def ranges(numbers):
 def main(program, library, examples):
     program, library = os.path.abspath(program), os.path.abspath(library)
     failed = False
-    print("%-27s %8s" % ("", "requests") + "".join(" %15s" % kind for kind in [*KINDS, "wrong"]))
-    for name, command in [*commands(examples), *clap_commands(program)]:
+    print("%-33s %8s" % ("", "requests") + "".join(" %15s" % kind for kind in [*KINDS, "wrong"]))
+    for name, command in [*commands(examples), *told_commands(program)]:
         found = collections.Counter()
         most, wrong = sweep(program, library, command, found)
-        print("%-27s %8d" % (name, most) + "".join(" %15d" % found[kind] for kind in [*KINDS, "wrong"]), flush=True)
+        print("%-33s %8d" % (name, most) + "".join(" %15d" % found[kind] for kind in [*KINDS, "wrong"]), flush=True)
         # A program that asks for nothing was not tried.
         if most == 0:
             wrong["no request was counted"] = []

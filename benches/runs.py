@@ -30,12 +30,12 @@ def timed(words, folder):
 
 def tell(what, count, wanted, printed, seconds, memory):
     assert printed == wanted, (what, printed)
-    print("%-34s %9d %9.3f %11.2f %9.1f %9d" % (what, count, seconds, seconds * 1e6 / count, memory / 1e6, memory / count), flush=True)
+    print("%-42s %9d %9.3f %11.2f %9.1f %9d" % (what, count, seconds, seconds * 1e6 / count, memory / 1e6, memory / count), flush=True)
 
 
 def main(program, folder):
     program = os.path.abspath(program)
-    print("%-34s %9s %9s %11s %9s %9s" % ("", "entries", "seconds", "us an entry", "MB", "B an entry"))
+    print("%-42s %9s %9s %11s %9s %9s" % ("", "entries", "seconds", "us an entry", "MB", "B an entry"))
     for files, works, shared in CASES:
         place = os.path.join(folder, f"{files}-{works}{shared}")
         os.makedirs(place)
@@ -43,10 +43,12 @@ def main(program, folder):
         names = sorted(os.listdir(place))
         what = f"{files} files of {works} transactions"
         wanted = [f"{name}: acknowledged {works}" for name in names]
-        tell(f"run, {what}", files * works, wanted, *timed([program, *WORDS, "--to", "register", *names], place))
+        for how, words in (" in turn", ["--in-turn"]), ("", []):
+            run = [program, *WORDS, *words, "--to", "register", *names]
+            tell(f"run{how}, {what}", files * works, wanted, *timed(run, place))
+            subprocess.run([sys.executable, f"{HERE}/acks.py", place], check=True)
         wanted = [f"{files * works} entries"]
         tell(f"audit, {what}", files * works, wanted, *timed([program, "audit", "register"], place))
-        subprocess.run([sys.executable, f"{HERE}/acks.py", place], check=True)
         shutil.rmtree(place)
 
 

@@ -15,6 +15,7 @@ What is tried of a page:
 - A block after a line `<!-- file: PATH -->` is that file of the repository, byte for byte.
 - Any other block of commands (`sh`, `bash`) must say why nobody runs it: `<!-- not run: REASON -->`.
 - A link leads to a file that is there; one with `#L20` to a line that has its text, and any other `#` to a heading.
+- Each paragraph that `purvilgo help` and `purvilgo help COMMAND` print stands in the manual page docs/purvilgo.1.
 
 It says what differs, and the status is 1 then; 2 where there is nothing to try with; else 0."""
 import argparse
@@ -211,6 +212,26 @@ def mend_lines(page):
         out.write(text)
 
 
+def manual_faults(program):
+    """What `purvilgo help` and its pages say and the manual page docs/purvilgo.1 does not, paragraph by paragraph."""
+    manual = []
+    for line in open(os.path.join(TOP, "docs/purvilgo.1"), encoding="utf-8").read().split("\n"):
+        macro = re.match(r"\.(?:B|SH|TH) (.*)", line)
+        if macro or not line.startswith("."):
+            manual.append(macro[1] if macro else line)
+    manual = " ".join(" ".join(manual).replace("\\-", "-").replace("\\(aq", "'").replace("\\e", "\\").split())
+    pages, faults = [[]], []
+    for page in pages:
+        helped = subprocess.run([program, "help", *page], stdout=subprocess.PIPE, stderr=subprocess.STDOUT).stdout.decode()
+        for paragraph in helped.split("\n\n"):
+            words = " ".join(paragraph.split())
+            if words.removeprefix("Usage: ") not in manual:
+                faults.append(f"docs/purvilgo.1 lacks what purvilgo help {' '.join(page)} says: {words[:80]}")
+            if not page and words.startswith("Commands: "):
+                pages += [[name] for name in re.findall(r"^  (\w+)", paragraph, re.M) if name != "help"]
+    return pages, faults
+
+
 def main():
     parser = argparse.ArgumentParser(description=__doc__, formatter_class=argparse.RawDescriptionHelpFormatter)
     parser.add_argument("--program", default=os.path.join(TOP, "crates/purvilgo/out/purvilgo"))
@@ -236,6 +257,10 @@ def main():
         all_commands += commands
         every_fault += faults
         print(f"{page}: {commands} commands, {files} files, {links} links" + "".join(f"; not run: {why}" for why in untried))
+    if not words.pages:
+        helped, faults = manual_faults(words.program)
+        every_fault += faults
+        print(f"docs/purvilgo.1: {len(helped)} pages of help")
     for fault in every_fault:
         print(fault)
     if not words.pages and not all_commands:
