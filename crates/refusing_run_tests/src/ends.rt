@@ -1,0 +1,136 @@
+//! What must become of jobs that may have been stopped for memory.
+
+use cwr_desk::{Book, Claim, FileOutcome, Reply, Why};
+use cwr_sheets::{Answer, acknowledgement, decision, same, same_bytes};
+use refusing::Refusing;
+use std::alloc::Global;
+use std::test::Fail;
+
+/// What must have been decided on a transaction: the submitter's number of its work, and the reply.
+pub(crate) type Decided<'a> = (&'a str, Reply);
+
+/// How a job ended: how many of its transactions were decided, and whether it was stopped for memory.
+pub(crate) type End = (usize, bool);
+
+/// A work's number as an acknowledgement tells it.
+fn told(work: u32) -> &'static str {
+    match work {
+        1 => "00000001",
+        2 => "00000002",
+        _ => "00000003",
+    }
+}
+
+/// The answer that tells a decision.
+fn answer<'a>(sequence: u32, decided: Decided<'a>) -> Answer<'a> {
+    let (number, reply) = decided;
+    let (work, status) = match reply {
+        Reply::Accepted { work, .. } => (told(work), "AS"),
+        Reply::Duplicate { work } => (told(work), "DU"),
+        Reply::Conflict { work } => (told(work), "CO"),
+        Reply::Rejected => ("", "RJ"),
+    };
+    decision(sequence, "NWR", number, work, status, &[])
+}
+
+/// The acknowledgement of these decisions.
+fn text_of(alloc: Global, decided: &[Decided]) -> Result<Vec<u8>, Fail> {
+    let mut answers = Vec::new(alloc);
+    let mut sequence: u32 = 0;
+    for one in decided {
+        answers.push(answer(sequence, *one))?;
+        sequence = sequence.saturating_add(1);
+    }
+    acknowledgement(alloc, &answers)
+}
+
+/// A job must have been acknowledged with these decisions, or stopped for memory with nothing written.
+pub(crate) fn end_of(
+    alloc: Global,
+    outcome: &FileOutcome,
+    written: &[u8],
+    decided: &[Decided],
+) -> Result<End, Fail> {
+    match *outcome {
+        FileOutcome::Acked { transactions } => {
+            same("transactions", &(transactions as usize), &decided.len())?;
+            same_bytes("acknowledgement", written, &text_of(alloc, decided)?)?;
+            Ok((decided.len(), false))
+        }
+        FileOutcome::Stopped {
+            handed,
+            why: Why::Memory,
+        } => {
+            same_bytes("a stopped job's bytes", written, b"")?;
+            same(
+                "handed in, at most all",
+                &(handed as usize > decided.len()),
+                &false,
+            )?;
+            Ok((handed as usize, true))
+        }
+        _ => Err(Fail::new(format_args!("ended with {outcome}"))),
+    }
+}
+
+/// The submitter's number of a work as the book keeps it.
+fn key(number: &str) -> [u8; 14] {
+    let mut key = [b' '; 14];
+    for (place, byte) in key.iter_mut().zip(number.as_bytes()) {
+        *place = *byte;
+    }
+    key
+}
+
+/// The next entry of the book must be of this session, with this decision.
+fn is_entry(
+    book: &Book<&Refusing>,
+    index: usize,
+    session: u32,
+    decided: Decided,
+) -> Result<(), Fail> {
+    let entry = book.history().get(index).ok_or("an entry is missing")?;
+    let (number, reply) = decided;
+    same("session", &entry.session(), &session)?;
+    same("reply", &entry.reply(), &reply)?;
+    same("submitter", &entry.call().submitter(), b"PB000000123")?;
+    same("number", &entry.call().number(), &key(number))
+}
+
+/// From this index on the book must hold the first `count` of these decisions, by this session. Answers the index after
+/// them.
+pub(crate) fn holds_of(
+    book: &Book<&Refusing>,
+    from: usize,
+    session: u32,
+    decided: &[Decided],
+    count: usize,
+) -> Result<usize, Fail> {
+    let mut index = from;
+    for one in decided.iter().take(count) {
+        is_entry(book, index, session, *one)?;
+        index = index.saturating_add(1);
+    }
+    Ok(index)
+}
+
+/// The book, whose limit is 100, must hold so many entries, and know the first works W1, W2, .. of these that were
+/// accepted, and no other.
+pub(crate) fn knows(book: &Book<&Refusing>, entries: usize, works: usize) -> Result<(), Fail> {
+    same("limit", &book.limit(), &100)?;
+    same("length", &book.len(), &entries)?;
+    same("opening", &book.is_opening(), &(entries == 0))?;
+    let mut work: u32 = 0;
+    for number in ["W1", "W2", "W3"] {
+        work = work.saturating_add(1);
+        let claim = (work as usize <= works).then_some(Claim {
+            work,
+            version: 1,
+            control: [10000; 3],
+        });
+        let control = if claim.is_some() { [10000; 3] } else { [0; 3] };
+        same("claim", &book.claim(b"PB000000123", &key(number)), &claim)?;
+        same("control", &book.control_of(work), &control)?;
+    }
+    Ok(())
+}

@@ -1,0 +1,102 @@
+//! Jobs on threads of their own.
+
+use crate::ends::{Decided, end_of, knows};
+use crate::in_turn::{RefusingRun, after_refusal, ended, is_unbegun};
+use crate::jobs::jobs_of;
+use cwr_desk::{Book, OpenGate, Reply, ServeRefused, Stamp, serve};
+use cwr_sheets::{same, stamp, three_works};
+use refusing::{Ended, Refusing, told_right};
+use std::alloc::Global;
+use std::sync::Wait;
+use std::test::Fail;
+use std::thread::Threads;
+
+/// The works of the file, in order.
+const NUMBERS: [&str; 3] = ["W1", "W2", "W3"];
+
+/// What the book says was decided on the transactions of a session's file, in order.
+fn decided_of(
+    alloc: Global,
+    book: &Book<&Refusing>,
+    session: u32,
+) -> Result<Vec<Decided<'static>>, Fail> {
+    let mut decided = Vec::new(alloc);
+    for entry in book.history() {
+        if entry.session() == session {
+            let number = NUMBERS.get(decided.len()).ok_or("an entry too much")?;
+            decided.push((*number, entry.reply()))?;
+        }
+    }
+    Ok(decided)
+}
+
+/// A job must have been acknowledged with what the book says, all of it, or stopped for memory with nothing written
+/// after as much as the book says. Answers how much that is, and whether it was stopped.
+fn job_of(alloc: Global, run: &RefusingRun, session: u32) -> Result<(usize, bool), Fail> {
+    let decided = decided_of(alloc, &run.book, session)?;
+    let (outcome, written) = ended(run, session.saturating_sub(1) as usize)?;
+    let (count, is_stopped) = end_of(alloc, &outcome, written, &decided)?;
+    same("handed in", &count, &decided.len())?;
+    same("the whole file", &(is_stopped || count == 3), &true)?;
+    Ok((count, is_stopped))
+}
+
+/// How many works the book says were accepted.
+fn works_of(book: &Book<&Refusing>) -> usize {
+    let mut count: usize = 0;
+    for entry in book.history() {
+        if matches!(entry.reply(), Reply::Accepted { .. }) {
+            count = count.saturating_add(1);
+        }
+    }
+    count
+}
+
+/// The end of a run of one file twice, at once.
+fn run_at_once(alloc: Global, run: &RefusingRun) -> Ended {
+    same("outcomes", &(run.outcomes.len(), run.jobs.len()), &(2, 2))?;
+    let (first, is_first) = job_of(alloc, run, 1)?;
+    let (second, is_second) = job_of(alloc, run, 2)?;
+    let works = first.max(second);
+    same("works", &works_of(&run.book), &works)?;
+    knows(&run.book, first.saturating_add(second), works)?;
+    Ok(is_first || is_second)
+}
+
+/// Serves one file twice, at once.
+///
+/// It is no `Sweep`, since a trait's method does not know of a type that threads may share it.
+fn served<T: Threads + Wait + Sync>(
+    rt: &T,
+    memory: &Refusing,
+    alloc: Global,
+    stamp: &Stamp,
+    file: &[u8],
+) -> Ended {
+    let Ok(jobs) = jobs_of(memory, alloc, &[file, file]) else {
+        return Ok(true);
+    };
+    match serve(rt, memory, jobs, Book::new(memory, 100), stamp, &OpenGate) {
+        Ok(run) => run_at_once(alloc, &run),
+        Err(ServeRefused { book, jobs }) => {
+            is_unbegun(&book, &jobs, 2)?;
+            match serve(rt, memory, jobs, book, stamp, &OpenGate) {
+                Ok(run) => after_refusal(run_at_once(alloc, &run)?),
+                Err(_) => Err(Fail::new("refused again")),
+            }
+        }
+    }
+}
+
+#[test]
+fn one_file_twice_at_once(rt: HostRuntime) -> Result<(), Fail> {
+    let alloc = rt.alloc();
+    let stamp = stamp()?;
+    let file = three_works(alloc)?;
+    for n in 1..201 {
+        let memory = Refusing::nth(alloc, n);
+        let is_refused = served(&rt, &memory, alloc, &stamp, &file)?;
+        told_right(&memory, n, is_refused)?;
+    }
+    Ok(())
+}
