@@ -1,15 +1,10 @@
 //! Calls to a book.
 
-use crate::books::{CALLS, call, holds, is_call, reply_to};
+use book_calls::{CALLS, call, gives_back, holds, reply_to};
 use cwr_sheets::same;
 use refusing::{Ended, Refusing, Sweep, refuse_each};
 use std::test::Fail;
-use work_registry::{Book, Refused, WhyRefused};
-
-/// Whether a refusal is for memory, and hands back the call with this number.
-fn gives_back(refused: &Refused<&Refusing>, number: u16) -> bool {
-    refused.why == WhyRefused::Memory && is_call(&refused.call, number)
-}
+use work_registry::Book;
 
 /// Hands in the call with this number, which may be refused: the book is then as it was, and takes the call once there
 /// is memory. Answers whether it was refused.

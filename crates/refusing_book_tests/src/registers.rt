@@ -1,6 +1,6 @@
 //! Registers that are written, read and audited.
 
-use crate::books::{book_of, holds};
+use book_calls::{book_of, holds};
 use cwr_sheets::{same, same_bytes};
 use refusing::{Ended, Refusing, Sweep, answered, refuse_each, refused};
 use std::test::Fail;

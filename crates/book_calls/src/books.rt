@@ -1,9 +1,9 @@
-//! Twenty calls on ten works, and what a book must hold after each: every reader is asked.
+//! Twenty calls on ten works, and what a book must hold after each.
 
 use cwr_sheets::same;
 use std::alloc::Allocator;
 use std::test::Fail;
-use work_registry::{Book, Call, Claim, Entry, Faults, Reply, WorkKind};
+use work_registry::{Book, Call, Claim, Entry, Faults, Refused, Reply, WhyRefused, WorkKind};
 
 /// Who hands all calls in.
 const SUBMITTER: [u8; 11] = *b"PB000000123";
@@ -11,7 +11,7 @@ const SUBMITTER: [u8; 11] = *b"PB000000123";
 const TITLE: [u8; 60] = *b"SONG ONE                                                    ";
 
 /// How many calls there are: the first ten register the works 1 to 10, the others revise them.
-pub(crate) const CALLS: u16 = 20;
+pub const CALLS: u16 = 20;
 
 const WORKS: u16 = 10;
 
@@ -46,7 +46,9 @@ fn control_of(number: u16) -> [u64; 3] {
 }
 
 /// The call with this number, from 1. The ISWC of a work is its number.
-pub(crate) fn call<A: Allocator>(alloc: A, number: u16) -> Result<Call<A>, Fail> {
+///
+/// It fails where such a call is not lawful.
+pub fn call<A: Allocator>(alloc: A, number: u16) -> Result<Call<A>, Fail> {
     let work = work_of(number);
     let call = Call::of(
         SUBMITTER,
@@ -61,7 +63,7 @@ pub(crate) fn call<A: Allocator>(alloc: A, number: u16) -> Result<Call<A>, Fail>
 }
 
 /// Whether this is the call with this number.
-pub(crate) fn is_call<A: Allocator>(call: &Call<A>, number: u16) -> bool {
+fn is_call<A: Allocator>(call: &Call<A>, number: u16) -> bool {
     let work = work_of(number);
     call.submitter() == SUBMITTER
         && call.kind() == kind_of(number)
@@ -72,8 +74,13 @@ pub(crate) fn is_call<A: Allocator>(call: &Call<A>, number: u16) -> bool {
         && call.faults().is_empty()
 }
 
-/// The reply to it: each work is accepted, and so is its revision.
-pub(crate) fn reply_to(number: u16) -> Reply {
+/// Whether a refusal is for memory, and hands back the call with this number.
+pub fn gives_back<A: Allocator>(refused: &Refused<A>, number: u16) -> bool {
+    refused.why == WhyRefused::Memory && is_call(&refused.call, number)
+}
+
+/// The reply to the call with this number after those before it: each work is accepted, and so is its revision.
+pub fn reply_to(number: u16) -> Reply {
     Reply::Accepted {
         work: work_of(number) as u32,
         version: if number > WORKS { 2 } else { 1 },
@@ -119,7 +126,9 @@ fn is_entry<A: Allocator>(entry: &Entry<A>, session: u32, number: u16) -> Result
 
 /// The book, whose limit is 100, must hold the first `count` calls and their replies, those after the first `before` of
 /// session 1, the others of the opening; and it must tell what follows from them, and of no work more.
-pub(crate) fn holds<A: Allocator + Copy + Drop>(
+///
+/// Every reader of the book is asked. It fails at the first that tells something else, and says what.
+pub fn holds<A: Allocator + Copy + Drop>(
     book: &Book<A>,
     before: u16,
     count: u16,
@@ -140,10 +149,9 @@ pub(crate) fn holds<A: Allocator + Copy + Drop>(
 }
 
 /// A book with the first `count` calls, of the opening; `None` where memory was refused.
-pub(crate) fn book_of<A: Allocator + Copy + Drop>(
-    alloc: A,
-    count: u16,
-) -> Result<Option<Book<A>>, Fail> {
+///
+/// It fails where such a call is not lawful.
+pub fn book_of<A: Allocator + Copy + Drop>(alloc: A, count: u16) -> Result<Option<Book<A>>, Fail> {
     let mut book = Book::new(alloc, 100);
     for number in 1..count.saturating_add(1) {
         if book.apply(0, call(alloc, number)?).is_err() {
