@@ -227,7 +227,8 @@ impl<T: Wait + Abort> Sweep for HandIn<'_, T> {
         desk.meet(&mut opening, one);
         desk.meet(&mut opening, two);
         let book = desk.close(opening);
-        let is_refused = first_end? || second_end?;
+        let (is_first, is_second) = (first_end?, second_end?);
+        let is_refused = is_first || is_second;
         same("turns left", &left, &turns_left(is_refused))?;
         holds(&book, self.works, second)?;
         Ok(is_refused)
