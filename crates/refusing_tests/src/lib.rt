@@ -6,12 +6,16 @@ mod allocators;
 #[cfg(test)]
 mod answers;
 #[cfg(test)]
+mod array_locks;
+#[cfg(test)]
 mod control_records;
 #[cfg(test)]
 mod files;
 #[cfg(test)]
-mod locks;
+mod rooms;
 #[cfg(test)]
 mod texts;
+#[cfg(test)]
+mod ticket_locks;
 #[cfg(test)]
 mod work_records;
