@@ -6,28 +6,15 @@ printed, the status, each byte of the acknowledgement and of the register. Print
 run, and fails at the first answer that is another one."""
 import collections
 import os
-import subprocess
 import sys
 import tempfile
 
 from expected import Decided, acknowledgement, entry, register
+from measured import measured
 
 MOST_BYTES = 16_777_216
 STAMP = ["--society", "007", "--name", "MY SOCIETY", "--date", "20240601", "--time", "090000"]
 CREATED = b"20240501120000"
-
-# Runs a program and tells its seconds, its greatest memory in kilobytes and its status. A process of its own does so,
-# since a process begins with the greatest memory of the one that starts it.
-MEASURE = """
-import os, sys, time
-start = time.perf_counter()
-child = os.fork()
-if child == 0:
-    os.execv(sys.argv[2], sys.argv[2:])
-_, ended, used = os.wait4(child, 0)
-told = "%f %d %d" % (time.perf_counter() - start, used.ru_maxrss, os.waitstatus_to_exitcode(ended))
-os.write(int(sys.argv[1]), told.encode())
-"""
 
 # A file: its bytes, and its transactions as submitted, or the line of its first fault; and why it is not read, if it is not.
 File = collections.namedtuple("File", "name text works refused stopped", defaults=(None, None))
@@ -142,18 +129,13 @@ class Folder:
             return file.read() == wanted
 
     def run(self, what, words, status, printed, complained=b"", given=None):
-        told, telling = os.pipe()
-        measured = [sys.executable, "-S", "-E", "-c", MEASURE, str(telling), self.program, *words]
-        run = subprocess.run(measured, cwd=self.path, input=given or b"", capture_output=True, pass_fds=[telling], timeout=600)
-        os.close(telling)
-        seconds, kilobytes, ended = os.read(told, 100).split()
-        os.close(told)
-        got = (int(ended), run.stdout, run.stderr)
+        run = measured([self.program, *words], self.path, given or b"")
+        got = (run.status, run.printed, run.complained)
         wanted = (status, printed, complained)
         if got != wanted:
             shown = [[part if isinstance(part, int) else part[:300] for part in answer] for answer in (got, wanted)]
             sys.exit("%s: %r, where it must be %r" % (what, *shown))
-        print("%-44s %9.3f %9.1f" % (what, float(seconds), int(kilobytes) / 1e3), flush=True)
+        print("%-44s %9.3f %9.1f" % (what, run.seconds, run.memory / 1e6), flush=True)
 
     def want(self, name, wanted, what):
         if not self.holds(name, wanted):

@@ -19,6 +19,7 @@ from expected import Decided, entry, register
 NAME = "purvilgo"
 SECONDS = 20
 ROUNDS_ON_THREADS = 5
+LOCK = "new.register.lock"
 OLD_ACK, OLD_REGISTER = b"AN OLD ACKNOWLEDGEMENT\n", b"AN OLD REGISTER\n"
 STAMP = ["--society", "000", "--name", "CWR REGISTRY", "--date", "20240601", "--time", "090000"]
 NO_MEMORY = b"stopped: memory\n"
@@ -88,12 +89,16 @@ class Run:
 
     def kind(self, answer):
         if answer.printed == b"" and answer.complained == NO_MEMORY:
-            want(answer.status == 1 and answer.files == self.files, "status or files before any worker")
+            want(answer.status == 1 and self.is_unchanged(answer.files), "status or files before any worker")
             return "stopped: memory"
         if answer.printed == b"" and answer.complained == b"register: " + NO_MEMORY and self.opening is not None:
-            want(answer.status == 1 and answer.files == self.files, "status or files before any worker")
+            want(answer.status == 1 and self.is_unchanged(answer.files), "status or files before any worker")
             return "--from: memory"
         return self.kind_of_outcomes(answer)
+
+    def is_unchanged(self, files):
+        """Whether a run left all as it was, but for the empty file by which a register is locked."""
+        return files in (self.files, {**self.files, LOCK: b""} if self.to else None)
 
     def kind_of_outcomes(self, answer):
         """The kind of an answer after the workers have ended. One request was refused, so at most one thing differs."""
@@ -118,10 +123,14 @@ class Run:
         if answer.complained != b"":
             want(self.to and answer.complained == b"register: " + NO_MEMORY, "standard error")
             kinds.append("--to: memory")
+            # The acknowledgements are withheld.
+            files = dict(self.files)
         elif self.to:
             new = answer.files.get("new.register")
             want(any(new == register((self.opening or []) + order) for order in orders(made)), "the register")
             files["new.register"] = new
+        if self.to:
+            files[LOCK] = b""
         want(len(kinds) <= 1, "more went wrong than one refusal can do")
         want(answer.files == files, "an acknowledgement, or another file")
         want(answer.status == (1 if kinds else 0), "status")

@@ -7,8 +7,8 @@ import os
 import shutil
 import subprocess
 import sys
-import tempfile
-import time
+
+from measured import measured
 
 HERE = os.path.dirname(os.path.abspath(__file__))
 WORDS = ["run", "--society", "007", "--name", "SOCIETY", "--date", "20240601", "--time", "090000"]
@@ -18,14 +18,9 @@ CASES = [(16, 625, ""), (16, 62_500, ""), (63, 250, ""), (63, 1_000, "shared")]
 
 def timed(words, folder):
     """Runs a program in a folder: what it prints, its seconds, and its greatest memory in bytes."""
-    with tempfile.TemporaryFile() as printed:
-        start = time.perf_counter()
-        child = subprocess.Popen(words, cwd=folder, stdout=printed)
-        _, status, used = os.wait4(child.pid, 0)
-        seconds = time.perf_counter() - start
-        assert os.waitstatus_to_exitcode(status) == 0, (words, status)
-        printed.seek(0)
-        return printed.read().decode().splitlines(), seconds, used.ru_maxrss * 1024
+    run = measured(words, folder)
+    assert run.status == 0, (words, run.status)
+    return run.printed.decode().splitlines(), run.seconds, run.memory
 
 
 def tell(what, count, wanted, printed, seconds, memory):

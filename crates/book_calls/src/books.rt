@@ -1,5 +1,10 @@
 //! Twenty calls on ten works, and what a book must hold after each.
 
+ghost use Rattle.std.specs.Prelude.{◌≡◌, ◌↔◌, ◌<◌, ◌+◌, ◌∷◌, [], ℕ, IsTrue, IfOk, OnOk, Some, codes, length, slice_index_or};
+ghost use Rattle.work_registry.specs.EntryValue.{EntryValue};
+ghost use Rattle.work_registry.specs.declared.refused.WhyRefused.TheVariants.{Memory};
+ghost use Rattle.book_calls.specs.Calls.{title, work_numbered, key_of, kind_numbered, call_numbered, reply_numbered, session_numbered, entry_numbered};
+
 use cwr_sheets::same;
 use std::alloc::Allocator;
 use std::test::Fail;
@@ -16,7 +21,9 @@ pub const CALLS: u16 = 20;
 const WORKS: u16 = 10;
 
 /// The work of a call.
-fn work_of(number: u16) -> u16 {
+fn work_of(number: u16) -> u16
+    ensures { result ≡ work_numbered number }
+{
     if number > WORKS {
         number.saturating_sub(WORKS)
     } else {
@@ -25,14 +32,18 @@ fn work_of(number: u16) -> u16 {
 }
 
 /// The submitter's number of a work.
-fn key(work: u16) -> [u8; 14] {
+fn key(work: u16) -> [u8; 14]
+    ensures { result ≡ key_of work }
+{
     let mut key = *b"W00           ";
     key[1] = b'0' + (work / 10 % 10) as u8;
     key[2] = b'0' + (work % 10) as u8;
     key
 }
 
-fn kind_of(number: u16) -> WorkKind {
+fn kind_of(number: u16) -> WorkKind
+    ensures { result ≡ kind_numbered number }
+{
     if number > WORKS {
         WorkKind::Rev
     } else {
@@ -41,14 +52,18 @@ fn kind_of(number: u16) -> WorkKind {
 }
 
 /// What the call asks for of each right.
-fn control_of(number: u16) -> [u64; 3] {
+fn control_of(number: u16) -> [u64; 3]
+    ensures { result ≡ number ∷ number ∷ number ∷ [] }
+{
     [number as u64; 3]
 }
 
 /// The call with this number, from 1. The ISWC of a work is its number.
 ///
 /// It fails where such a call is not lawful.
-pub fn call<A: Allocator>(alloc: A, number: u16) -> Result<Call<A>, Fail> {
+pub fn call<A: Allocator>(alloc: A, number: u16) -> Result<Call<A>, Fail>
+    ensures { IfOk result (λ c. c ≡ call_numbered number) }
+{
     let work = work_of(number);
     let call = Call::of(
         SUBMITTER,
@@ -62,25 +77,37 @@ pub fn call<A: Allocator>(alloc: A, number: u16) -> Result<Call<A>, Fail> {
     Ok(call.ok_or("no call")?)
 }
 
-/// Whether this is the call with this number.
-fn is_call<A: Allocator>(call: &Call<A>, number: u16) -> bool {
-    let work = work_of(number);
+/// Whether a call is on this work.
+fn is_on<A: Allocator>(call: &Call<A>, work: u16) -> bool
+    ensures { IsTrue result ↔ ((call.now.submitter ≡ codes "PB000000123") × (call.now.title ≡ title) × (call.now.number ≡ key_of work) × (call.now.iswc ≡ Some work)) }
+{
     call.submitter() == SUBMITTER
-        && call.kind() == kind_of(number)
         && call.title() == TITLE
         && call.number() == key(work)
         && call.iswc() == Some(work as u64)
+}
+
+/// Whether this is the call with this number.
+fn is_call<A: Allocator>(call: &Call<A>, number: u16) -> bool
+    ensures { IsTrue result ↔ (call.now ≡ call_numbered number) }
+{
+    is_on(call, work_of(number))
+        && call.kind() == kind_of(number)
         && call.control() == control_of(number)
         && call.faults().is_empty()
 }
 
 /// Whether a refusal is for memory, and hands back the call with this number.
-pub fn gives_back<A: Allocator>(refused: &Refused<A>, number: u16) -> bool {
+pub fn gives_back<A: Allocator>(refused: &Refused<A>, number: u16) -> bool
+    ensures { IsTrue result ↔ (refused.now ≡ record { call = call_numbered number; why = Memory }) }
+{
     refused.why == WhyRefused::Memory && is_call(&refused.call, number)
 }
 
 /// The reply to the call with this number after those before it: each work is accepted, and so is its revision.
-pub fn reply_to(number: u16) -> Reply {
+pub fn reply_to(number: u16) -> Reply
+    ensures { result ≡ reply_numbered number }
+{
     Reply::Accepted {
         work: work_of(number) as u32,
         version: if number > WORKS { 2 } else { 1 },
@@ -117,9 +144,18 @@ fn knows<A: Allocator + Copy + Drop>(book: &Book<A>, work: u16, count: u16) -> R
     same("control", &book.control_of(work as u32), &control)
 }
 
-/// An entry must be of this session and of the call with this number.
-fn is_entry<A: Allocator>(entry: &Entry<A>, session: u32, number: u16) -> Result<(), Fail> {
-    same("session", &entry.session(), &session)?;
+/// The session of the call with this number: the opening up to the call `before`, and session 1 after it.
+fn session_of(before: u16, number: u16) -> u32
+    ensures { result ≡ session_numbered before number }
+{
+    if number > before { 1 } else { 0 }
+}
+
+/// An entry must be that of the call with this number, where those after the first `before` are of session 1.
+fn is_entry<A: Allocator>(entry: &Entry<A>, before: u16, number: u16) -> Result<(), Fail>
+    ensures { OnOk result (entry.now ≡ entry_numbered before number) }
+{
+    same("session", &entry.session(), &session_of(before, number))?;
     same("reply", &entry.reply(), &reply_to(number))?;
     same("its call", &is_call(entry.call(), number), &true)
 }
@@ -132,14 +168,18 @@ pub fn holds<A: Allocator + Copy + Drop>(
     book: &Book<A>,
     before: u16,
     count: u16,
-) -> Result<(), Fail> {
+) -> Result<(), Fail>
+    ensures limit { OnOk result (book.now.limit ≡ 100) }
+    ensures length { OnOk result (length book.now.history ≡ count) }
+    ensures entries { OnOk result ((k : ℕ) (d : EntryValue) → k < count → slice_index_or book.now.history k d ≡ entry_numbered before (k + 1)) }
+{
     same("limit", &book.limit(), &100)?;
     same("length", &book.len(), &(count as usize))?;
     same("opening", &book.is_opening(), &(before >= count))?;
     let mut number: u16 = 0;
     for entry in book.history() {
         number = number.saturating_add(1);
-        is_entry(entry, if number > before { 1 } else { 0 }, number)?;
+        is_entry(entry, before, number)?;
     }
     same("entries", &number, &count)?;
     for work in 1..12 {

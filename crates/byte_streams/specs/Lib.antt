@@ -3,3 +3,4 @@ pub mod Reads
 pub mod Feed
 pub mod Room
 pub mod Through
+pub mod GivenBytes

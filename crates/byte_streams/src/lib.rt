@@ -22,4 +22,4 @@ pub use reads::ReadCount;
 pub use room::Room;
 pub use sink::{Sink, WriteStopped, write_out};
 pub use source::Source;
-pub use through::Through;
+pub use through::{MOST_REPEATS, Through};

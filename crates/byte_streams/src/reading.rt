@@ -1,4 +1,5 @@
 ghost use Rattle.std.specs.Prelude.{◌≡◌, ◌+◌, ◌<◌, ◌≤◌, ◌↔◌, true, false, length, vec_len, IfOk, IfSome, IsErrOf};
+ghost use Rattle.byte_streams.specs.GivenBytes.{HasGiven};
 
 use crate::Source;
 use std::alloc::Allocator;
@@ -24,7 +25,8 @@ const PIECE: usize = 65536;
 /// Reads to the end, and at most `limit` bytes.
 ///
 /// It asks for 65,536 bytes at a time, so up to that many past the limit may have been read. It ends after at most
-/// `limit` + 2 reads, however few bytes each of them gives. With an error the bytes that were read are dropped.
+/// `limit` + 2 reads, however few bytes each of them gives. With an error the bytes that were read are dropped;
+/// the reader holds those behind them.
 pub fn read_file<R: Source, A: Allocator>(
     alloc: A,
     reader: &mut R,
@@ -35,6 +37,7 @@ pub fn read_file<R: Source, A: Allocator>(
     ensures fits { IfOk result (λ text. vec_len text ≤ limit) }
     ensures too_long { IsErrOf result ReadRefused.TooLong → IfSome (R.left reader.old) (λ bytes. limit < length bytes) }
     ensures failed { IsErrOf result ReadRefused.Read ↔ (R.has_failed reader.new ≡ true) }
+    ensures read_on { HasGiven (R.left reader.old) (R.left reader.new) }
     ensures few_reads { R.reads reader.new ≤ R.reads reader.old + limit + 2 }
 {
     let mut text = Vec::new(alloc);

@@ -3,12 +3,17 @@ ghost use Rattle.std.specs.Io.KnownBytes.{ReadConsumes, WriteAppends};
 ghost use Rattle.byte_streams.specs.Bytes.{stalls};
 
 use crate::{Failed, ReadCount, Sink, Source};
-use std::io::{Read, Write};
+use std::io::{self, ErrorKind, Read, Write};
 use std::marker::Model;
+
+/// How many more times [`Through`] makes a call of a reader or a writer that was interrupted.
+pub const MOST_REPEATS: u32 = 8;
 
 /// A source over a reader of std, and a sink over a writer of std.
 ///
-/// As a source or a sink it tells no bytes. Any error of the reader or the writer is a failure.
+/// As a source or a sink it tells no bytes. Each of its calls makes one call of the reader or the writer. Where that is
+/// interrupted ([`ErrorKind::Interrupted`]) it makes the call again, at most [`MOST_REPEATS`] times. Any other error is a
+/// failure at once, and so is an interruption after the last repeat: the reader or the writer is not called again.
 #[derive(Debug, Drop)]
 pub struct Through<T> {
     inner: T,
@@ -62,7 +67,7 @@ impl<T: Read> Source for Through<T> {
         self.failed
     }
 
-    /// Reads once from the reader.
+    /// Reads once from the reader, or again where that is interrupted.
     fn read_some(&mut self, room: &mut [u8]) -> Result<usize, Failed>
         requires { self.old.has_failed ≡ false }
         ensures bound { IfOk result (λ n. n ≤ length room.new) }
@@ -74,7 +79,7 @@ impl<T: Read> Source for Through<T> {
             (T.remaining self.old.inner) (T.remaining self.new.inner) result room.new }
     {
         self.reads.count();
-        match self.inner.read(room) {
+        match read_repeatedly(&mut self.inner, room) {
             Ok(n) => Ok(n),
             Err(_) => {
                 self.failed = true;
@@ -93,7 +98,7 @@ impl<T: Write> Sink for Through<T> {
         self.failed
     }
 
-    /// Writes once to the writer.
+    /// Writes once to the writer, or again where that is interrupted.
     fn write_some(&mut self, bytes: &[u8]) -> Result<usize, Failed>
         requires { self.old.has_failed ≡ false }
         ensures bound { IfOk result (λ n. n ≤ length bytes.now) }
@@ -103,7 +108,7 @@ impl<T: Write> Sink for Through<T> {
         ensures inner { WriteAppends
             (T.contents self.old.inner) (T.contents self.new.inner) result bytes.now }
     {
-        match self.inner.write(bytes) {
+        match write_repeatedly(&mut self.inner, bytes) {
             Ok(n) => {
                 self.failed = n == 0 && !bytes.is_empty();
                 Ok(n)
@@ -114,4 +119,32 @@ impl<T: Write> Sink for Through<T> {
             }
         }
     }
+}
+
+/// Reads once from a reader, and again as long as that is interrupted, up to the last repeat.
+fn read_repeatedly<T: Read>(reader: &mut T, room: &mut [u8]) -> io::Result<usize>
+    ensures bound { IfOk result (λ n. n ≤ length room.new) }
+    ensures bytes { ReadConsumes (T.remaining reader.old) (T.remaining reader.new) result room.new }
+{
+    for _ in 0..MOST_REPEATS {
+        match reader.read(room) {
+            Err(error) if error.kind() == ErrorKind::Interrupted => {}
+            answer => return answer,
+        }
+    }
+    reader.read(room)
+}
+
+/// Writes once to a writer, and again as long as that is interrupted, up to the last repeat.
+fn write_repeatedly<T: Write>(writer: &mut T, bytes: &[u8]) -> io::Result<usize>
+    ensures bound { IfOk result (λ n. n ≤ length bytes.now) }
+    ensures bytes { WriteAppends (T.contents writer.old) (T.contents writer.new) result bytes.now }
+{
+    for _ in 0..MOST_REPEATS {
+        match writer.write(bytes) {
+            Err(error) if error.kind() == ErrorKind::Interrupted => {}
+            answer => return answer,
+        }
+    }
+    writer.write(bytes)
 }

@@ -14,7 +14,7 @@ use Rattle.cwr_call.specs.declared.transaction_fault.Fault.{Fault}
 use Rattle.cwr_acknowledgement.specs.AckItem.{Item, told_faults}
 use Rattle.cwr_acknowledgement.specs.Messages.{message_text}
 use Rattle.cwr_acknowledgement.specs.Acknowledgement.{file_start, group_start, group_end, file_end, told_count, ended, ack_record, message_record, message_lines, all_item_lines, ack_text, FitsFault, IsWholeItem}
-use Rattle.cwr_record.proofs.Codes.{same_kind, same_status, length-work_kind_code, length-status_text}
+use Rattle.cwr_record.proofs.lemmas.Codes.{same_kind, same_status, length-work_kind_code, length-status_text}
 use Rattle.cwr_acknowledgement.proofs.AckTexts.{Fills, same_ended, same_number}
 use Rattle.cwr_acknowledgement.proofs.AckValues.{same_work, same_padded, length-padded, length-padded_work, length-message_text}
 

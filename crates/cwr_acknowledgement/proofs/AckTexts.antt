@@ -2,9 +2,9 @@
 use Rattle.std.proofs.Common.{◌≡◌, ◌∙◌, ℕ, ◌-◌, ◌<◌, ◌^◌, List, [], ◌∷◌, ◌++◌, length, Some, arith, ap, sym, append_assoc}
 use Rattle.std.proofs.lemmas.List.{append-nil, append_cancel_left}
 use Rattle.cwr_field.specs.Layout.{padded}
-use Rattle.cwr_field.proofs.SameFronts.{same_fronts}
+use Rattle.cwr_field.proofs.lemmas.SameFronts.{same_fronts}
 use Rattle.cwr_field.specs.Number.{number_of, number_text}
-use Rattle.cwr_field.proofs.DigitText.{number_of-number_text}
+use Rattle.cwr_field.proofs.lemmas.DigitText.{number_of-number_text}
 use Rattle.cwr_record.specs.Layout.{Part, Read, Kept, Written}
 use Rattle.cwr_record.specs.Lines.{spelling, line_of}
 use Rattle.cwr_acknowledgement.specs.Acknowledgement.{ended}

@@ -7,10 +7,10 @@ use Rattle.std.proofs.lemmas.Bool.Decides.{nat_tests}
 use Rattle.std.proofs.lemmas.List.{length-append, length-replicate}
 use Rattle.cwr_field.specs.Layout.{padded}
 use Rattle.cwr_field.specs.Number.{number_of}
-use Rattle.cwr_field.proofs.DigitText.{number_of-number_text}
+use Rattle.cwr_field.proofs.lemmas.DigitText.{number_of-number_text}
 use Rattle.cwr_acknowledgement.specs.Messages.{message_texts, message_text}
 use Rattle.cwr_acknowledgement.specs.Acknowledgement.{work_text}
-use Rattle.cwr_field.proofs.SameFronts.{same_fronts}
+use Rattle.cwr_field.proofs.lemmas.SameFronts.{same_fronts}
 
 pub first_of_text : List ℕ → ℕ
 first_of_text text = get_or text 0 0

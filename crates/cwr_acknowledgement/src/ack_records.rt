@@ -8,6 +8,7 @@ ghost use Rattle.cwr_acknowledgement.specs.Acknowledgement.{file_start, group_st
 use crate::ack_item::AckItem;
 use crate::messages::message_text;
 use cwr_call::Fault;
+use cwr_field::{filled, last_digits};
 use cwr_record::{Ack, FileTrailer, GroupHead, GroupTrailer, Header, Message, Prefix, Stamp};
 use std::alloc::Allocator;
 
@@ -89,31 +90,9 @@ fn recipient_number(work: Option<u32>) -> [u8; 20]
     ensures { result ≡ padded 20 (work_text work) }
 {
     match work {
-        Some(work) => filled(&eight_digits(work)),
+        Some(work) => filled(&last_digits::<8>(work as u64)),
         None => [b' '; 20],
     }
-}
-
-fn eight_digits(number: u32) -> [u8; 8]
-    ensures { result ≡ number_text 8 number }
-{
-    let mut digits = [b'0'; 8];
-    let mut rest = number;
-    for index in (0..8).rev() {
-        digits[index] = b'0' + (rest % 10) as u8;
-        rest /= 10;
-    }
-    digits
-}
-
-/// The text, filled with blanks.
-fn filled<const N: usize>(text: &[u8]) -> [u8; N]
-    requires { length text.now ≤ N }
-    ensures { result ≡ padded N text.now }
-{
-    let mut bytes = [b' '; N];
-    bytes[..text.len()].copy_from_slice(text);
-    bytes
 }
 
 /// The message that tells a fault, as the record `detail` of the transaction `index`.

@@ -1,5 +1,5 @@
 //! The acknowledgement file that answers a submission: [`ack_file`] is its text, for the registry's decision on each
-//! transaction, an [`AckItem`].
+//! transaction, an [`AckItem`]. [`message_text`] is the text of one fault in it.
 #![tactic(auto)]
 
 mod ack_item;
@@ -13,3 +13,4 @@ pub use acknowledgement::ack_file;
 pub use cwr_call::{Fault, Faults};
 pub use cwr_field::Memory;
 pub use cwr_record::{Header, Stamp, Status, WorkKind};
+pub use messages::message_text;

@@ -2,16 +2,19 @@
 use Rattle.std.specs.Prelude.{ℕ, Bool, true, false, not, ◌&&◌, ◌||◌, ◌==◌, nat_lt, nat_le, List, [], ◌∷◌, length, Option, Some, None}
 use Rattle.std.specs.List.{list_all}
 use Rattle.std.specs.Char.{is_ascii_uppercase}
+use Rattle.cwr_field.specs.Layout.{is_printable}
+use Rattle.cwr_field.specs.Number.{most_count}
+use Rattle.cwr_field.specs.Share.{most_whole}
 use Rattle.cwr_call.specs.declared.transaction_fault.Fault.{Fault}
 use Rattle.cwr_call.specs.CallValue.{CallValue}
 
--- no byte is below 32
+-- of a text in a call no byte is below 32
 abbrev pub is_clean : List ℕ → Bool
-is_clean bytes = list_all (λ b. nat_le 32 b) bytes
+is_clean bytes = is_printable bytes
 
 -- a sequence of at most eight digits, a number of a rule, and three capitals
 abbrev pub is_fault : Fault → Bool
-is_fault f = nat_le f.sequence 99999999 && (nat_le 1 f.number && nat_le f.number 15) && list_all is_ascii_uppercase f.rtype
+is_fault f = nat_le f.sequence most_count && (nat_le 1 f.number && nat_le f.number 15) && list_all is_ascii_uppercase f.rtype
 
 -- by sequence, and at one sequence by number
 abbrev pub is_before : Fault → Fault → Bool
@@ -39,7 +42,7 @@ are_at_most limit control = list_all (λ c. nat_le c limit) control
 
 -- without faults no right is controlled above the whole, with a tolerance of 0.06 per cent
 abbrev pub is_whole : List Fault → List ℕ → Bool
-is_whole faults control = not (is_none_found faults) || are_at_most 10006 control
+is_whole faults control = not (is_none_found faults) || are_at_most most_whole control
 
 abbrev pub is_iswc : Option ℕ → Bool
 is_iswc None = true

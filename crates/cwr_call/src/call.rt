@@ -3,6 +3,7 @@ ghost use Rattle.cwr_call.specs.Lawful.{is_lawful, is_clean, is_iswc, are_at_mos
 
 use crate::lawful;
 use crate::transaction_fault::{Fault, Faults};
+use cwr_field::is_printable;
 use cwr_record::WorkKind;
 use std::alloc::{Allocator, Global};
 use std::marker::Model;
@@ -56,9 +57,9 @@ impl<A: Allocator> Call<A> {
         ensures when { is_some result ≡ is_lawful (record { submitter = submitter; kind = kind; title = title; number = number; iswc = iswc; control = control; faults = faults }) }
         ensures value { IfSome result (λ c. c ≡ record { submitter = submitter; kind = kind; title = title; number = number; iswc = iswc; control = control; faults = faults }) }
     {
-        let is_lawful = lawful::is_clean(&submitter)
-            && lawful::is_clean(&title)
-            && lawful::is_clean(&number)
+        let is_lawful = is_printable(&submitter)
+            && is_printable(&title)
+            && is_printable(&number)
             && lawful::is_iswc(iswc)
             && lawful::are_at_most(999999990000, &control)
             && lawful::is_whole(faults.as_slice(), &control)

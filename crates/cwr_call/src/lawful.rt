@@ -1,16 +1,10 @@
 ghost use Rattle.std.specs.Prelude.{◌≡◌};
 ghost use Rattle.std.specs.List.{list_all};
 ghost use Rattle.std.specs.Char.{is_ascii_uppercase};
-ghost use Rattle.cwr_call.specs.Lawful.{is_clean, is_fault, is_before, rises, are_faults, are_at_most, is_whole, is_iswc};
+ghost use Rattle.cwr_call.specs.Lawful.{is_fault, is_before, rises, are_faults, are_at_most, is_whole, is_iswc};
 
 use crate::transaction_fault::Fault;
-
-/// Whether no byte is below 32.
-pub(crate) fn is_clean(bytes: &[u8]) -> bool
-    ensures { result ≡ is_clean bytes.now }
-{
-    bytes.iter().all(|byte| 32 <= *byte)
-}
+use cwr_field::{MOST_COUNT, MOST_WHOLE};
 
 /// Whether each byte is a capital, from A to Z.
 fn are_capitals(name: &[u8]) -> bool
@@ -23,7 +17,7 @@ fn are_capitals(name: &[u8]) -> bool
 fn is_fault(fault: &Fault) -> bool
     ensures { result ≡ is_fault fault.now }
 {
-    fault.sequence <= 99999999
+    fault.sequence <= MOST_COUNT
         && (1 <= fault.number && fault.number <= 15)
         && are_capitals(&fault.rtype)
 }
@@ -77,7 +71,7 @@ pub(crate) fn are_at_most(limit: u64, control: &[u64]) -> bool
 pub(crate) fn is_whole(faults: &[Fault], control: &[u64]) -> bool
     ensures { result ≡ is_whole faults.now control.now }
 {
-    !faults.is_empty() || are_at_most(10006, control)
+    !faults.is_empty() || are_at_most(MOST_WHOLE, control)
 }
 
 /// Whether the number has no more digits than an ISWC.

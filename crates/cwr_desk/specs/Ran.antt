@@ -1,17 +1,67 @@
 -- Jobs worked at one desk.
-use Rattle.std.specs.Prelude.{◌≡◌, ℕ, ◌+◌, Bool, List, [], ◌∷◌, ◌++◌}
+use Rattle.std.specs.Prelude.{◌≡◌, ◌≢◌, ℕ, ◌+◌, ◌≤◌, Bool, false, List, [], ◌∷◌, ◌++◌, reverse, All, Vec, vec_len, vec_capacity}
 use Rattle.work_registry.specs.EntryValue.{EntryValue}
+use Rattle.registry_desk.specs.Standing.{DeskId, Standing}
 use Rattle.registry_desk.specs.declared.view.Met.{Met}
+use Rattle.cwr_engine.specs.declared.jobs.Job.{Job}
 use Rattle.cwr_engine.specs.declared.outcome.FileOutcome.{FileOutcome}
+use Rattle.cwr_desk.specs.Sights.{saw_full}
 
 -- Jobs were worked at one desk, the first of them at the seat of the given session: of each job's seat the desk's opening
--- seat has learned the entries and the mark, with which the job has its account. The lists are the seats that the
--- opening seat had met before and has met after; the first job's seat was given first and met last.
-abbrev pub Ran : {J : Type 0} → (J → J → FileOutcome → Bool → List EntryValue → Type 0) → ℕ → List J → List J → List FileOutcome → List Met → List Met → Type 0
-Ran P session [] [] [] before after = after ≡ before
-Ran P session [] [] (o ∷ os) before after = ⊥
-Ran P session [] (k ∷ ks) os before after = ⊥
-Ran P session (j ∷ js) [] os before after = ⊥
-Ran P session (j ∷ js) (k ∷ ks) [] before after = ⊥
-Ran P session (j ∷ js) (k ∷ ks) (o ∷ os) before after =
-    (between : List Met) × (m : Met) × Ran P (session + 1) js ks os before between × (after ≡ between ++ m ∷ []) × (m.session ≡ session) × P j k o m.marked m.list
+-- seat has learned the entries and the history that it saw last, with which the job has its account. The lists are the
+-- seats that the opening seat had met before and has met after; the first job's seat was given first and met last.
+abbrev pub Ran : {J : Type 0} → (J → J → FileOutcome → Bool → List EntryValue → Type 0) → ℕ → ℕ → List J → List J → List FileOutcome → List Met → List Met → Type 0
+Ran P limit session [] [] [] before after = after ≡ before
+Ran P limit session [] [] (o ∷ os) before after = ⊥
+Ran P limit session [] (k ∷ ks) os before after = ⊥
+Ran P limit session (j ∷ js) [] os before after = ⊥
+Ran P limit session (j ∷ js) (k ∷ ks) [] before after = ⊥
+Ran P limit session (j ∷ js) (k ∷ ks) (o ∷ os) before after =
+    (between : List Met) × (m : Met) × Ran P limit (session + 1) js ks os before between × (after ≡ between ++ m ∷ []) × (m.session ≡ session)
+    × P j k o (saw_full limit m.front) m.list
+
+-- what it asks to work a job: a seat of this desk, not the opening one, that has taken no turn; a reader and a writer
+-- that have not failed
+pub record MayWork {R W : Type 0} (read_failed : R → Bool) (write_failed : W → Bool) (desk : DeskId) (seat : Standing) (job : Job R W) : Type 0 where
+  pub ours : seat.desk ≡ desk
+  pub guest : seat.view.session ≢ 0
+  pub turns : seat.view.turns ≡ 0
+  pub list : seat.view.list ≡ []
+  pub reads : read_failed job.reader ≡ false
+  pub writes : write_failed job.writer ≡ false
+
+-- what that leaves: the seat, which tells the job's entries and the history that it saw last, with which the job has its
+-- account
+pub record HasWorked {J : Type 0} (P : J → J → FileOutcome → Bool → List EntryValue → Type 0) (desk : DeskId) (seat seat_after : Standing)
+    (job job_after : J) (outcome : FileOutcome) : Type 0 where
+  pub ours : seat_after.desk ≡ desk
+  pub session : seat_after.view.session ≡ seat.view.session
+  pub limit : seat_after.view.limit ≡ seat.view.limit
+  pub account : P job job_after outcome (saw_full seat.view.limit seat_after.view.front) seat_after.view.list
+
+-- what it asks to work jobs: the opening seat of this desk, with a seat left for each; readers and writers that have not
+-- failed; and room for the outcomes, of which there are none yet
+pub record MayRun {R W Z : Type 0} (read_failed : R → Bool) (write_failed : W → Bool) (desk : DeskId) (opening : Standing)
+    (jobs : Vec (Job R W) Z) (outcomes : Vec FileOutcome Z) : Type 0 where
+  pub ours : opening.desk ≡ desk
+  pub session : opening.view.session ≡ 0
+  pub seats : vec_len jobs ≤ opening.view.left
+  pub works : All (λ j. (read_failed j.reader ≡ false) × (write_failed j.writer ≡ false)) jobs.items
+  pub none : outcomes.items ≡ []
+  pub room : vec_len jobs ≤ vec_capacity outcomes
+
+-- what that leaves: the opening seat, which has given a seat for each job and met it; the jobs and their outcomes, the
+-- last job first, in lists with the room that they had
+pub record HaveRun {J Z : Type 0} (P : J → J → FileOutcome → Bool → List EntryValue → Type 0) (desk : DeskId) (opening opening_after : Standing)
+    (jobs jobs_after : Vec J Z) (outcomes outcomes_after : Vec FileOutcome Z) : Type 0 where
+  pub ours : opening_after.desk ≡ desk
+  pub session : opening_after.view.session ≡ 0
+  pub given : opening_after.view.given ≡ opening.view.given + vec_len jobs
+  pub opened : opening_after.view.opened ≡ opening.view.opened
+  pub limit : opening_after.view.limit ≡ opening.view.limit
+  pub ran : Ran P opening.view.limit (opening.view.given + 1) (reverse jobs.items) (reverse jobs_after.items) (reverse outcomes_after.items)
+      opening.view.met opening_after.view.met
+  pub job_count : vec_len jobs_after ≡ vec_len jobs
+  pub job_room : vec_capacity jobs ≤ vec_capacity jobs_after
+  pub outcome_count : vec_len outcomes_after ≡ vec_len jobs
+  pub outcome_room : vec_capacity outcomes ≤ vec_capacity outcomes_after

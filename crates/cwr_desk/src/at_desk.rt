@@ -1,10 +1,13 @@
 //! A window at the running desk.
-ghost use Rattle.std.specs.Prelude.{◌≡◌, ◌≢◌, ◌≤◌, ◌+◌, ◌-◌, ◌++◌, ◌∷◌, [], None, true, IfOk, IfErr, OnErr};
+ghost use Rattle.std.specs.Prelude.{◌≡◌, ◌≢◌, ◌≤◌, ◌↔◌, ◌+◌, ◌-◌, ◌∷◌, [], Some, true, IfOk, IfErr, OnOk, OnErr};
 ghost use Rattle.registry_desk.specs.Standing.{DeskId};
 ghost use Rattle.registry_desk.specs.Views.{most_turns};
 ghost use Rattle.work_registry.specs.Numbers.{IsNumbered};
+ghost use Rattle.work_registry.specs.Refusals.{is_for_limit};
 ghost use Rattle.work_registry.specs.declared.refused.WhyRefused.TheVariants.{Full};
-ghost use Rattle.cwr_engine.specs.Handing.{Follows, entry_with};
+ghost use Rattle.cwr_engine.specs.Causes.{marked_by};
+ghost use Rattle.cwr_engine.specs.Handing.{HasGained, entry_with};
+ghost use Rattle.cwr_desk.specs.Sights.{entries_of, saw_full};
 
 use cwr_engine::Window;
 use registry_desk::{Desk, Seat};
@@ -27,13 +30,13 @@ impl<'a, T: Wait, A: Allocator + Copy + Drop> Window<Call<A>> for AtDesk<'a, T, 
 
     ghost turns_left = { λ s. most_turns - s.seat.view.turns };
 
-    ghost list = { λ s. s.seat.view.list };
+    ghost entries = { λ s. entries_of s.seat.view };
 
-    ghost marked = { λ s. s.seat.view.marked };
+    ghost full = { λ s. saw_full s.seat.view.limit s.seat.view.front };
 
-    ghost whole = { λ _. None };
+    ghost mark = { λ s. Some s.seat.view.marked };
 
-    ghost limit = { λ _. None };
+    ghost limit = { λ s. s.seat.view.limit };
 
     ghost Home = { DeskId };
 

@@ -1,10 +1,10 @@
 //! Jobs at one desk, each on a thread of its own.
-ghost use Rattle.std.specs.Prelude.{All, IfOk, IfErr, reverse, ◌≡◌, ◌≢◌, ◌+◌, ◌<◌, ◌≤◌, [], false, true, vec_len, vec_capacity};
+ghost use Rattle.std.specs.Prelude.{All, IfOk, IfErr, ◌≡◌, ◌<◌, false, true, vec_len};
 ghost use Rattle.std.specs.Thread.{IsSync};
 ghost use Rattle.work_registry.specs.Replay.{is_opening};
 ghost use Rattle.cwr_engine.specs.Account.{JobAccount};
 ghost use Rattle.cwr_engine.specs.Whole.{IsRun};
-ghost use Rattle.cwr_desk.specs.Ran.{Ran};
+ghost use Rattle.cwr_desk.specs.Ran.{MayWork, HasWorked, MayRun, HaveRun};
 
 use crate::working::work_job;
 use byte_streams::{Sink, Source};
@@ -39,7 +39,7 @@ pub fn serve<
     requires few { vec_len jobs < 64 }
     requires opening { is_opening book.history ≡ true }
     requires works { All (λ j. (R.has_failed j.reader ≡ false) × (W.has_failed j.writer ≡ false)) jobs.items }
-    ensures run { IfOk result (λ run. IsRun (JobAccount R.has_failed W.has_failed R.left W.taken stamp.now (G.may_shut gate.now))
+    ensures run { IfOk result (λ run. IsRun (JobAccount R.has_failed W.has_failed R.left R.reads W.taken stamp.now (G.may_shut gate.now))
         book run.book jobs.items run.jobs.items run.outcomes.items) }
     ensures back { IfErr result (λ back. (back.book ≡ book) × (back.jobs.items ≡ jobs.items)) }
 {
@@ -86,20 +86,9 @@ fn serve_from<
     stamp: &Stamp,
     gate: &G,
 ) -> (Seat<A>, Vec<Job<R, W>, A>, Vec<FileOutcome, A>)
-    requires desk { opening.desk ≡ desk.now }
-    requires opening { opening.view.session ≡ 0 }
-    requires seats { vec_len jobs ≤ opening.view.left }
-    requires works { All (λ j. (R.has_failed j.reader ≡ false) × (W.has_failed j.writer ≡ false)) jobs.items }
-    requires none { outcomes.items ≡ [] }
-    requires room { vec_len jobs ≤ vec_capacity outcomes }
-    ensures desk { result.0.desk ≡ desk.now }
-    ensures session { result.0.view.session ≡ 0 }
-    ensures given { result.0.view.given ≡ opening.view.given + vec_len jobs }
-    ensures kept { (result.0.view.opened ≡ opening.view.opened) × (result.0.view.limit ≡ opening.view.limit) }
-    ensures ran { Ran (JobAccount R.has_failed W.has_failed R.left W.taken stamp.now (G.may_shut gate.now))
-        (opening.view.given + 1) (reverse jobs.items) (reverse result.1.items) (reverse result.2.items) opening.view.met result.0.view.met }
-    ensures jobs { (vec_len result.1 ≡ vec_len jobs) × (vec_capacity jobs ≤ vec_capacity result.1) }
-    ensures outcomes { (vec_len result.2 ≡ vec_len jobs) × (vec_capacity outcomes ≤ vec_capacity result.2) }
+    requires ready { MayRun R.has_failed W.has_failed desk.now opening jobs outcomes }
+    ensures ran { HaveRun (JobAccount R.has_failed W.has_failed R.left R.reads W.taken stamp.now (G.may_shut gate.now))
+        desk.now opening result.0 jobs result.1 outcomes result.2 }
 {
     match jobs.pop() {
         None => (opening, jobs, outcomes),
@@ -108,22 +97,14 @@ fn serve_from<
             let ((seat, job, outcome), (mut opening, mut jobs, mut outcomes)) = join(
                 rt,
                 move || -> (Seat<A>, Job<R, W>, FileOutcome)
-                    requires { (seat.desk ≡ desk.now) × (seat.view.session ≢ 0) × (seat.view.turns ≡ 0) × (seat.view.list ≡ [])
-                        × (R.has_failed job.reader ≡ false) × (W.has_failed job.writer ≡ false) }
-                    ensures { (result.0.desk ≡ desk.entry.now) × (result.0.view.session ≡ seat.view.session)
-                        × JobAccount R.has_failed W.has_failed R.left W.taken stamp.entry.now (G.may_shut gate.entry.now)
-                        job result.1 result.2 result.0.view.marked result.0.view.list }
+                    requires { MayWork R.has_failed W.has_failed desk.now seat job }
+                    ensures { HasWorked (JobAccount R.has_failed W.has_failed R.left R.reads W.taken stamp.entry.now (G.may_shut gate.entry.now))
+                        desk.entry.now seat result.0 job result.1 result.2 }
                 { work_job(rt, alloc, desk, seat, job, stamp, gate) },
                 move || -> (Seat<A>, Vec<Job<R, W>, A>, Vec<FileOutcome, A>)
-                    requires { IsSync T.row × IsSync G.row × (opening.desk ≡ desk.now) × (opening.view.session ≡ 0) × (vec_len jobs ≤ opening.view.left)
-                        × All (λ j. (R.has_failed j.reader ≡ false) × (W.has_failed j.writer ≡ false)) jobs.items
-                        × (outcomes.items ≡ []) × (vec_len jobs ≤ vec_capacity outcomes) }
-                    ensures { (result.0.desk ≡ desk.entry.now) × (result.0.view.session ≡ 0) × (result.0.view.given ≡ opening.view.given + vec_len jobs)
-                        × (result.0.view.opened ≡ opening.view.opened) × (result.0.view.limit ≡ opening.view.limit)
-                        × Ran (JobAccount R.has_failed W.has_failed R.left W.taken stamp.entry.now (G.may_shut gate.entry.now))
-                        (opening.view.given + 1) (reverse jobs.items) (reverse result.1.items) (reverse result.2.items) opening.view.met result.0.view.met
-                        × (vec_len result.1 ≡ vec_len jobs) × (vec_capacity jobs ≤ vec_capacity result.1)
-                        × (vec_len result.2 ≡ vec_len jobs) × (vec_capacity outcomes ≤ vec_capacity result.2) }
+                    requires { IsSync T.row × IsSync G.row × MayRun R.has_failed W.has_failed desk.now opening jobs outcomes }
+                    ensures { HaveRun (JobAccount R.has_failed W.has_failed R.left R.reads W.taken stamp.entry.now (G.may_shut gate.entry.now))
+                        desk.entry.now opening result.0 jobs result.1 outcomes result.2 }
                 { serve_from(rt, alloc, desk, opening, jobs, outcomes, stamp, gate) },
             );
             desk.meet(&mut opening, seat);

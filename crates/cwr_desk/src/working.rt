@@ -1,8 +1,11 @@
 //! One job at a seat of the running desk.
-ghost use Rattle.std.specs.Prelude.{◌≡◌, ◌≢◌, ◌≤◌, ◌+◌, [], false, None};
+ghost use Rattle.std.specs.Prelude.{◌≡◌, ◌≢◌, ◌≤◌, ◌+◌, Some, false};
 ghost use Rattle.registry_desk.specs.Views.{most_turns};
 ghost use Rattle.cwr_engine.specs.Account.{JobAccount};
+ghost use Rattle.cwr_engine.specs.Causes.{ends_full, marked_by};
 ghost use Rattle.cwr_engine.specs.Handing.{IsWorked};
+ghost use Rattle.cwr_desk.specs.Ran.{MayWork, HasWorked};
+ghost use Rattle.cwr_desk.specs.Sights.{entries_of, saw_full};
 
 use crate::at_desk::AtDesk;
 use byte_streams::{Sink, Source};
@@ -17,7 +20,8 @@ use std::sync::Wait;
 ///
 /// The seat is one of this desk, not the opening one, and has at least 99,999,995 turns left, one for each transaction
 /// that a file may have; `worker` is its session. A transaction that gets no reply ends the job, and the entries made
-/// before it stay. It waits whenever another seat is inside.
+/// before it stay. The seat comes back with the outcome, marked where the book was full for the job and else as it was.
+/// It waits whenever another seat is inside.
 ///
 /// That the gate is passed before and after each transaction is tested only. What is promised is that a job stops for
 /// the gate only where the gate may shut, and with a transaction of the file left.
@@ -40,9 +44,20 @@ pub fn work<T: Wait, R: Source, W: Sink, G: Gate, A: Allocator + Copy + Drop>(
     requires writes { W.has_failed writer.old ≡ false }
     ensures desk { result.0.desk ≡ desk.now }
     ensures session { result.0.view.session ≡ seat.view.session }
-    ensures worked { IsWorked seat.view.session
-        (record { read_failed = R.has_failed reader.new; write_failed = W.has_failed writer.new; full = result.0.view.marked; may_shut = G.may_shut gate.now })
-        stamp.now (R.left reader.old) (W.taken writer.old) (W.taken writer.new) result.1 seat.view.list result.0.view.list None None }
+    ensures limit { result.0.view.limit ≡ seat.view.limit }
+    ensures marked { Some result.0.view.marked ≡ marked_by (ends_full result.1) (Some seat.view.marked) }
+    ensures worked { IsWorked seat.view.session (record {
+      left_before = R.left reader.old;
+      left_after = R.left reader.new;
+      reads_before = R.reads reader.old;
+      reads_after = R.reads reader.new;
+      taken_before = W.taken writer.old;
+      taken_after = W.taken writer.new;
+      read_failed = R.has_failed reader.new;
+      write_failed = W.has_failed writer.new;
+      full = saw_full seat.view.limit result.0.view.front;
+      may_shut = G.may_shut gate.now;
+    }) stamp.now result.1 (entries_of seat.view) (entries_of result.0.view) }
 {
     let window = AtDesk { rt, desk, seat };
     let (window, outcome) = work_file(alloc, window, gate, worker, reader, writer, stamp);
@@ -70,14 +85,9 @@ pub(crate) fn work_job<
     stamp: &Stamp,
     gate: &G,
 ) -> (Seat<A>, Job<R, W>, FileOutcome)
-    requires desk { seat.desk ≡ desk.now }
-    requires guest { seat.view.session ≢ 0 }
-    requires fresh { (seat.view.turns ≡ 0) × (seat.view.list ≡ []) }
-    requires works { (R.has_failed job.reader ≡ false) × (W.has_failed job.writer ≡ false) }
-    ensures desk { result.0.desk ≡ desk.now }
-    ensures session { result.0.view.session ≡ seat.view.session }
-    ensures account { JobAccount R.has_failed W.has_failed R.left W.taken stamp.now (G.may_shut gate.now)
-        job result.1 result.2 result.0.view.marked result.0.view.list }
+    requires ready { MayWork R.has_failed W.has_failed desk.now seat job }
+    ensures worked { HasWorked (JobAccount R.has_failed W.has_failed R.left R.reads W.taken stamp.now (G.may_shut gate.now))
+        desk.now seat result.0 job result.1 result.2 }
 {
     let worker = seat.session();
     let (seat, outcome) = work(

@@ -6,6 +6,7 @@ use Rattle.std.proofs.lemmas.List.Sums.{sum_by-cons}
 use Rattle.std.specs.Io.KnownBytes.{Appends}
 use Rattle.std.specs.List.{AllByRecursion}
 use Rattle.std.specs.Str.Lines.{lines}
+use Rattle.byte_streams.specs.GivenBytes.{HasGiven}
 use Rattle.cwr_record.specs.Stamp.{StampParts}
 use Rattle.cwr_record.specs.declared.control.Header.{Header}
 use Rattle.cwr_acknowledgement.specs.AckItem.{Item, told_faults, is_rejected}
@@ -19,9 +20,9 @@ use Rattle.cwr_rules.specs.Calls.{call_of}
 use Rattle.work_registry.specs.EntryValue.{EntryValue}
 use Rattle.work_registry.specs.Replay.{calls_of}
 use Rattle.work_registry.specs.Told.{status_in}
-use Rattle.cwr_engine.specs.Account.{most, Signs, Account, IsAccount, IsRead, IsMadeOf, IsMadeOfAll, Gives}
-use Rattle.cwr_engine.specs.Causes.{cause_of, IsCause}
-use Rattle.cwr_engine.specs.Handing.{AreAnswered, IsWorked}
+use Rattle.cwr_engine.specs.Account.{most, Ends, Account, IsAccount, IsRead, IsMadeOf, IsMadeOfAll, Gives}
+use Rattle.cwr_engine.specs.Causes.{cause_of, ends_full, IsCause}
+use Rattle.cwr_engine.specs.Handing.{Entries, AreAnswered, IsWorked}
 use Rattle.cwr_engine.specs.Items.{item_of, items_of, calls_in}
 use Rattle.byte_streams.specs.declared.reading.ReadRefused.{ReadRefused}
 use Rattle.byte_streams.specs.declared.reading.ReadRefused.TheVariants as unread
@@ -29,7 +30,7 @@ use Rattle.cwr_engine.specs.declared.outcome.FileOutcome.{FileOutcome}
 use Rattle.cwr_engine.specs.declared.outcome.FileOutcome.TheVariants.{Acked, Refused, Stopped}
 use Rattle.cwr_engine.specs.declared.outcome.Why.{Why}
 use Rattle.cwr_engine.specs.declared.outcome.Why.TheVariants.{Memory, Full, Read, TooLong, Gate, Write}
-use Rattle.cwr_engine.proofs.Answering.{Follows-none}
+use Rattle.cwr_engine.proofs.Answering.{gained_none}
 use Rattle.cwr_engine.proofs.CallSizes.{few_faults}
 
 -- ---- what was read
@@ -59,9 +60,9 @@ items_few [] made = omega arith
 items_few (t ∷ ts) [] = omega arith
 items_few (t ∷ ts) (e ∷ made) = let h = items_few ts made in omega (arith, h)
 
-pub few_items : (session : ℕ) (submitter : List ℕ) (ts : List RawParts) (list list' : List EntryValue) (whole whole' : Option (List EntryValue)) (items : List Item)
-    → AreAnswered session submitter ts list list' whole whole' items → length items ≤ length ts
-few_items session submitter ts list list' whole whole' items so_far =
+pub few_items : (session : ℕ) (submitter : List ℕ) (ts : List RawParts) (items : List Item) (before after : Entries)
+    → AreAnswered session submitter ts items before after → length items ≤ length ts
+few_items session submitter ts items before after so_far =
     let few = items_few ts so_far.made in let same = ap length so_far.told in omega (arith, few, same)
 
 told_few : (rejected : Bool) (faults : List Fault) → length (cond rejected faults []) ≤ length faults
@@ -85,9 +86,9 @@ told_in submitter (t ∷ ts) (e ∷ made) all is =
     omega (arith, rest, sum, here, same, few, some)
 
 -- the acknowledgement of what was handed in has eight digits for its records
-pub few_told : (session : ℕ) (head : Header) (ts : List RawParts) (list list' : List EntryValue) (whole whole' : Option (List EntryValue)) (items : List Item)
-    → IsBounded most head ts → AreAnswered session head.sender ts list list' whole whole' items → length items + told_count items ≤ 99999995
-few_told session head ts list list' whole whole' items bounds so_far =
+pub few_told : (session : ℕ) (head : Header) (ts : List RawParts) (items : List Item) (before after : Entries)
+    → IsBounded most head ts → AreAnswered session head.sender ts items before after → length items + told_count items ≤ 99999995
+few_told session head ts items before after bounds so_far =
     let few = told_in head.sender ts so_far.made bounds.placed so_far.calls in
     let all = few_in_all head ts bounds in
     subst (λ (l : List Item). length l + told_count l ≤ 99999995) (sym so_far.told) (omega (arith, few, all))
@@ -120,41 +121,49 @@ long_input (Some bytes) n h = (bytes, refl, h)
 
 -- ---- a job that handed nothing in
 
-module _ (session : ℕ) (s : Signs) (stamp : StampParts) (left taken : Option (List ℕ)) (list : List EntryValue) (whole : Option (List EntryValue)) where
-  nothing_made : (outcome : FileOutcome) (input : List ℕ) → Gives left input → Account s stamp input outcome [] []
-      → IsWorked session s stamp left taken taken outcome list list whole whole
+module _ (session : ℕ) (ends : Ends) (stamp : StampParts) (before : Entries) (unwritten : Appends ends.taken_before ends.taken_after [])
+    (read_on : HasGiven ends.left_before ends.left_after) (few_reads : ends.reads_after ≤ ends.reads_before + most + 2) where
+  nothing_made : (outcome : FileOutcome) (input : List ℕ) → Gives ends.left_before input → Account ends stamp input outcome [] []
+      → IsWorked session ends stamp outcome before before
   nothing_made outcome input given account = record {
     made = [];
-    grown = sym (append-nil list);
-    follows = Follows-none session whole;
-    account = record { input = input; written = []; given = given; appended = Appends-nil taken; account = account };
+    gained = gained_none session before;
+    account = record { input = input; written = []; given = given; read_on = read_on; few_reads = few_reads; appended = unwritten; account = account };
   }
 
   -- its file was not read
-  pub not_read : (why : ReadRefused) → (why ≡ unread.TooLong → IfSome left (λ bytes. most < length bytes)) → (why ≡ unread.Read → s.read_failed ≡ true)
-      → IsWorked session s stamp left taken taken (Stopped 0 (cause_of why)) list list whole whole
+  pub not_read : (why : ReadRefused) → (why ≡ unread.TooLong → IfSome ends.left_before (λ bytes. most < length bytes)) → (why ≡ unread.Read → ends.read_failed ≡ true)
+      → IsWorked session ends stamp (Stopped 0 (cause_of why)) before before
   not_read unread.Memory long failed =
-      let i = some_input left in nothing_made (Stopped 0 Memory) i.0 i.1 (refl, (refl, λ h. absurd (omega arith)))
-  not_read unread.Read long failed = let i = some_input left in nothing_made (Stopped 0 (cause_of unread.Read)) i.0 i.1 (refl, (refl, refl, failed refl))
+      let i = some_input ends.left_before in nothing_made (Stopped 0 Memory) i.0 i.1 (refl, (refl, λ h. absurd (omega arith)))
+  not_read unread.Read long failed = let i = some_input ends.left_before in nothing_made (Stopped 0 (cause_of unread.Read)) i.0 i.1 (refl, (refl, refl, failed refl))
   not_read unread.TooLong long failed =
-      let i = long_input left most (long refl) in nothing_made (Stopped 0 (cause_of unread.TooLong)) i.0 i.1 (refl, (refl, refl, i.2))
+      let i = long_input ends.left_before most (long refl) in nothing_made (Stopped 0 (cause_of unread.TooLong)) i.0 i.1 (refl, (refl, refl, i.2))
 
   -- there was no memory before the first transaction
-  pub not_begun : IsWorked session s stamp left taken taken (Stopped 0 Memory) list list whole whole
-  not_begun = let i = some_input left in nothing_made (Stopped 0 Memory) i.0 i.1 (refl, (refl, λ h. absurd (omega arith)))
+  pub not_begun : IsWorked session ends stamp (Stopped 0 Memory) before before
+  not_begun = let i = some_input ends.left_before in nothing_made (Stopped 0 Memory) i.0 i.1 (refl, (refl, λ h. absurd (omega arith)))
 
 -- ---- a job that handed transactions of a file in
 
-module _ (session : ℕ) (s : Signs) (stamp : StampParts) (left taken after : Option (List ℕ)) (list list' : List EntryValue) (whole whole' : Option (List EntryValue))
-    (input : List ℕ) (head : Header) (ts : List RawParts) (items : List Item) (given : IfSome left (λ bytes. input ≡ bytes)) (read : IsRead input head ts)
-    (so_far : AreAnswered session head.sender ts list list' whole whole' items) (n : ℕ) (count : n ≡ length items) where
-  ended : (outcome : FileOutcome) (written : List ℕ) → Appends taken after written → Account s stamp input outcome written so_far.made
-      → IsWorked session s stamp left taken after outcome list list' whole whole'
+module _ (session : ℕ) (ends : Ends) (stamp : StampParts) (before after : Entries) (input : List ℕ) (head : Header) (ts : List RawParts) (items : List Item)
+    (given : IfSome ends.left_before (λ bytes. input ≡ bytes)) (read_on : HasGiven ends.left_before ends.left_after)
+    (few_reads : ends.reads_after ≤ ends.reads_before + most + 2) (read : IsRead input head ts) (so_far : AreAnswered session head.sender ts items before after)
+    (n : ℕ) (count : n ≡ length items) where
+  ended : (outcome : FileOutcome) (written : List ℕ) → Appends ends.taken_before ends.taken_after written → Account ends stamp input outcome written so_far.made
+      → IsWorked session ends stamp outcome before after
   ended outcome written appended account = record {
     made = so_far.made;
-    grown = so_far.grown;
-    follows = so_far.follows;
-    account = record { input = input; written = written; given = given_whole left input given; appended = appended; account = account };
+    gained = so_far.gained;
+    account = record {
+      input = input;
+      written = written;
+      given = given_whole ends.left_before input given;
+      read_on = read_on;
+      few_reads = few_reads;
+      appended = appended;
+      account = account;
+    };
   }
 
   handed : n ≡ length so_far.made
@@ -164,8 +173,8 @@ module _ (session : ℕ) (s : Signs) (stamp : StampParts) (left taken after : Op
   part = record { head = head; transactions = ts; read = read; calls = so_far.calls }
 
   -- a transaction got no reply
-  pub handed_some : (why : Why) → Appends taken after [] → length items < length ts → IsCause s.full s.may_shut why
-      → IsWorked session s stamp left taken after (Stopped n why) list list' whole whole'
+  pub handed_some : (why : Why) → Appends ends.taken_before ends.taken_after [] → length items < length ts → IsCause ends.full ends.may_shut why
+      → IsWorked session ends stamp (Stopped n why) before after
   handed_some Memory none some cause =
       ended (Stopped n Memory) [] none (handed, (refl, λ _. part))
   handed_some Full none some cause =
@@ -177,7 +186,7 @@ module _ (session : ℕ) (s : Signs) (stamp : StampParts) (left taken after : Op
   handed_some (Write sent) none some cause = absurd cause
 
   -- all got replies, and then there was no memory for the acknowledgement
-  pub no_text : Appends taken after [] → IsWorked session s stamp left taken after (Stopped n Memory) list list' whole whole'
+  pub no_text : Appends ends.taken_before ends.taken_after [] → IsWorked session ends stamp (Stopped n Memory) before after
   no_text none =
       ended (Stopped n Memory) [] none (handed, (refl, λ _. part))
 
@@ -195,12 +204,12 @@ module _ (session : ℕ) (s : Signs) (stamp : StampParts) (left taken after : Op
     told : text ≡ ack_text stamp head (items_of ts so_far.made)
     told = is ∙ ap (ack_text stamp head) so_far.told
 
-    pub acked : Appends taken after text → IsWorked session s stamp left taken after (Acked n) list list' whole whole'
+    pub acked : Appends ends.taken_before ends.taken_after text → IsWorked session ends stamp (Acked n) before after
     acked sent =
         ended (Acked n) text sent (record { whole = entire; transaction_count = handed; text = told })
 
-    pub cut_off : (k : ℕ) → Appends taken after (take k text) → k < length text → s.write_failed ≡ true
-        → IsWorked session s stamp left taken after (Stopped n (Write k)) list list' whole whole'
+    pub cut_off : (k : ℕ) → Appends ends.taken_before ends.taken_after (take k text) → k < length text → ends.write_failed ≡ true
+        → IsWorked session ends stamp (Stopped n (Write k)) before after
     cut_off k sent fewer failed =
         ended (Stopped n (Write k)) (take k text) sent (
           handed,
@@ -212,20 +221,47 @@ module _ (session : ℕ) (s : Signs) (stamp : StampParts) (left taken after : Op
           },
         )
 
+-- ---- the history, in an account
+
 -- an account of a time at which the history was full is one of any later time
-pub account_full : (read_failed write_failed may_shut a b : Bool) (stamp : StampParts) (left taken after : Option (List ℕ)) (o : FileOutcome) (made : List EntryValue)
-    → (a ≡ true → b ≡ true)
-    → IsAccount (record { read_failed = read_failed; write_failed = write_failed; full = a; may_shut = may_shut }) stamp left taken after o made
-    → IsAccount (record { read_failed = read_failed; write_failed = write_failed; full = b; may_shut = may_shut }) stamp left taken after o made
-account_full read_failed write_failed may_shut a b stamp left taken after o made h r =
-    record { input = r.input; written = r.written; given = r.given; appended = r.appended; account = by o r.account } where
-      by : (o : FileOutcome) → Account (record { read_failed = read_failed; write_failed = write_failed; full = a; may_shut = may_shut }) stamp r.input o r.written made
-          → Account (record { read_failed = read_failed; write_failed = write_failed; full = b; may_shut = may_shut }) stamp r.input o r.written made
-      by (Acked n) x = x
-      by (Refused fault line) x = x
-      by (Stopped n Memory) x = x
-      by (Stopped n Full) x = (x.0, (x.1.0, x.1.1, h x.1.2))
-      by (Stopped n Gate) x = x
-      by (Stopped n Read) x = x
-      by (Stopped n TooLong) x = x
-      by (Stopped n (Write sent)) x = x
+module _ (left rest before after : Option (List ℕ)) (reads more : ℕ) (read_failed write_failed may_shut : Bool) where
+  abbrev ends_by : Bool → Ends
+  ends_by full = record {
+    left_before = left;
+    left_after = rest;
+    reads_before = reads;
+    reads_after = more;
+    taken_before = before;
+    taken_after = after;
+    read_failed = read_failed;
+    write_failed = write_failed;
+    full = full;
+    may_shut = may_shut;
+  }
+
+  pub account_full : (a b : Bool) (stamp : StampParts) (o : FileOutcome) (made : List EntryValue) → (a ≡ true → b ≡ true)
+      → IsAccount (ends_by a) stamp o made → IsAccount (ends_by b) stamp o made
+  account_full a b stamp o made h r =
+      record { input = r.input; written = r.written; given = r.given; read_on = r.read_on; few_reads = r.few_reads; appended = r.appended; account = by o r.account } where
+        by : (o : FileOutcome) → Account (ends_by a) stamp r.input o r.written made → Account (ends_by b) stamp r.input o r.written made
+        by (Acked n) x = x
+        by (Refused fault line) x = x
+        by (Stopped n Memory) x = x
+        by (Stopped n Full) x = (x.0, (x.1.0, x.1.1, h x.1.2))
+        by (Stopped n Gate) x = x
+        by (Stopped n Read) x = x
+        by (Stopped n TooLong) x = x
+        by (Stopped n (Write sent)) x = x
+
+-- a job that was stopped for a full book found the history full
+pub account_found : (ends : Ends) (stamp : StampParts) (o : FileOutcome) (made : List EntryValue) → ends_full o ≡ true → IsAccount ends stamp o made → ends.full ≡ true
+account_found ends stamp o made stopped r = by o stopped r.account where
+  by : (o : FileOutcome) → ends_full o ≡ true → Account ends stamp r.input o r.written made → ends.full ≡ true
+  by (Acked n) e x = absurd cc
+  by (Refused fault line) e x = absurd cc
+  by (Stopped n Memory) e x = absurd cc
+  by (Stopped n Full) e x = x.1.2
+  by (Stopped n Gate) e x = absurd cc
+  by (Stopped n Read) e x = absurd cc
+  by (Stopped n TooLong) e x = absurd cc
+  by (Stopped n (Write sent)) e x = absurd cc

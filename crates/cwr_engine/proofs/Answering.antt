@@ -21,7 +21,7 @@ use Rattle.work_registry.specs.Told.{status_in, work_in}
 use Rattle.work_registry.specs.declared.reply.Reply.{Reply}
 use Rattle.work_registry.specs.declared.reply.Reply.TheVariants.{Accepted, Duplicate, Conflict, Rejected}
 use Rattle.cwr_engine.specs.Items.{item_of, items_of, calls_in}
-use Rattle.cwr_engine.specs.Handing.{entry_with, Follows, IsAnswered, AreAnswered}
+use Rattle.cwr_engine.specs.Handing.{entry_with, Follows, Entries, HasGained, IsAnswered, AreAnswered}
 
 -- ---- an item fits its line
 
@@ -73,20 +73,19 @@ item_fits t e placed numbered lawful =
 -- ---- one transaction
 
 -- its item, from the parts that the item was made of
-pub answered : (s : ℕ) (submitter : List ℕ) (t : RawParts) (call : CallValue) (r : Reply) (list list' : List EntryValue) (whole whole' : Option (List EntryValue))
+pub answered : (s : ℕ) (submitter : List ℕ) (t : RawParts) (call : CallValue) (r : Reply) (before after : Entries)
     (group sequence : ℕ) (kind : WorkKind) (title number : List ℕ) (status : Status) (work : Option ℕ) (faults : List Fault)
-    → call ≡ call_of submitter t → list' ≡ list ++ entry_with s call r ∷ [] → Follows s whole whole' (entry_with s call r ∷ [])
+    → call ≡ call_of submitter t → HasGained s (entry_with s call r ∷ []) before after
     → group ≡ t.group → sequence ≡ t.sequence → kind ≡ call.kind → title ≡ call.title → number ≡ call.number → status ≡ status_in r → work ≡ work_in r
     → faults ≡ call.faults → IsPlaced t → IsNumbered r → IsTrue (are_faults call.faults)
-    → IsAnswered s submitter t list list' whole whole' (record { group = group; sequence = sequence; kind = kind; title = title; number = number; status = status; work = work; faults = faults })
-answered s submitter t call r list list' whole whole' group sequence kind title number status work faults is grown follows a b c d e f g h placed numbered lawful =
+    → IsAnswered s submitter t (record { group = group; sequence = sequence; kind = kind; title = title; number = number; status = status; work = work; faults = faults }) before after
+answered s submitter t call r before after group sequence kind title number status work faults is gained a b c d e f g h placed numbered lawful =
     let item : Item = record { group = group; sequence = sequence; kind = kind; title = title; number = number; status = status; work = work; faults = faults } in
     let told : item ≡ item_of t (entry_with s call r) = λ i. record { group = a i; sequence = b i; kind = c i; title = d i; number = e i; status = f i; work = g i; faults = h i } in
     let entry : EntryValue = entry_with s call r in
     record {
       reply = r;
-      grown = subst (λ (x : CallValue). list' ≡ list ++ entry_with s x r ∷ []) is grown;
-      follows = subst (λ (x : CallValue). Follows s whole whole' (entry_with s x r ∷ [])) is follows;
+      gained = subst (λ (x : CallValue). HasGained s (entry_with s x r ∷ []) before after) is gained;
       told = subst (λ (x : CallValue). item ≡ item_of t (entry_with s x r)) is told;
       fits = subst FitsItem (sym told) (item_fits t entry placed numbered lawful);
     }
@@ -114,9 +113,12 @@ Follows-next s (Some h) b c made e p q = go (rw p.0 at q) where
         ∙ (sym (replay-append s h (calls_of made) (e.call ∷ [])) ∙ ap (replay s h) (sym (calls_of-append made (e ∷ []))))),
   )
 
-pub Follows-none : (s : ℕ) (a : Option (List EntryValue)) → Follows s a a []
+Follows-none : (s : ℕ) (a : Option (List EntryValue)) → Follows s a a []
 Follows-none s None = tt
 Follows-none s (Some h) = (ap Some (sym (append-nil h)), refl)
+
+pub gained_none : (s : ℕ) (before : Entries) → HasGained s [] before before
+gained_none s before = record { list = sym (append-nil before.list); whole = Follows-none s before.whole }
 
 -- the transaction that follows n others
 take_next : (submitter : List ℕ) (n : ℕ) (ts rest : List RawParts) (t : RawParts) → drop n ts ≡ t ∷ rest
@@ -143,12 +145,11 @@ drop_next n ts rest t e = let more : suc n ≡ n + 1 = omega arith in go n ts e 
   go (suc n) [] e = absurd cc
   go (suc n) (x ∷ ts) e = go n ts e
 
-pub answered_next : (s s' : ℕ) (submitter : List ℕ) (ts rest : List RawParts) (t : RawParts) (i : ℕ) (list list' list'' : List EntryValue) (whole whole' whole'' : Option (List EntryValue))
+pub answered_next : (s s' : ℕ) (submitter : List ℕ) (ts rest : List RawParts) (t : RawParts) (i : ℕ) (before between after : Entries)
     (items items' : List Item) (item : Item) → s' ≡ s → drop i ts ≡ t ∷ rest → length items ≡ i → items' ≡ items ++ item ∷ []
-    → AreAnswered s submitter ts list list' whole whole' items → IsAnswered s' submitter t list' list'' whole' whole'' item
-    → AreAnswered s submitter ts list list'' whole whole'' items'
-answered_next s s' submitter ts rest t i list list' list'' whole whole' whole'' items items' item same at count is so_far now' =
-    let now : IsAnswered s submitter t list' list'' whole' whole'' item = subst (λ (k : ℕ). IsAnswered k submitter t list' list'' whole' whole'' item) same now' in
+    → AreAnswered s submitter ts items before between → IsAnswered s' submitter t item between after → AreAnswered s submitter ts items' before after
+answered_next s s' submitter ts rest t i before between after items items' item same at count is so_far now' =
+    let now : IsAnswered s submitter t item between after = subst (λ (k : ℕ). IsAnswered k submitter t item between after) same now' in
     let e : EntryValue = entry_with s (call_of submitter t) now.reply in
     let made : List EntryValue = so_far.made in
     let long : i ≡ length made = sym count ∙ so_far.count in
@@ -156,8 +157,10 @@ answered_next s s' submitter ts rest t i list list' list'' whole whole' whole'' 
     let more : length (made ++ e ∷ []) ≡ suc (length made) = (let l = length-append made (e ∷ []) in omega arith) in
     record {
       made = made ++ e ∷ [];
-      grown = now.grown ∙ (ap (λ l. l ++ e ∷ []) so_far.grown ∙ append_assoc list made (e ∷ []));
-      follows = Follows-next s whole whole' whole'' made e so_far.follows now.follows;
+      gained = record {
+        list = now.gained.list ∙ (ap (λ l. l ++ e ∷ []) so_far.gained.list ∙ append_assoc before.list made (e ∷ []));
+        whole = Follows-next s before.whole between.whole after.whole made e so_far.gained.whole now.gained.whole;
+      };
       calls = calls_of-append made (e ∷ []) ∙ (ap (λ l. l ++ call_of submitter t ∷ []) so_far.calls
           ∙ (sym (take_next submitter (length made) ts rest t at') ∙ ap (λ k. take k (calls_in submitter ts)) (sym more)));
       told = is ∙ ((λ j. so_far.told j ++ now.told j ∷ []) ∙ sym (items_next ts rest t made e at'));
@@ -171,12 +174,11 @@ fit_next items items' item is all fits = subst (AllByRecursion FitsItem) (sym is
   go (x ∷ xs) h = (h.0, go xs h.1)
 
 -- none so far
-pub answered_none : (s : ℕ) (submitter : List ℕ) (ts : List RawParts) (list : List EntryValue) (whole : Option (List EntryValue)) (items : List Item) → items ≡ []
-    → AreAnswered s submitter ts list list whole whole items
-answered_none s submitter ts list whole items none = rw none (record {
+pub answered_none : (s : ℕ) (submitter : List ℕ) (ts : List RawParts) (before : Entries) (items : List Item) → items ≡ []
+    → AreAnswered s submitter ts items before before
+answered_none s submitter ts before items none = rw none (record {
   made = [];
-  grown = sym (append-nil list);
-  follows = Follows-none s whole;
+  gained = gained_none s before;
   calls = refl;
   told = sym (no_items ts);
   count = refl;

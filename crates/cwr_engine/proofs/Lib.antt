@@ -2,3 +2,4 @@ pub mod CallSizes
 pub mod Answering
 pub mod Accounts
 pub mod Turns
+pub mod FullBooks

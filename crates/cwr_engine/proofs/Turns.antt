@@ -10,6 +10,7 @@ use Rattle.work_registry.specs.EntryValue.{EntryValue}
 use Rattle.work_registry.specs.History.{IsHistory}
 use Rattle.work_registry.specs.Replay.{entry_for, replay, calls_of, made, is_opening}
 use Rattle.work_registry.specs.declared.reply.Reply.{Reply}
+use Rattle.cwr_engine.specs.Causes.{ends_full}
 use Rattle.cwr_engine.specs.Handing.{entry_with}
 use Rattle.cwr_engine.specs.declared.outcome.FileOutcome.{FileOutcome}
 use Rattle.cwr_engine.specs.Whole.{Accounts, is_full, IsRun, InTurn, IsWorkedAlone, TookTurns}
@@ -128,9 +129,10 @@ module _ {J : Type 0} (P : J → J → FileOutcome → Bool → List EntryValue 
   fuller : (m e : BookValue) (added : List EntryValue) → e.history ≡ m.history ++ added → e.limit ≡ m.limit → is_full m ≡ true → is_full e ≡ true
   fuller m e added g l f = let n = ap length g ∙ length-append m.history added in grind (arith, nat_tests)
 
-  module _ (mono : (j k : J) (o : FileOutcome) (a b : Bool) (l : List EntryValue) → (a ≡ true → b ≡ true) → P j k o a l → P j k o b l) where
+  module _ (mono : (j k : J) (o : FileOutcome) (a b : Bool) (l : List EntryValue) → (a ≡ true → b ≡ true) → P j k o a l → P j k o b l)
+      (found : (j k : J) (o : FileOutcome) (a : Bool) (l : List EntryValue) → ends_full o ≡ true → P j k o a l → a ≡ true) where
     settled : (s : ℕ) (js ks : List J) (os : List FileOutcome) (b e : BookValue) → TookTurns P s js ks os b e → ((t : ℕ) → s ≤ t → made b.history t ≡ [])
-        → Accounts P e.history (is_full e) s js ks os × InTurn e.history s b.history (length js)
+        → Accounts P e.history (is_full e) s js ks os × InTurn b.limit e.history s b.history os
     settled s [] [] [] b e r none = (tt, ap (λ (x : BookValue). x.history) r)
     settled s [] [] (o ∷ os) b e r none = absurd r
     settled s [] (k ∷ ks) os b e r none = absurd r
@@ -142,13 +144,19 @@ module _ {J : Type 0} (P : J → J → FileOutcome → Bool → List EntryValue 
         let all = took_whole (s + 1) js ks os m e r.2 in
         let same : made e.history s ≡ w.entries = took_other (s + 1) s js ks os m e r.2 (λ i lt. (omega arith)) ∙ alone_own s b m j k o w (none s (omega arith)) in
         let rest = settled (s + 1) js ks os m e r.2 (λ t le. alone_other s t b m j k o w (omega arith) ∙ none t (omega arith)) in
-        let next : m.history ≡ b.history ++ made e.history s = w.grown ∙ ap (λ l. b.history ++ l) (sym same) in (
+        let next : m.history ≡ b.history ++ made e.history s = w.grown ∙ ap (λ l. b.history ++ l) (sym same) in
+        let full : ends_full o ≡ true → is_full (record { history = b.history ++ made e.history s; limit = b.limit }) ≡ true =
+        λ f. subst (λ (x : List EntryValue × ℕ). nat_le x.1 (length x.0) ≡ true) (λ i. (next i, w.limit i)) (found j k o (is_full m) w.entries f w.account) in (
           (subst (λ l. P j k o (is_full e) l) (sym same) (mono j k o (is_full m) (is_full e) w.entries (fuller m e all.0 all.1 all.2) w.account), rest.0),
-          (subst (λ l. l ≡ replay s b.history (calls_of l)) (sym same) w.replayed, subst (λ l. InTurn e.history (s + 1) l (length js)) next rest.1),
+          (
+            subst (λ l. l ≡ replay s b.history (calls_of l)) (sym same) w.replayed,
+            full,
+            subst (λ (x : List EntryValue × ℕ). InTurn x.1 e.history (s + 1) x.0 os) (λ i. (next i, w.limit i)) rest.1,
+          ),
         )
 
     pub whole_turns : (b e : BookValue) (js ks : List J) (os : List FileOutcome) → is_opening b.history ≡ true → IsHistory e.history → length e.history ≤ e.limit
-        → TookTurns P 1 js ks os b e → IsRun P b e js ks os × InTurn e.history 1 b.history (length js)
+        → TookTurns P 1 js ks os b e → IsRun P b e js ks os × InTurn b.limit e.history 1 b.history os
     whole_turns b e js ks os opens registry bounded r =
         let all = took_whole 1 js ks os b e r in
         let added : List EntryValue = all.0 in

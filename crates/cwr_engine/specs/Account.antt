@@ -1,8 +1,9 @@
 -- The account of a job: what its input, its outcome, the bytes that it wrote and the entries that it made have to do
 -- with one another.
-use Rattle.std.specs.Prelude.{◌≡◌, ℕ, ◌≤◌, ◌<◌, nat_le, Bool, true, false, List, [], length, take, Option, Some, None, ⊤}
+use Rattle.std.specs.Prelude.{◌≡◌, ℕ, ◌+◌, ◌≤◌, ◌<◌, nat_le, Bool, true, false, List, [], length, take, Option, Some, None, ⊤}
 use Rattle.std.specs.Io.KnownBytes.{Appends}
 use Rattle.std.specs.Str.Lines.{lines}
+use Rattle.byte_streams.specs.GivenBytes.{HasGiven}
 use Rattle.cwr_record.specs.Layout.{StandsFor}
 use Rattle.cwr_record.specs.Stamp.{StampParts}
 use Rattle.cwr_record.specs.Control as table
@@ -24,8 +25,18 @@ use Rattle.cwr_engine.specs.declared.outcome.Why.TheVariants.{Memory, Full, Read
 abbrev pub most : ℕ
 most = 16777216
 
--- what may stop a job, as far as it shows once the job has ended
-pub record Signs : Type 0 where
+-- What the ends of a job show of it: its reader and its writer before and after, the history, and the gate. Bytes are
+-- named where the reader or the writer tells them.
+pub record Ends : Type 0 where
+  -- the bytes that were left to the reader, and are
+  pub left_before : Option (List ℕ)
+  pub left_after : Option (List ℕ)
+  -- how often it was read, before and after
+  pub reads_before : ℕ
+  pub reads_after : ℕ
+  -- the bytes that the writer had taken, and has
+  pub taken_before : Option (List ℕ)
+  pub taken_after : Option (List ℕ)
   -- a read failed
   pub read_failed : Bool
   -- a write failed, or took nothing
@@ -85,48 +96,56 @@ pub record IsCutOff (failed : Bool) (stamp : StampParts) (input : List ℕ) (sen
   pub front : written ≡ take sent (answer_of stamp made whole)
 
 -- why a job stopped, after it made these entries
-abbrev pub StoppedBy : Signs → StampParts → List ℕ → Why → List ℕ → List EntryValue → Type 0
-StoppedBy s stamp input Memory written made = (written ≡ []) × (0 < length made → IsMadeOf input made)
-StoppedBy s stamp input Full written made = (written ≡ []) × IsMadeOfSome input made × (s.full ≡ true)
-StoppedBy s stamp input Read written made = (written ≡ []) × (made ≡ []) × (s.read_failed ≡ true)
-StoppedBy s stamp input TooLong written made = (written ≡ []) × (made ≡ []) × (most < length input)
-StoppedBy s stamp input Gate written made = (written ≡ []) × IsMadeOfSome input made × (s.may_shut ≡ true)
-StoppedBy s stamp input (Write sent) written made = IsCutOff s.write_failed stamp input sent written made
+abbrev pub StoppedBy : Ends → StampParts → List ℕ → Why → List ℕ → List EntryValue → Type 0
+StoppedBy ends stamp input Memory written made = (written ≡ []) × (0 < length made → IsMadeOf input made)
+StoppedBy ends stamp input Full written made = (written ≡ []) × IsMadeOfSome input made × (ends.full ≡ true)
+StoppedBy ends stamp input Read written made = (written ≡ []) × (made ≡ []) × (ends.read_failed ≡ true)
+StoppedBy ends stamp input TooLong written made = (written ≡ []) × (made ≡ []) × (most < length input)
+StoppedBy ends stamp input Gate written made = (written ≡ []) × IsMadeOfSome input made × (ends.may_shut ≡ true)
+StoppedBy ends stamp input (Write sent) written made = IsCutOff ends.write_failed stamp input sent written made
 
 -- the account of a job: its input, its outcome, the bytes that it wrote, and the entries that it made, in order
-abbrev pub Account : Signs → StampParts → List ℕ → FileOutcome → List ℕ → List EntryValue → Type 0
-Account s stamp input (Acked count) written made = IsAcked stamp input count written made
-Account s stamp input (Refused fault line) written made = IsRefused input fault line × (written ≡ []) × (made ≡ [])
-Account s stamp input (Stopped handed why) written made = (handed ≡ length made) × StoppedBy s stamp input why written made
+abbrev pub Account : Ends → StampParts → List ℕ → FileOutcome → List ℕ → List EntryValue → Type 0
+Account ends stamp input (Acked count) written made = IsAcked stamp input count written made
+Account ends stamp input (Refused fault line) written made = IsRefused input fault line × (written ≡ []) × (made ≡ [])
+Account ends stamp input (Stopped handed why) written made = (handed ≡ length made) × StoppedBy ends stamp input why written made
 
 -- these are the bytes that a reader had, where it tells them
 abbrev pub Gives : Option (List ℕ) → List ℕ → Type 0
 Gives None input = ⊤
 Gives (Some bytes) input = input ≡ bytes
 
--- what the ends of a job show of it: the bytes that were left to its reader, and those that its writer had taken
--- before and after, where these tell them
-pub record IsAccount (s : Signs) (stamp : StampParts) (left taken_before taken_after : Option (List ℕ)) (outcome : FileOutcome)
-    (made : List EntryValue) : Type 0 where
+-- the account of a job, by what its ends show
+pub record IsAccount (ends : Ends) (stamp : StampParts) (outcome : FileOutcome) (made : List EntryValue) : Type 0 where
   pub input : List ℕ
   pub written : List ℕ
-  pub given : Gives left input
-  pub appended : Appends taken_before taken_after written
-  pub account : Account s stamp input outcome written made
+  pub given : Gives ends.left_before input
+  pub read_on : HasGiven ends.left_before ends.left_after
+  pub few_reads : ends.reads_after ≤ ends.reads_before + most + 2
+  pub appended : Appends ends.taken_before ends.taken_after written
+  pub account : Account ends stamp input outcome written made
 
 -- The account of a job, from what its reader and its writer were and what they are. What these show (a failure, the
 -- bytes left or taken) is given by functions, so that it serves every kind of reader and writer.
-abbrev pub JobAccount : {R W : Type 0} → (R → Bool) → (W → Bool) → (R → Option (List ℕ)) → (W → Option (List ℕ)) → StampParts → Bool
+abbrev pub JobAccount : {R W : Type 0} → (R → Bool) → (W → Bool) → (R → Option (List ℕ)) → (R → ℕ) → (W → Option (List ℕ)) → StampParts → Bool
     → Job R W → Job R W → FileOutcome → Bool → List EntryValue → Type 0
-JobAccount read_failed write_failed left taken stamp may_shut before after outcome full made =
-    IsAccount (record { read_failed = read_failed after.reader; write_failed = write_failed after.writer; full = full; may_shut = may_shut })
-    stamp (left before.reader) (taken before.writer) (taken after.writer) outcome made
+JobAccount read_failed write_failed left reads taken stamp may_shut before after outcome full made = IsAccount (record {
+  left_before = left before.reader;
+  left_after = left after.reader;
+  reads_before = reads before.reader;
+  reads_after = reads after.reader;
+  taken_before = taken before.writer;
+  taken_after = taken after.writer;
+  read_failed = read_failed after.reader;
+  write_failed = write_failed after.writer;
+  full = full;
+  may_shut = may_shut;
+}) stamp outcome made
 
--- One file into an empty book of 99,999,999 entries, with no gate: its account holds, with the entries that session 1
--- makes by handing in their calls from the empty history on.
-pub record IsAcknowledged (read_failed write_failed : Bool) (stamp : StampParts) (left taken_before taken_after : Option (List ℕ))
-    (outcome : FileOutcome) : Type 0 where
+-- One file into an empty book of 99,999,999 entries: its account holds, with the entries that session 1 makes by
+-- handing in their calls from the empty history on. The ends are given but for whether the history is full, which
+-- these entries tell.
+pub record IsAcknowledged (ends : Bool → Ends) (stamp : StampParts) (outcome : FileOutcome) : Type 0 where
   pub made : List EntryValue
   pub replayed : made ≡ replay 1 [] (calls_of made)
-  pub account : IsAccount (record { read_failed = read_failed; write_failed = write_failed; full = nat_le 99999999 (length made); may_shut = false })
-      stamp left taken_before taken_after outcome made
+  pub account : IsAccount (ends (nat_le 99999999 (length made))) stamp outcome made

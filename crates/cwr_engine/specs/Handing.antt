@@ -9,7 +9,7 @@ use Rattle.cwr_rules.specs.Calls.{call_of}
 use Rattle.work_registry.specs.EntryValue.{EntryValue}
 use Rattle.work_registry.specs.Replay.{calls_of, replay}
 use Rattle.work_registry.specs.declared.reply.Reply.{Reply}
-use Rattle.cwr_engine.specs.Account.{Signs, IsAccount}
+use Rattle.cwr_engine.specs.Account.{Ends, IsAccount}
 use Rattle.cwr_engine.specs.Items.{item_of, items_of, calls_in}
 use Rattle.cwr_engine.specs.declared.outcome.FileOutcome.{FileOutcome}
 
@@ -22,30 +22,34 @@ abbrev pub Follows : ℕ → Option (List EntryValue) → Option (List EntryValu
 Follows session None after made = ⊤
 Follows session (Some history) after made = (after ≡ Some (history ++ made)) × (made ≡ replay session history (calls_of made))
 
--- A transaction was handed in and got a reply, which the item tells. The lists are the entries of the session, and
--- what is whole is the history where it is known, each before and after.
-pub record IsAnswered (session : ℕ) (submitter : List ℕ) (transaction : RawParts) (list list_after : List EntryValue)
-    (whole whole_after : Option (List EntryValue)) (item : Item) : Type 0 where
+-- what a window shows of the entries handed in there: those of its session, in order, and the whole history, where
+-- nobody else writes it
+pub record Entries : Type 0 where
+  pub list : List EntryValue
+  pub whole : Option (List EntryValue)
+
+-- a window has gained these entries of its session, and no others
+pub record HasGained (session : ℕ) (made : List EntryValue) (before after : Entries) : Type 0 where
+  pub list : after.list ≡ before.list ++ made
+  pub whole : Follows session before.whole after.whole made
+
+-- a transaction was handed in and got a reply, which the item tells
+pub record IsAnswered (session : ℕ) (submitter : List ℕ) (transaction : RawParts) (item : Item) (before after : Entries) : Type 0 where
   pub reply : Reply
-  pub grown : list_after ≡ list ++ entry_with session (call_of submitter transaction) reply ∷ []
-  pub follows : Follows session whole whole_after (entry_with session (call_of submitter transaction) reply ∷ [])
+  pub gained : HasGained session (entry_with session (call_of submitter transaction) reply ∷ []) before after
   pub told : item ≡ item_of transaction (entry_with session (call_of submitter transaction) reply)
   pub fits : FitsItem item
 
 -- as many of the transactions as there are items were handed in and got replies, in order
-pub record AreAnswered (session : ℕ) (submitter : List ℕ) (transactions : List RawParts) (list list_after : List EntryValue)
-    (whole whole_after : Option (List EntryValue)) (items : List Item) : Type 0 where
+pub record AreAnswered (session : ℕ) (submitter : List ℕ) (transactions : List RawParts) (items : List Item) (before after : Entries) : Type 0 where
   pub made : List EntryValue
-  pub grown : list_after ≡ list ++ made
-  pub follows : Follows session whole whole_after made
+  pub gained : HasGained session made before after
   pub calls : calls_of made ≡ take (length made) (calls_in submitter transactions)
   pub told : items ≡ items_of transactions made
   pub count : length items ≡ length made
 
--- A job was worked at a window: its account holds, with the entries that it made.
-pub record IsWorked (session : ℕ) (s : Signs) (stamp : StampParts) (left taken_before taken_after : Option (List ℕ)) (outcome : FileOutcome)
-    (list list_after : List EntryValue) (whole whole_after : Option (List EntryValue)) : Type 0 where
+-- a job was worked at a window: its account holds, with the entries that the window has gained
+pub record IsWorked (session : ℕ) (ends : Ends) (stamp : StampParts) (outcome : FileOutcome) (before after : Entries) : Type 0 where
   pub made : List EntryValue
-  pub grown : list_after ≡ list ++ made
-  pub follows : Follows session whole whole_after made
-  pub account : IsAccount s stamp left taken_before taken_after outcome made
+  pub gained : HasGained session made before after
+  pub account : IsAccount ends stamp outcome made

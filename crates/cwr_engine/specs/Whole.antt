@@ -1,9 +1,10 @@
 -- A whole run of jobs.
-use Rattle.std.specs.Prelude.{◌≡◌, ℕ, zero, suc, ◌+◌, ◌≤◌, Bool, nat_le, List, [], ◌∷◌, ◌++◌, length, All}
+use Rattle.std.specs.Prelude.{◌≡◌, ℕ, ◌+◌, ◌≤◌, Bool, true, nat_le, List, [], ◌∷◌, ◌++◌, length, All}
 use Rattle.work_registry.specs.BookValue.{BookValue}
 use Rattle.work_registry.specs.EntryValue.{EntryValue}
 use Rattle.work_registry.specs.History.{IsHistory}
 use Rattle.work_registry.specs.Replay.{calls_of, replay, made}
+use Rattle.cwr_engine.specs.Causes.{ends_full}
 use Rattle.cwr_engine.specs.declared.outcome.FileOutcome.{FileOutcome}
 
 -- Each job has its account with the entries that its session made in the history, the first of the jobs being the
@@ -33,12 +34,15 @@ pub record IsRun {J : Type 0} (P : J → J → FileOutcome → Bool → List Ent
   pub sessions : All (λ e. (1 ≤ e.session) × (e.session ≤ length before)) added
   pub accounts : Accounts P kept.history (is_full kept) 1 before after outcomes
 
--- The kept history is this one, followed by the entries of n sessions, one session after the other: each session's
--- are what its calls get when they are handed in after the entries before.
-abbrev pub InTurn : List EntryValue → ℕ → List EntryValue → ℕ → Type 0
-InTurn kept session history zero = kept ≡ history
-InTurn kept session history (suc n) =
-    (made kept session ≡ replay session history (calls_of (made kept session))) × InTurn kept (session + 1) (history ++ made kept session) n
+-- The kept history is this one, followed by the entries of the jobs' sessions, one session after the other: each
+-- session's are what its calls get when they are handed in after the entries before. Where a job was stopped for a full
+-- book, the history held its limit of entries at that job's end.
+abbrev pub InTurn : ℕ → List EntryValue → ℕ → List EntryValue → List FileOutcome → Type 0
+InTurn limit kept session history [] = kept ≡ history
+InTurn limit kept session history (outcome ∷ outcomes) =
+    (made kept session ≡ replay session history (calls_of (made kept session)))
+    × (ends_full outcome ≡ true → is_full (record { history = history ++ made kept session; limit = limit }) ≡ true)
+    × InTurn limit kept (session + 1) (history ++ made kept session) outcomes
 
 -- one job was worked at a book that nobody else writes
 pub record IsWorkedAlone {J : Type 0} (P : J → J → FileOutcome → Bool → List EntryValue → Type 0) (session : ℕ) (before after : BookValue)

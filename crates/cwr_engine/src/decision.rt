@@ -1,8 +1,8 @@
 //! One transaction of a file: judged, handed in, and told.
-ghost use Rattle.std.specs.Prelude.{◌≡◌, ◌<◌, ◌≤◌, ◌+◌, IfOk, IfErr, OnErr, IsTrue};
+ghost use Rattle.std.specs.Prelude.{◌≡◌, ◌<◌, ◌≤◌, ◌+◌, IfOk, IfErr, OnOk, OnErr, IsTrue};
 ghost use Rattle.cwr_grammar.specs.RawParts.{IsPlaced};
 ghost use Rattle.cwr_call.specs.Lawful.{is_clean};
-ghost use Rattle.cwr_engine.specs.Causes.{IsCause, refusal_of};
+ghost use Rattle.cwr_engine.specs.Causes.{IsCause, is_for_full, marked_by, refusal_of};
 ghost use Rattle.cwr_engine.specs.Handing.{IsAnswered};
 
 use crate::gates::Gate;
@@ -41,10 +41,11 @@ pub(crate) fn decide<H: Window<Call<A>>, G: Gate, A: Allocator + Copy + Drop>(
     ensures limit { H.limit result.0 ≡ H.limit window }
     ensures home { H.home result.0 ≡ H.home window }
     ensures turns { H.turns_left window ≤ H.turns_left result.0 + 1 }
-    ensures answered { IfOk result.1 (IsAnswered (H.session window) in_hand.submitter transaction.now (H.list window) (H.list result.0)
-        (H.whole window) (H.whole result.0)) }
-    ensures kept { OnErr result.1 ((H.list result.0 ≡ H.list window) × (H.whole result.0 ≡ H.whole window)) }
-    ensures why { IfErr result.1 (IsCause (H.marked result.0) (G.may_shut gate.now)) }
+    ensures answered { IfOk result.1 (λ item. IsAnswered (H.session window) in_hand.submitter transaction.now item (H.entries window) (H.entries result.0)) }
+    ensures kept { OnErr result.1 (H.entries result.0 ≡ H.entries window) }
+    ensures why { IfErr result.1 (IsCause (H.full result.0) (G.may_shut gate.now)) }
+    ensures unmarked { OnOk result.1 (H.mark result.0 ≡ H.mark window) }
+    ensures marked { IfErr result.1 (λ why. H.mark result.0 ≡ marked_by (is_for_full why) (H.mark window)) }
 {
     let Ok(call) = judge(alloc, transaction, in_hand.submitter) else {
         return (window, Err(Why::Memory));

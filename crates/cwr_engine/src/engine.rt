@@ -1,12 +1,13 @@
 //! One job, at a window.
-ghost use Rattle.std.specs.Prelude.{◌≡◌, ◌<◌, ◌≤◌, ◌^◌, ℕ, Bool, List, [], Option, false, length, vec_capacity, IsTrue, IfSome, OnOk, OnErr, IfErr};
+ghost use Rattle.std.specs.Prelude.{◌≡◌, ◌+◌, ◌<◌, ◌≤◌, ◌^◌, ℕ, List, [], false, length, vec_capacity, IsTrue, IfSome, OnOk, OnErr, IfErr};
 ghost use Rattle.std.specs.List.{AllByRecursion};
+ghost use Rattle.byte_streams.specs.GivenBytes.{HasGiven};
 ghost use Rattle.cwr_acknowledgement.specs.Acknowledgement.{FitsItem};
 ghost use Rattle.cwr_grammar.specs.RawParts.{IsPlaced};
 ghost use Rattle.cwr_grammar.specs.Submitted.{IsBounded};
 ghost use Rattle.cwr_call.specs.Lawful.{is_clean};
-ghost use Rattle.cwr_engine.specs.Account.{most, IsRead};
-ghost use Rattle.cwr_engine.specs.Causes.{cause_of, IsCause};
+ghost use Rattle.cwr_engine.specs.Account.{most, Ends, IsRead};
+ghost use Rattle.cwr_engine.specs.Causes.{cause_of, ends_full, is_for_full, marked_by, IsCause};
 ghost use Rattle.cwr_engine.specs.Handing.{AreAnswered, IsWorked};
 
 use crate::decision::{InHand, decide};
@@ -39,12 +40,13 @@ fn hand_in_all<H: Window<Call<A>>, G: Gate, A: Allocator + Copy + Drop>(
     ensures session { H.session result.0 ≡ H.session window }
     ensures limit { H.limit result.0 ≡ H.limit window }
     ensures home { H.home result.0 ≡ H.home window }
-    ensures answered { AreAnswered (H.session window) file.now.header.sender file.now.transactions (H.list window) (H.list result.0)
-        (H.whole window) (H.whole result.0) items.new.items }
+    ensures answered { AreAnswered (H.session window) file.now.header.sender file.now.transactions items.new.items (H.entries window) (H.entries result.0) }
     ensures fit { AllByRecursion FitsItem items.new.items }
     ensures all { OnOk result.1 (length items.new.items ≡ length file.now.transactions) }
     ensures some { OnErr result.1 (length items.new.items < length file.now.transactions) }
-    ensures why { IfErr result.1 (IsCause (H.marked result.0) (G.may_shut gate.now)) }
+    ensures why { IfErr result.1 (IsCause (H.full result.0) (G.may_shut gate.now)) }
+    ensures unmarked { OnOk result.1 (H.mark result.0 ≡ H.mark window) }
+    ensures marked { IfErr result.1 (λ why. H.mark result.0 ≡ marked_by (is_for_full why) (H.mark window)) }
 {
     for (index, transaction) in file.transactions.iter().enumerate() {
         let index = index as u32;
@@ -85,11 +87,17 @@ fn work_submission<H: Window<Call<A>>, G: Gate, W: Sink, A: Allocator + Copy + D
     ensures session { H.session result.0 ≡ H.session window }
     ensures limit { H.limit result.0 ≡ H.limit window }
     ensures home { H.home result.0 ≡ H.home window }
-    ensures worked { (left : Option (List ℕ)) (input : List ℕ) (read_failed : Bool)
-        → IfSome left (λ bytes. input ≡ bytes) → IsRead input file.now.header file.now.transactions
-        → IsWorked (H.session window)
-        (record { read_failed = read_failed; write_failed = W.has_failed writer.new; full = H.marked result.0; may_shut = G.may_shut gate.now })
-        stamp.now left (W.taken writer.old) (W.taken writer.new) result.1 (H.list window) (H.list result.0) (H.whole window) (H.whole result.0) }
+    ensures marked { H.mark result.0 ≡ marked_by (ends_full result.1) (H.mark window) }
+    ensures worked { (ends : Ends) (input : List ℕ)
+        → IfSome ends.left_before (λ bytes. input ≡ bytes) → HasGiven ends.left_before ends.left_after
+        → ends.reads_after ≤ ends.reads_before + most + 2 → IsRead input file.now.header file.now.transactions
+        → IsWorked (H.session window) (record ends {
+          taken_before = W.taken writer.old;
+          taken_after = W.taken writer.new;
+          write_failed = W.has_failed writer.new;
+          full = H.full result.0;
+          may_shut = G.may_shut gate.now;
+        }) stamp.now result.1 (H.entries window) (H.entries result.0) }
 {
     let Ok(mut items) = Vec::with_capacity(alloc, file.transactions.len()) else {
         return (window, stopped(0, Why::Memory));
@@ -110,9 +118,10 @@ fn work_submission<H: Window<Call<A>>, G: Gate, W: Sink, A: Allocator + Copy + D
 
 /// Reads a file, hands its transactions in at the window, in file order, and writes their acknowledgement.
 ///
-/// At most 16,777,216 bytes are taken. A transaction that gets no reply ends the job, and the entries made before it
-/// stay. The window comes back with the outcome, and can take 99,999,995 calls, one for each transaction that a file may
-/// have.
+/// At most 16,777,216 bytes are taken, in at most two reads more than that; a reader that tells its bytes gave the first
+/// of them and holds the others. A transaction that gets no reply ends the job, and the entries made before it stay. The
+/// window comes back with the outcome, marked where the book was full for the job and else as it was, and can take
+/// 99,999,995 calls, one for each transaction that a file may have.
 pub fn work_file<H: Window<Call<A>>, G: Gate, R: Source, W: Sink, A: Allocator + Copy + Drop>(
     alloc: A,
     window: H,
@@ -128,9 +137,19 @@ pub fn work_file<H: Window<Call<A>>, G: Gate, R: Source, W: Sink, A: Allocator +
     ensures session { H.session result.0 ≡ H.session window }
     ensures limit { H.limit result.0 ≡ H.limit window }
     ensures home { H.home result.0 ≡ H.home window }
-    ensures worked { IsWorked (H.session window)
-        (record { read_failed = R.has_failed reader.new; write_failed = W.has_failed writer.new; full = H.marked result.0; may_shut = G.may_shut gate.now })
-        stamp.now (R.left reader.old) (W.taken writer.old) (W.taken writer.new) result.1 (H.list window) (H.list result.0) (H.whole window) (H.whole result.0) }
+    ensures marked { H.mark result.0 ≡ marked_by (ends_full result.1) (H.mark window) }
+    ensures worked { IsWorked (H.session window) (record {
+      left_before = R.left reader.old;
+      left_after = R.left reader.new;
+      reads_before = R.reads reader.old;
+      reads_after = R.reads reader.new;
+      taken_before = W.taken writer.old;
+      taken_after = W.taken writer.new;
+      read_failed = R.has_failed reader.new;
+      write_failed = W.has_failed writer.new;
+      full = H.full result.0;
+      may_shut = G.may_shut gate.now;
+    }) stamp.now result.1 (H.entries window) (H.entries result.0) }
 {
     let text = match read_file(alloc, reader, MOST_BYTES) {
         Ok(text) => text,

@@ -25,8 +25,18 @@ pub fn acknowledge<R: Source, W: Sink, A: Allocator + Copy + Drop>(
 ) -> FileOutcome
     requires reads { R.has_failed reader.old ≡ false }
     requires writes { W.has_failed writer.old ≡ false }
-    ensures { IsAcknowledged (R.has_failed reader.new) (W.has_failed writer.new) stamp.now (R.left reader.old)
-        (W.taken writer.old) (W.taken writer.new) result }
+    ensures { IsAcknowledged (λ full. record {
+      left_before = R.left reader.old;
+      left_after = R.left reader.new;
+      reads_before = R.reads reader.old;
+      reads_after = R.reads reader.new;
+      taken_before = W.taken writer.old;
+      taken_after = W.taken writer.new;
+      read_failed = R.has_failed reader.new;
+      write_failed = W.has_failed writer.new;
+      full = full;
+      may_shut = false;
+    }) stamp.now result }
 {
     let window = Own {
         book: Book::new(alloc, MOST_ENTRIES),

@@ -1,11 +1,12 @@
 //! Where a worker hands calls in.
-ghost use Rattle.std.specs.Prelude.{◌≡◌, ◌<◌, ◌≤◌, ◌+◌, ◌++◌, ◌∷◌, [], ℕ, List, Bool, Option, None, Some, true, nat_le, length, IfOk, IfErr, OnErr};
+ghost use Rattle.std.specs.Prelude.{◌≡◌, ◌<◌, ◌≤◌, ◌↔◌, ◌+◌, ◌∷◌, [], ℕ, Bool, Option, None, Some, true, nat_le, length, IfOk, IfErr, OnOk, OnErr};
 ghost use Rattle.cwr_call.specs.CallValue.{CallValue};
-ghost use Rattle.work_registry.specs.EntryValue.{EntryValue};
 ghost use Rattle.work_registry.specs.Numbers.{IsNumbered};
+ghost use Rattle.work_registry.specs.Refusals.{is_for_limit};
 ghost use Rattle.work_registry.specs.Replay.{made};
 ghost use Rattle.work_registry.specs.declared.refused.WhyRefused.TheVariants.{Full};
-ghost use Rattle.cwr_engine.specs.Handing.{Follows, entry_with};
+ghost use Rattle.cwr_engine.specs.Causes.{marked_by};
+ghost use Rattle.cwr_engine.specs.Handing.{Entries, HasGained, entry_with};
 
 use std::alloc::Allocator;
 use work_registry::{Book, Call, Reply, WhyRefused};
@@ -30,17 +31,17 @@ pub trait Window<C: Asks>: Drop {
     // How many calls it takes yet, at least.
     ghost turns_left: { Self → ℕ };
 
-    // The entries of its session, in order.
-    ghost list: { Self → List EntryValue };
+    // The entries of its session, and the history where nobody else writes it.
+    ghost entries: { Self → Entries };
 
-    // The book was found full.
-    ghost marked: { Self → Bool };
+    // The history, as it was seen last, holds its limit of entries.
+    ghost full: { Self → Bool };
 
-    // The history, where nobody else writes it.
-    ghost whole: { Self → Option (List EntryValue) };
+    // Whether a call was refused for a full book, where it keeps that in mind.
+    ghost mark: { Self → Option Bool };
 
-    // The limit of the book, where nobody else writes it.
-    ghost limit: { Self → Option ℕ };
+    // The most entries that the book can hold.
+    ghost limit: { Self → ℕ };
 
     // Which place it is, where there are several.
     ghost Home: { Type 0 } = { Unit {0} };
@@ -56,11 +57,12 @@ pub trait Window<C: Asks>: Drop {
         ensures limit { limit result.0 ≡ limit self }
         ensures home { home result.0 ≡ home self }
         ensures turns { turns_left self ≤ turns_left result.0 + 1 }
-        ensures list { IfOk result.1 (λ r. list result.0 ≡ list self ++ entry_with (session self) (C.asked call) r ∷ []) }
-        ensures whole { IfOk result.1 (λ r. Follows (session self) (whole self) (whole result.0) (entry_with (session self) (C.asked call) r ∷ [])) }
+        ensures gained { IfOk result.1 (λ r. HasGained (session self) (entry_with (session self) (C.asked call) r ∷ []) (entries self) (entries result.0)) }
         ensures numbered { IfOk result.1 IsNumbered }
-        ensures kept { OnErr result.1 ((list result.0 ≡ list self) × (whole result.0 ≡ whole self)) }
-        ensures full { IfErr result.1 (λ why. why ≡ Full → marked result.0 ≡ true) };
+        ensures kept { OnErr result.1 (entries result.0 ≡ entries self) }
+        ensures full { IfErr result.1 (λ why. (why ≡ Full) ↔ (full result.0 ≡ true)) }
+        ensures unmarked { OnOk result.1 (mark result.0 ≡ mark self) }
+        ensures marked { IfErr result.1 (λ why. mark result.0 ≡ marked_by (is_for_limit why) (mark self)) };
 }
 
 /// A book of one's own, and a session that hands in its calls there.
@@ -76,18 +78,20 @@ impl<A: Allocator + Copy + Drop> Window<Call<A>> for Own<A> {
 
     ghost turns_left = { λ _. 4294967295 };
 
-    ghost list = { λ s. made s.book.history s.session };
+    ghost entries = { λ s. record { list = made s.book.history s.session; whole = Some s.book.history } };
 
-    ghost marked = { λ s. nat_le s.book.limit (length s.book.history) };
+    ghost full = { λ s. nat_le s.book.limit (length s.book.history) };
 
-    ghost whole = { λ s. Some s.book.history };
+    ghost mark = { λ _. None };
 
-    ghost limit = { λ s. Some s.book.limit };
+    ghost limit = { λ s. s.book.limit };
 
     ghost home = { λ _. tt };
 
     fn hand_in(mut self, call: Call<A>) -> (Own<A>, Result<Reply, WhyRefused>) {
         let session = self.session;
+        // Looking at it tells the check what holds in every book.
+        let _entries = self.book.history().len();
         match self.book.apply(session, call) {
             Ok(reply) => (self, Ok(reply)),
             Err(refused) => (self, Err(refused.why)),

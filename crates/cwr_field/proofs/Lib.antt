@@ -1,5 +1,2 @@
-pub mod Blanks
-pub mod CodeText
-pub mod DigitSteps
-pub mod DigitText
-pub mod SameFronts
+mod Blanks
+pub mod lemmas

@@ -8,6 +8,10 @@ use Rattle.std.specs.Str.Parse.{digits_value}
 abbrev pub number_of : List ℕ → Option ℕ
 number_of bytes = if list_all is_ascii_digit bytes then Some (digits_value 10 bytes) else None
 
+-- the greatest number of eight digits, which sequences, counts and the numbers of works have
+abbrev pub most_count : ℕ
+most_count = 99999999
+
 -- the last digits of a number, as many as the width, with leading zeros
 abbrev pub number_text : ℕ → ℕ → List ℕ
 number_text zero n = []

@@ -3,8 +3,20 @@ use Rattle.std.specs.Prelude.{ℕ, nat_le, List, Option, Some, None, option_and_
 use Rattle.cwr_field.specs.Layout.{is_blank}
 use Rattle.cwr_field.specs.Number.{number_of}
 
--- Blanks are no share, 0. Digits are their number, at most the whole, which is 10000.
+-- the whole of a right
+abbrev pub whole : ℕ
+whole = 10000
+
+-- the whole less the tolerance of 0.06 per cent
+abbrev pub least_whole : ℕ
+least_whole = 9994
+
+-- the whole and the tolerance
+abbrev pub most_whole : ℕ
+most_whole = 10006
+
+-- Blanks are no share, 0. Digits are their number, at most the whole.
 abbrev pub share_of : List ℕ → Option ℕ
 share_of bytes =
     if is_blank bytes then Some 0
-    else option_and_then (λ n. if nat_le n 10000 then Some n else None) (number_of bytes)
+    else option_and_then (λ n. if nat_le n whole then Some n else None) (number_of bytes)

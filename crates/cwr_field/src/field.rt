@@ -2,6 +2,7 @@ ghost use Rattle.std.specs.Prelude.{◌≡◌, ◌≤◌, ◌<◌, ◌==◌, tru
 ghost use Rattle.std.specs.List.{list_any};
 ghost use Rattle.cwr_field.specs.Layout.{field, is_blank, party_of};
 
+use crate::text::filled;
 use std::marker::Model;
 
 /// A field of a line: the bytes that the line has there, and blanks up to the field's width.
@@ -26,11 +27,10 @@ impl<'a> Model for Field<'a> {
 
 /// The field of a line from a position, counted from 1, with so many bytes.
 ///
-/// The position is at most 13,000,000,158, where the last field of the longest register line begins; the width is from
-/// 1 to 150.
+/// The position is at most 4096, the longest line of a file; the width is from 1 to 150.
 /// A line that is too short for the field reads as if blanks followed it without end.
 pub fn cut(line: &[u8], start: usize, width: usize) -> Field<'_>
-    requires start { (1 ≤ start) × (start ≤ 13000000158) }
+    requires start { (1 ≤ start) × (start ≤ 4096) }
     requires width { (1 ≤ width) × (width ≤ 150) }
     ensures value { result ≡ field line.now start width }
     ensures width { length result ≡ width }
@@ -62,9 +62,7 @@ impl Field<'_> {
         requires { length self.now ≡ N }
         ensures { result ≡ self.now }
     {
-        let mut bytes = [b' '; N];
-        bytes[..self.bytes.len()].copy_from_slice(self.bytes);
-        bytes
+        filled(self.bytes)
     }
 
     /// Whether each byte is a blank.

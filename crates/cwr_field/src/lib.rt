@@ -2,7 +2,8 @@
 //! (ISWC), interested party numbers and texts.
 //!
 //! A line is read by [`cut`], which gives a [`Field`], and each kind of value has one reader of a field:
-//! [`digits`], [`share`], [`date`], [`time`], [`iswc`], [`party`]. [`put_digits`] and [`put_text`] write fields.
+//! [`digits`], [`share`], [`date`], [`time`], [`iswc`], [`party`]. [`put_digits`] and [`put_text`] write fields;
+//! [`last_digits`] gives them as an array, [`filled`] fills a text with blanks, and [`is_printable`] tells whether it has no control byte.
 //! Positions are counted from 1, as in the CWR manual.
 #![tactic(auto)]
 
@@ -22,6 +23,8 @@ pub use codes::Iswc;
 pub use day::{Day, date};
 pub use field::{Field, cut, is_blank, party};
 pub use memory::Memory;
-pub use number::{digits, put_digits, share};
-pub use text::put_text;
+pub use number::{
+    LEAST_WHOLE, MOST_COUNT, MOST_WHOLE, WHOLE, digits, last_digits, put_digits, share,
+};
+pub use text::{filled, is_printable, put_text};
 pub use work_code::{check_digit, iswc};

@@ -7,7 +7,16 @@ use crate::memory::Memory;
 use std::alloc::Allocator;
 
 /// All of a right, in hundredths of one per cent.
-const WHOLE: u64 = 10000;
+pub const WHOLE: u64 = 10000;
+
+/// The whole of a right less the tolerance of 0.06 per cent.
+pub const LEAST_WHOLE: u64 = 9994;
+
+/// The whole of a right and the tolerance of 0.06 per cent.
+pub const MOST_WHOLE: u64 = 10006;
+
+/// The greatest number of eight digits, which sequences, counts and the numbers of works have.
+pub const MOST_COUNT: u32 = 99999999;
 
 /// The number that at most 18 bytes spell, where each is a digit.
 pub(crate) fn number_in(bytes: &[u8]) -> Option<u64>
@@ -51,6 +60,26 @@ pub fn share(text: Field) -> Option<u16>
     }
 }
 
+/// Writes the last digits of a number over the bytes, as many as there are, with leading zeros.
+fn fill(room: &mut [u8], value: u64)
+    ensures { room.new ≡ number_text (length room.old) value }
+{
+    let mut rest = value;
+    for index in (0..room.len()).rev() {
+        room[index] = b'0' + (rest % 10) as u8;
+        rest /= 10;
+    }
+}
+
+/// The last digits of a number, as many as the array has, with leading zeros.
+pub fn last_digits<const N: usize>(value: u64) -> [u8; N]
+    ensures { result ≡ number_text N value }
+{
+    let mut digits = [b'0'; N];
+    fill(&mut digits, value);
+    digits
+}
+
 /// Appends a number in so many digits, at most 18, with leading zeros. It fits them.
 ///
 /// A refusal leaves the vector as it was.
@@ -69,11 +98,7 @@ pub fn put_digits<A: Allocator>(
     ensures full { OnErr result (vec_capacity out.old < vec_len out.old + width) }
 {
     let mut digits = [b'0'; 18];
-    let mut rest = value;
-    for index in (0..width).rev() {
-        digits[index] = b'0' + (rest % 10) as u8;
-        rest /= 10;
-    }
+    fill(&mut digits[..width], value);
     out.extend_from_slice(&digits[..width])?;
     Ok(())
 }

@@ -1,8 +1,25 @@
 ghost use Rattle.std.specs.Prelude.{◌≡◌, ◌≤◌, ◌<◌, ◌+◌, ◌++◌, OnOk, OnErr, length, vec_len, vec_capacity};
-ghost use Rattle.cwr_field.specs.Layout.{padded};
+ghost use Rattle.cwr_field.specs.Layout.{padded, is_printable};
 
 use crate::memory::Memory;
 use std::alloc::Allocator;
+
+/// Whether no byte is below 32, as those of line ends and other controls are.
+pub fn is_printable(text: &[u8]) -> bool
+    ensures { result ≡ is_printable text.now }
+{
+    text.iter().all(|byte| 32 <= *byte)
+}
+
+/// A text, which is no longer than the width, and blanks up to the width.
+pub fn filled<const N: usize>(text: &[u8]) -> [u8; N]
+    requires { length text.now ≤ N }
+    ensures { result ≡ padded N text.now }
+{
+    let mut bytes = [b' '; N];
+    bytes[..text.len()].copy_from_slice(text);
+    bytes
+}
 
 /// Appends a text, which is no longer than the width, and blanks up to the width.
 ///

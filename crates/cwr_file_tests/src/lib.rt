@@ -4,6 +4,14 @@
 #[cfg(test)]
 mod acknowledgements;
 #[cfg(test)]
+mod cuts_and_sizes;
+#[cfg(test)]
+mod first_faults;
+#[cfg(test)]
+mod interruptions;
+#[cfg(test)]
+mod lines;
+#[cfg(test)]
 mod streams;
 #[cfg(test)]
-mod submissions;
+mod taken;

@@ -4,7 +4,7 @@ use Rattle.std.proofs.lemmas.Bool.Decides.{nat_tests}
 use Rattle.std.specs.List.{list_any, range_with_len}
 use Rattle.cwr_grammar.proofs.Envelope.{Group, transactions_from, size, all_transactions_of, all_lines_of, groups_from, envelope, first_role_fault}
 use Rattle.cwr_grammar.specs.Before.{in_group, in_transaction, group_kind, groups, transactions, all_transactions, group_lines, transaction_lines, is_file_trailer, is_nil}
-use Rattle.cwr_grammar.specs.Rows.{is_number, option_next, same_kind, is_foreign}
+use Rattle.cwr_grammar.specs.FaultTests.{is_number, option_next, same_kind, is_foreign}
 use Rattle.cwr_grammar.specs.FirstFault.{role_fault, fault_at_end, at_line, or_else}
 use Rattle.cwr_grammar.specs.declared.role.Role.{Role}
 use Rattle.cwr_grammar.specs.declared.role.Role.TheVariants.{FileHeader, GroupHeader, TransactionHeader, Detail, GroupTrailer, FileTrailer, Unnamed}

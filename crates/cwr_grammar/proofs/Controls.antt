@@ -14,7 +14,7 @@ use Rattle.std.proofs.lemmas.List.Sums.{fails_before_first}
 use Rattle.std.proofs.lemmas.List.Folds.{list_any_none, list_any-append}
 use Rattle.std.proofs.lemmas.List.Elements.{All-from_get_or}
 use Rattle.std.specs.Str.Lines.{strip_carriage_return}
-use Rattle.cwr_grammar.specs.Rows.{has_control}
+use Rattle.cwr_grammar.specs.FaultTests.{has_control}
 use lib.Count.{count_trailing_zeros}
 use lib.Lanes.{mask_l, top, zip2}
 use mir.Val.{bits, hbits}

@@ -9,7 +9,7 @@ use Rattle.cwr_field.specs.Layout.{field}
 use Rattle.cwr_record.specs.Columns.{header_sender}
 use Rattle.cwr_record.specs.Control as table
 use Rattle.cwr_record.specs.Layout.{StandsFor}
-use Rattle.cwr_record.specs.Stamp.{is_printable}
+use Rattle.cwr_field.specs.Layout.{is_printable}
 use Rattle.cwr_record.specs.declared.control.Header.{Header}
 use Rattle.cwr_record.specs.declared.works.WorkKind.{WorkKind}
 use Rattle.cwr_grammar.specs.File.{File, FileGroup, IsFile, AreGroups, AreTransactions, IsTransaction, AreDetails, lines_of_group, lines_of_groups, joined, records_of}

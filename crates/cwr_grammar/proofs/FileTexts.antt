@@ -3,14 +3,14 @@ use Rattle.std.proofs.Common.{◌≡◌, ℕ, ◌+◌, ◌≤◌, true, false, �
 use Rattle.std.specs.Prelude.{IsTrue, nat_le, nat_lt}
 use Rattle.std.specs.List.{AllByRecursion}
 use Rattle.std.proofs.lemmas.Bool.Decides.{nat_tests}
-use Rattle.cwr_record.specs.Stamp.{is_printable}
+use Rattle.cwr_field.specs.Layout.{is_printable}
 use Rattle.cwr_record.specs.declared.works.WorkKind.{WorkKind}
 use Rattle.cwr_grammar.specs.declared.role.Role.TheVariants.{GroupTrailer}
-use Rattle.cwr_grammar.specs.declared.place.Place.{Place}
-use Rattle.cwr_grammar.specs.Rows.{has_control}
+use Rattle.cwr_grammar.specs.declared.span.Span.{Span}
+use Rattle.cwr_grammar.specs.FaultTests.{has_control}
 use Rattle.cwr_grammar.specs.File.{File, FileGroup, IsFile, IsPlain, AreGroups, AreTransactions, lines_of_groups, lines_of_group, joined}
 use Rattle.cwr_grammar.specs.RawParts.{RawParts, IsTransactionText, raws_of, raws_of_group}
-use Rattle.cwr_grammar.specs.Places.{IsInside, IsPlace, raws_at}
+use Rattle.cwr_grammar.specs.Spans.{IsInside, IsSpan, raws_at}
 use Rattle.cwr_grammar.proofs.Numbers.{small_role}
 use Rattle.cwr_grammar.proofs.Collecting.{all_more}
 
@@ -67,8 +67,8 @@ groups_texts (g ∷ gs) i (here, others) plain =
 pub file_texts : (text : List (List ℕ)) (f : File) → IsFile text f → AllByRecursion HasText (raws_of 1 f.groups)
 file_texts text f h = groups_texts f.groups 1 h.groups (all_front IsPlain (lines_of_groups f.groups) (f.trailer ∷ []) h.plain.1)
 
--- ---- places
+-- ---- spans
 
-pub are_places : (text : List ℕ) (places : List Place) → AllByRecursion (IsInside text) places → AllByRecursion HasText (raws_at text places) → AllByRecursion (IsPlace text) places
+pub are_places : (text : List ℕ) (spans : List Span) → AllByRecursion (IsInside text) spans → AllByRecursion HasText (raws_at text spans) → AllByRecursion (IsSpan text) spans
 are_places text [] inside texts = tt
-are_places text (p ∷ places) inside texts = (record { inside = inside.0; whole = texts.0 }, are_places text places inside.1 texts.1)
+are_places text (p ∷ spans) inside texts = (record { inside = inside.0; whole = texts.0 }, are_places text spans inside.1 texts.1)

@@ -3,7 +3,7 @@ use Rattle.std.proofs.Common.{◌≡◌, ℕ, ◌+◌, ◌≤◌, ◌<◌, ltb, 
 use Rattle.std.proofs.lemmas.Bool.Decides.{nat_tests}
 use Rattle.cwr_grammar.specs.Roles.{role_of}
 use Rattle.cwr_grammar.specs.Before.{is_nil}
-use Rattle.cwr_grammar.specs.Rows.{is_headless, is_malformed, is_misplaced, is_foreign, is_mixed, is_misnumbered_group, is_misnumbered, is_miscounted_group, is_miscounted_file, is_after_end, is_tail, has_control, is_long, rows_of, rows_at_end}
+use Rattle.cwr_grammar.specs.FaultTests.{is_headless, is_malformed, is_misplaced, is_foreign, is_mixed, is_misnumbered_group, is_misnumbered, is_miscounted_group, is_miscounted_file, is_after_end, is_tail, has_control, is_long, rows_of, rows_at_end}
 use Rattle.cwr_grammar.specs.FirstFault.{fault_at_end, at_line, or_else, or_number, line_fault, first_fault_after}
 use Rattle.cwr_record.specs.FaultOrder.{IsNoLater}
 use Rattle.cwr_grammar.specs.Faults.{numbers, Has, HasFault, IsFault, IsLeastFault}

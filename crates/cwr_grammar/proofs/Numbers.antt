@@ -17,10 +17,10 @@ use Rattle.cwr_record.specs.declared.record_type.RecordType.{RecordType}
 use Rattle.cwr_record.specs.declared.record_type.RecordType.TheVariants.{Hdr, Grh, Grt, Trl, Nwr, Rev, Ack, Spu, Spt, Opu, Swr, Swt, Pwr, Owr, Alt, Xrf, Other, Carried, Bad}
 use Rattle.cwr_grammar.specs.declared.role.Role.{Role}
 use Rattle.cwr_grammar.specs.declared.role.Role.TheVariants.{FileHeader, GroupHeader, TransactionHeader, Detail, GroupTrailer, FileTrailer, Unnamed}
-use Rattle.cwr_grammar.specs.declared.counts.Counts.{Counts}
+use Rattle.cwr_grammar.specs.declared.file_counts.FileCounts.{FileCounts}
 use Rattle.cwr_grammar.specs.Before.{groups, is_file_trailer}
 use Rattle.cwr_grammar.specs.Counted.{counts_of, FitsHeader}
-use Rattle.cwr_grammar.specs.Rows.{is_headless, has_control, is_long, is_tail, is_after_end}
+use Rattle.cwr_grammar.specs.FaultTests.{is_headless, has_control, is_long, is_tail, is_after_end}
 use Rattle.cwr_grammar.specs.FirstFault.{role_fault, line_fault}
 use Rattle.cwr_grammar.specs.Roles.{role_of, role_at}
 use Rattle.cwr_grammar.proofs.Accepted.{head_is, group_head_is, file_end_is}
@@ -106,18 +106,18 @@ groups_stay (GroupTrailer i t r) before clear small few = few
 groups_stay (FileTrailer g t r) before clear small few = few
 groups_stay Unnamed before clear small few = few
 
-pub few_groups_after : (before : List (List ℕ)) (line : List ℕ) (role : Role) (s next : Counts) → s ≡ counts_of (map role_of before) → next ≡ counts_of (role ∷ map role_of before) → role ≡ role_of line
+pub few_groups_after : (before : List (List ℕ)) (line : List ℕ) (role : Role) (s next : FileCounts) → s ≡ counts_of (map role_of before) → next ≡ counts_of (role ∷ map role_of before) → role ≡ role_of line
     → role_fault (map role_of before) (role_of line) ≡ None → s.groups < 10 ^ 5 → next.groups < 10 ^ 5
 few_groups_after before line role s next is next_is read clear few =
-    let now : groups (map role_of before) < 10 ^ 5 = subst (λ (n : ℕ). n < 10 ^ 5) (ap (λ (x : Counts). x.groups) is) few in
+    let now : groups (map role_of before) < 10 ^ 5 = subst (λ (n : ℕ). n < 10 ^ 5) (ap (λ (x : FileCounts). x.groups) is) few in
     let clear_at : role_fault (map role_of before) role ≡ None = ap (role_fault (map role_of before)) read ∙ clear in
-    subst (λ (n : ℕ). n < 10 ^ 5) (sym (ap (λ (x : Counts). x.groups) next_is)) (groups_stay role (map role_of before) clear_at (small_role line role (sym read)) now)
+    subst (λ (n : ℕ). n < 10 ^ 5) (sym (ap (λ (x : FileCounts). x.groups) next_is)) (groups_stay role (map role_of before) clear_at (small_role line role (sym read)) now)
 
-fits_at : (role : Role) (before : List Role) (s : Counts) → s ≡ counts_of before → role_fault before role ≡ None → HasSmallNumbers role → s.groups < 10 ^ 5 → FitsHeader role s
+fits_at : (role : Role) (before : List Role) (s : FileCounts) → s ≡ counts_of before → role_fault before role ≡ None → HasSmallNumbers role → s.groups < 10 ^ 5 → FitsHeader role s
 fits_at (TransactionHeader (Some k) j d) before s is clear small few =
     let h = head_is before (Some k) j d clear in
     let lt = small_is j _ (10 ^ 8) h.2 small in
-    (omega (arith, few), omega (arith, lt, ap (λ (x : Counts). x.transactions) is))
+    (omega (arith, few), omega (arith, lt, ap (λ (x : FileCounts). x.transactions) is))
 fits_at (TransactionHeader None j d) before s is clear small few = tt
 fits_at (GroupHeader k i) before s is clear small few = tt
 fits_at (FileHeader valid) before s is clear small few = tt
@@ -126,7 +126,7 @@ fits_at (GroupTrailer i t r) before s is clear small few = tt
 fits_at (FileTrailer g t r) before s is clear small few = tt
 fits_at Unnamed before s is clear small few = tt
 
-pub fits_header : (before : List (List ℕ)) (line : List ℕ) (role : Role) (s : Counts) → s ≡ counts_of (map role_of before) → role ≡ role_of line
+pub fits_header : (before : List (List ℕ)) (line : List ℕ) (role : Role) (s : FileCounts) → s ≡ counts_of (map role_of before) → role ≡ role_of line
     → role_fault (map role_of before) (role_of line) ≡ None → s.groups < 10 ^ 5 → FitsHeader role s
 fits_header before line role s is read clear few =
     fits_at role (map role_of before) s is (ap (role_fault (map role_of before)) read ∙ clear) (small_role line role (sym read)) few
@@ -141,8 +141,8 @@ records_at_end (GroupTrailer i t r) before clear small e = absurd cc
 records_at_end Unnamed before clear small e = absurd cc
 
 -- the records of a file that ends without a fault
-pub few_records : (before : List (List ℕ)) (line : List ℕ) (role : Role) (next : Counts) → next ≡ counts_of (role ∷ map role_of before) → role ≡ role_of line
+pub few_records : (before : List (List ℕ)) (line : List ℕ) (role : Role) (next : FileCounts) → next ≡ counts_of (role ∷ map role_of before) → role ≡ role_of line
     → role_fault (map role_of before) (role_of line) ≡ None → is_file_trailer role ≡ true → next.lines < 10 ^ 8
 few_records before line role next is read clear last =
     let lt = records_at_end role (map role_of before) (ap (role_fault (map role_of before)) read ∙ clear) (small_role line role (sym read)) last in
-    omega (arith, lt, ap (λ (x : Counts). x.lines) is)
+    omega (arith, lt, ap (λ (x : FileCounts). x.lines) is)

@@ -2,15 +2,15 @@
 use Rattle.std.specs.Prelude.{ℕ, ◌+◌, ◌≡◌, ◌≤◌, ◌<◌, ◌^◌, false, List, [], ◌∷◌, ◌++◌, length, map, drop, Option, Some, None}
 use Rattle.std.specs.List.{slice_range, AllByRecursion}
 use Rattle.std.specs.Str.Lines.{lines}
-use Rattle.cwr_grammar.specs.declared.place.Place.{Place}
-use Rattle.cwr_grammar.specs.declared.place.Open.{Open}
-use Rattle.cwr_grammar.specs.declared.counts.Counts.{Counts}
+use Rattle.cwr_grammar.specs.declared.span.Span.{Span}
+use Rattle.cwr_grammar.specs.declared.span.Open.{Open}
+use Rattle.cwr_grammar.specs.declared.file_counts.FileCounts.{FileCounts}
 use Rattle.cwr_grammar.specs.Counted.{counts_of}
 use Rattle.cwr_grammar.specs.Roles.{role_of}
-use Rattle.cwr_grammar.specs.Rows.{is_after_end}
+use Rattle.cwr_grammar.specs.FaultTests.{is_after_end}
 use Rattle.cwr_grammar.specs.FirstFault.{first_fault_after}
 use Rattle.cwr_grammar.specs.RawParts.{RawParts}
-use Rattle.cwr_grammar.specs.Places.{IsInside, raws_at}
+use Rattle.cwr_grammar.specs.Spans.{IsInside, raws_at}
 use Rattle.cwr_grammar.proofs.Collected.{details, raws, group_count, record_count}
 
 -- the open transaction, whose bytes end at a position, with the details that follow
@@ -28,14 +28,14 @@ abbrev pub IsOpenUpTo : ℕ → Option Open → Type 0
 IsOpenUpTo at None = Unit {0}
 IsOpenUpTo at (Some o) = o.start ≤ at
 
--- the places that were taken, the open transaction and what is still to come are the transactions of the text
-pub record Collecting (text : List ℕ) (places : List Place) (current : Option Open) (g t at : ℕ) : Type 0 where
-  pub inside : AllByRecursion (IsInside text) places
+-- the spans that were taken, the open transaction and what is still to come are the transactions of the text
+pub record Collecting (text : List ℕ) (spans : List Span) (current : Option Open) (g t at : ℕ) : Type 0 where
+  pub inside : AllByRecursion (IsInside text) spans
   pub up_to : IsOpenUpTo at current
   pub whole : IsWhole text at current
-  pub found : raws_at text places ++ following text at current (lines (drop at text)) ++ raws (lines (drop at text)) g t ≡ raws (lines text) 0 0
+  pub found : raws_at text spans ++ following text at current (lines (drop at text)) ++ raws (lines (drop at text)) g t ≡ raws (lines text) 0 0
 
-pub record Reading (text : List ℕ) (places : List Place) (current : Option Open) (counts : Counts) (at : ℕ) (before : List (List ℕ)) : Type 0 where
+pub record Reading (text : List ℕ) (spans : List Span) (current : Option Open) (counts : FileCounts) (at : ℕ) (before : List (List ℕ)) : Type 0 where
   pub inside : at ≤ length text
   pub few : length before ≤ at
   pub few_groups : counts.groups < 10 ^ 5
@@ -44,4 +44,4 @@ pub record Reading (text : List ℕ) (places : List Place) (current : Option Ope
   pub fault : first_fault_after before (lines (drop at text)) ≡ first_fault_after [] (lines text)
   pub group_total : counts.groups + group_count (lines (drop at text)) ≡ group_count (lines text)
   pub record_total : counts.lines + record_count (lines (drop at text)) ≡ record_count (lines text)
-  pub collecting : at < length text → Collecting text places current counts.groups counts.transactions at
+  pub collecting : at < length text → Collecting text spans current counts.groups counts.transactions at

@@ -29,9 +29,10 @@ use Rattle.cwr_record.specs.declared.writers.WriterKind.TheVariants.{Swr, Owr}
 use Rattle.cwr_record.specs.declared.writers.Writer.{Writer}
 use Rattle.cwr_record.specs.declared.writers.WriterTerritory.{WriterTerritory}
 use Rattle.cwr_record.specs.declared.writers.Link.{Link}
-use Rattle.cwr_record.proofs.LineParts.{named, number_is, work_is, publisher_is, writer_is}
+use Rattle.cwr_record.proofs.lemmas.LineParts.{named, number_is, work_is, publisher_is, writer_is}
 use Rattle.cwr_grammar.specs.declared.role.Role.TheVariants.{FileHeader, GroupHeader, TransactionHeader, Detail, GroupTrailer, FileTrailer}
-use Rattle.cwr_grammar.specs.Roles.{role_of, role_at, kind_named, transaction_header, detail, number_at}
+use Rattle.cwr_record.specs.Kinds.{work_kind_named}
+use Rattle.cwr_grammar.specs.Roles.{role_of, role_at, transaction_header, detail, number_at}
 
 pub header_role : (line : List ℕ) (x : Header) → StandsFor control.header line x → role_of line ≡ FileHeader true
 header_role line x h =
@@ -39,7 +40,7 @@ header_role line x h =
     rw (t, number_is _ _ h.1.1.1.0, number_is _ _ h.1.1.1.1.0, number_is _ _ h.1.1.1.1.1.0) refl
 
 pub group_header_role : (line : List ℕ) (x : GroupHead) → StandsFor control.group_head line x
-    → role_of line ≡ GroupHeader (kind_named x.transaction_type) (Some x.group)
+    → role_of line ≡ GroupHeader (work_kind_named x.transaction_type) (Some x.group)
 group_header_role line x h =
     let t : type_of line ≡ Grh = named line (codes "GRH") h.0 in
     rw (t, h.1.0, number_is _ _ h.1.1.0) refl

@@ -2,7 +2,7 @@
 use Rattle.std.proofs.Common.{◌≡◌, ◌≤◌, ◌<◌, ◌^◌, Bool, true, false, cond, List, [], ◌∷◌, length, arith}
 use Rattle.std.specs.List.{filter}
 use Rattle.cwr_grammar.specs.declared.role.Role.{Role}
-use Rattle.cwr_grammar.specs.declared.counts.Counts.{Counts}
+use Rattle.cwr_grammar.specs.declared.file_counts.FileCounts.{FileCounts}
 use Rattle.cwr_grammar.specs.Before.{since, group_lines, is_group_header, is_transaction_header}
 use Rattle.cwr_grammar.specs.Counted.{counts_of, AreSmall}
 
@@ -28,5 +28,5 @@ are_small before lt = record {
   all = length-filter-le is_transaction_header before;
 }
 
-pub small_from : (before : List Role) (s : Counts) → s ≡ counts_of before → length before < 2 ^ 63 → AreSmall s
+pub small_from : (before : List Role) (s : FileCounts) → s ≡ counts_of before → length before < 2 ^ 63 → AreSmall s
 small_from before s is lt = rw is (are_small before lt)

@@ -2,11 +2,11 @@
 use Rattle.std.specs.Prelude.{◌<◌, ◌≤◌, ◌^◌, List, length, Some}
 use Rattle.cwr_grammar.specs.declared.role.Role.{Role}
 use Rattle.cwr_grammar.specs.declared.role.Role.TheVariants.{TransactionHeader}
-use Rattle.cwr_grammar.specs.declared.counts.Counts.{Counts}
+use Rattle.cwr_grammar.specs.declared.file_counts.FileCounts.{FileCounts}
 use Rattle.cwr_grammar.specs.Before.{in_group, in_transaction, group_kind, groups, transactions, all_transactions, group_lines, transaction_lines, is_ended}
 
 -- the counts after the lines before, the newest first
-abbrev pub counts_of : List Role → Counts
+abbrev pub counts_of : List Role → FileCounts
 counts_of before = record {
   lines = length before;
   groups = groups before;
@@ -21,7 +21,7 @@ counts_of before = record {
 }
 
 -- no count passes the number of lines, and that is less than the greatest length of a text
-pub record AreSmall (s : Counts) : Type 0 where
+pub record AreSmall (s : FileCounts) : Type 0 where
   pub lines : s.lines < 2 ^ 63
   pub groups : s.groups ≤ s.lines
   pub group_lines : s.group_lines ≤ s.lines
@@ -30,6 +30,6 @@ pub record AreSmall (s : Counts) : Type 0 where
   pub all : s.all_transactions ≤ s.lines
 
 -- where a transaction begins, the numbers of its group and of itself fit 32 bits
-abbrev pub FitsHeader : Role → Counts → Type 0
+abbrev pub FitsHeader : Role → FileCounts → Type 0
 FitsHeader (TransactionHeader (Some kind) transaction place) s = (s.groups < 2 ^ 32) × (s.transactions < 2 ^ 32)
 FitsHeader _ s = Unit {0}

@@ -1,7 +1,7 @@
 -- The faults of a file, and the first of them: the least line, and of its faults the least number.
 use Rattle.std.specs.Prelude.{ℕ, ◌+◌, ◌≡◌, ◌⊎◌, Bool, List, [], ◌∷◌, length, if◌then◌else◌}
 use Rattle.cwr_record.specs.FaultOrder.{IsNoLater}
-use Rattle.cwr_grammar.specs.Rows.{rows_of, rows_at_end}
+use Rattle.cwr_grammar.specs.FaultTests.{rows_of, rows_at_end}
 
 -- the numbers of the faults that a line has
 abbrev pub numbers : List (ℕ × Bool) → List ℕ

@@ -5,7 +5,7 @@ use Rattle.std.specs.List.{AllByRecursion}
 use Rattle.cwr_record.specs.declared.works.WorkKind.{WorkKind}
 use Rattle.cwr_grammar.specs.declared.role.Role.TheVariants.{FileHeader, GroupHeader, TransactionHeader, Detail, GroupTrailer, FileTrailer}
 use Rattle.cwr_grammar.specs.Roles.{role_of}
-use Rattle.cwr_grammar.specs.Rows.{is_tail, has_control, is_long}
+use Rattle.cwr_grammar.specs.FaultTests.{is_tail, has_control, is_long}
 
 -- a group: its transaction type, its GRH line, the lines of each transaction, its GRT line
 pub record FileGroup : Type 0 where

@@ -3,7 +3,7 @@ use Rattle.std.specs.Prelude.{ℕ, ◌+◌, List, [], ◌∷◌, length, map, Op
 use Rattle.cwr_grammar.specs.declared.role.Role.{Role}
 use Rattle.cwr_grammar.specs.Before.{is_nil, is_ended}
 use Rattle.cwr_grammar.specs.Roles.{role_of}
-use Rattle.cwr_grammar.specs.Rows.{is_headless, has_control, is_malformed, is_misplaced, is_foreign, is_mixed, is_misnumbered_group, is_misnumbered, is_miscounted_group, is_miscounted_file, is_tail, is_long, is_after_end}
+use Rattle.cwr_grammar.specs.FaultTests.{is_headless, has_control, is_malformed, is_misplaced, is_foreign, is_mixed, is_misnumbered_group, is_misnumbered, is_miscounted_group, is_miscounted_file, is_tail, is_long, is_after_end}
 
 abbrev pub at_line : ℕ → Option ℕ → Option (ℕ × ℕ)
 at_line line None = None

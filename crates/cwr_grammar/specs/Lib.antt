@@ -1,11 +1,11 @@
 pub mod Roles
 pub mod Before
-pub mod Rows
+pub mod FaultTests
 pub mod Faults
 pub mod FirstFault
 pub mod File
 pub mod RawParts
 pub mod Submitted
 pub mod Counted
-pub mod Places
+pub mod Spans
 pub mod FaultText

@@ -1,7 +1,8 @@
 -- A transaction as it stands in a file.
 use Rattle.std.specs.Prelude.{ℕ, ◌+◌, ◌≤◌, ◌<◌, ◌^◌, IsTrue, List, [], ◌∷◌, ◌++◌, length}
 use Rattle.std.specs.List.{AllByRecursion}
-use Rattle.cwr_record.specs.Stamp.{is_printable}
+use Rattle.cwr_field.specs.Layout.{is_printable}
+use Rattle.cwr_field.specs.Number.{most_count}
 use Rattle.cwr_record.specs.declared.works.WorkKind.{WorkKind}
 use Rattle.cwr_grammar.specs.File.{FileGroup}
 
@@ -23,7 +24,7 @@ pub record IsPlaced (transaction : RawParts) : Type 0 where
 -- below 32
 pub record IsTransactionText (lines : List (List ℕ)) : Type 0 where
   pub some : 0 < length lines
-  pub few : length lines ≤ 99999999
+  pub few : length lines ≤ most_count
   pub printable : AllByRecursion (λ line. IsTrue (is_printable line)) lines
 
 -- how many lines transactions have

@@ -1,11 +1,11 @@
 -- The role of a line in a file (CWR 2.2): what its record opens, goes on with or closes, and the numbers that it
 -- states. A number is `None` where its field has other bytes than digits.
-use Rattle.std.specs.Prelude.{ℕ, Bool, ◌&&◌, List, Option, Some, None, is_some, codes, if◌then◌else◌}
-use Rattle.std.specs.Str.{bytes_eq}
+use Rattle.std.specs.Prelude.{ℕ, Bool, ◌&&◌, List, Option, Some, None, is_some}
 use Rattle.cwr_field.specs.Number.{number_of}
 use Rattle.cwr_field.specs.Calendar.{day_of, time_of}
 use Rattle.cwr_record.specs.Columns as column
 use Rattle.cwr_record.specs.Columns.{field_at}
+use Rattle.cwr_record.specs.Kinds.{work_kind_named}
 use Rattle.cwr_record.specs.RecordTypes.{type_of}
 use Rattle.cwr_record.specs.declared.columns.Column.{Column}
 use Rattle.cwr_record.specs.declared.record_type.RecordType.{RecordType}
@@ -14,11 +14,6 @@ use Rattle.cwr_record.specs.declared.works.WorkKind.{WorkKind}
 use Rattle.cwr_record.specs.declared.works.WorkKind.TheVariants as work
 use Rattle.cwr_grammar.specs.declared.role.Role.{Role}
 use Rattle.cwr_grammar.specs.declared.role.Role.TheVariants.{FileHeader, GroupHeader, TransactionHeader, Detail, GroupTrailer, FileTrailer, Unnamed}
-
--- the transaction types that are read
-abbrev pub kind_named : List ℕ → Option WorkKind
-kind_named name =
-    if bytes_eq name (codes "NWR") then Some work.Nwr else if bytes_eq name (codes "REV") then Some work.Rev else None
 
 -- the number in a column
 abbrev pub number_at : List ℕ → Column → Option ℕ
@@ -38,7 +33,7 @@ file_header line = FileHeader (is_dated line)
 -- GRH: Transaction Type, Group ID
 abbrev pub group_header : List ℕ → Role
 group_header line =
-    GroupHeader (kind_named (field_at line column.group_head_transaction_type)) (number_at line column.group_head_group)
+    GroupHeader (work_kind_named (field_at line column.group_head_transaction_type)) (number_at line column.group_head_group)
 
 -- a transaction's header: its kind where it is one that is read, Transaction Sequence #, Record Sequence #
 abbrev pub transaction_header : Option WorkKind → List ℕ → Role

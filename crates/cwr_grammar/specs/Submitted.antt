@@ -4,7 +4,7 @@ use Rattle.std.specs.List.{AllByRecursion}
 use Rattle.std.specs.Str.Lines.{lines}
 use Rattle.cwr_record.specs.Control as table
 use Rattle.cwr_record.specs.Layout.{StandsFor}
-use Rattle.cwr_record.specs.Stamp.{is_printable}
+use Rattle.cwr_field.specs.Layout.{is_printable}
 use Rattle.cwr_record.specs.declared.control.Header.{Header}
 use Rattle.cwr_grammar.specs.declared.role.Role.TheVariants.{FileHeader}
 use Rattle.cwr_grammar.specs.declared.refusal.FileRefusal.{FileRefusal}
@@ -13,10 +13,10 @@ use Rattle.cwr_grammar.specs.Roles.{role_of}
 use Rattle.cwr_grammar.specs.Faults.{IsLeastFault}
 use Rattle.cwr_grammar.specs.File.{File, IsFile, records_of}
 use Rattle.cwr_grammar.specs.RawParts.{RawParts, IsPlaced, lines_in, raws_of}
-use Rattle.cwr_grammar.specs.declared.counts.Counts.{Counts}
-use Rattle.cwr_grammar.specs.declared.place.Place.{Place}
+use Rattle.cwr_grammar.specs.declared.file_counts.FileCounts.{FileCounts}
+use Rattle.cwr_grammar.specs.declared.span.Span.{Span}
 use Rattle.cwr_grammar.specs.FirstFault.{first_fault, tail_fault, with_eleven}
-use Rattle.cwr_grammar.specs.Places.{IsInside, raws_at}
+use Rattle.cwr_grammar.specs.Spans.{IsInside, raws_at}
 
 -- the file as it is handed out: its header, its transactions, how many groups and how many records it has
 pub record IsSubmission (f : File) (head : Header) (found : List RawParts) (group_count record_count : ℕ) : Type 0 where
@@ -49,11 +49,11 @@ pub record AreParts (f : File) (found : List RawParts) (group_count record_count
 
 -- A text was read up to its TRL without a fault, which ends before a position. What follows decides alone whether the
 -- text is a file, and if it is one, these are its parts.
-pub record IsReadTo (text : List ℕ) (places : List Place) (s : Counts) (at : ℕ) : Type 0 where
+pub record IsReadTo (text : List ℕ) (spans : List Span) (s : FileCounts) (at : ℕ) : Type 0 where
   pub inside : at ≤ length text
   pub few : s.lines ≤ at
   pub few_groups : s.groups < 10 ^ 5
   pub few_records : s.lines < 10 ^ 8
-  pub placed : AllByRecursion (IsInside text) places
+  pub placed : AllByRecursion (IsInside text) spans
   pub fault : first_fault (lines text) ≡ with_eleven (tail_fault (s.lines + 1) (lines (drop at text)))
-  pub parts : (f : File) → IsFile (lines text) f → AreParts f (raws_at text places) s.groups s.lines
+  pub parts : (f : File) → IsFile (lines text) f → AreParts f (raws_at text spans) s.groups s.lines

@@ -2,11 +2,11 @@ ghost use Rattle.std.specs.Prelude.{◌≡◌, ◌+◌, ◌<◌, ◌^◌, ℕ, t
 ghost use Rattle.std.specs.Str.Lines.{lines};
 ghost use Rattle.cwr_grammar.specs.declared.role.Role.{Role};
 ghost use Rattle.cwr_grammar.specs.Roles.{role_of};
-ghost use Rattle.cwr_grammar.specs.Rows.{is_headless, has_control, is_tail};
+ghost use Rattle.cwr_grammar.specs.FaultTests.{is_headless, has_control, is_tail};
 ghost use Rattle.cwr_grammar.specs.FirstFault.{line_fault, tail_fault};
 ghost use Rattle.cwr_grammar.specs.Counted.{counts_of, AreSmall};
 
-use crate::counts::Counts;
+use crate::file_counts::FileCounts;
 use crate::lines::first_line;
 use crate::role::Role;
 
@@ -14,7 +14,7 @@ use crate::role::Role;
 const LONGEST_LINE: usize = 4096;
 
 /// The least fault of the next line, where the file did not end before it.
-pub(crate) fn fault_of(counts: &Counts, line: &[u8], is_clean: bool, role: &Role) -> Option<u8>
+pub(crate) fn fault_of(counts: &FileCounts, line: &[u8], is_clean: bool, role: &Role) -> Option<u8>
     requires small { AreSmall counts.now }
     requires goes { counts.now.is_ended ≡ false }
     requires clean { is_clean ≡ true → has_control line.now ≡ false }
@@ -60,7 +60,7 @@ fn is_tail(line: &[u8]) -> bool
     line.iter().all(|byte| *byte == b' ' || *byte == 26)
 }
 
-fn is_headless(counts: &Counts, role: &Role) -> bool
+fn is_headless(counts: &FileCounts, role: &Role) -> bool
     ensures { (before : List Role) → counts.now ≡ counts_of before → result ≡ is_headless before role.now }
 {
     if counts.lines > 0 {

@@ -24,7 +24,8 @@ ghost use Rattle.cwr_grammar.specs.declared.role.Role.TheVariants as role;
 ghost use Rattle.cwr_grammar.specs.Faults.{IsFault, IsLeastFault};
 ghost use Rattle.cwr_grammar.specs.File.{File, IsFile};
 ghost use Rattle.cwr_grammar.specs.FirstFault.{first_fault};
-ghost use Rattle.cwr_grammar.specs.Roles.{role_of, kind_named};
+ghost use Rattle.cwr_record.specs.Kinds.{work_kind_named};
+ghost use Rattle.cwr_grammar.specs.Roles.{role_of};
 
 /// One fault or one reading, never both: lines have a first fault, or stand for exactly one file, which has a header
 /// line and groups, and then there is no fault at all.
@@ -44,7 +45,7 @@ pub fn first_fault_is_least()
 /// dates and time are valid.
 pub fn control_records_are_read()
     ensures header { (line : List ℕ) (x : Header) → StandsFor control.header line x → role_of line ≡ role.FileHeader true }
-    ensures group_head { (line : List ℕ) (x : GroupHead) → StandsFor control.group_head line x → role_of line ≡ role.GroupHeader (kind_named x.transaction_type) (Some x.group) }
+    ensures group_head { (line : List ℕ) (x : GroupHead) → StandsFor control.group_head line x → role_of line ≡ role.GroupHeader (work_kind_named x.transaction_type) (Some x.group) }
     ensures group_trailer { (line : List ℕ) (x : GroupTrailer) → StandsFor control.group_trailer line x → role_of line ≡ role.GroupTrailer (Some x.group) (Some x.transactions) (Some x.records) }
     ensures file_trailer { (line : List ℕ) (x : FileTrailer) → StandsFor control.file_trailer line x → role_of line ≡ role.FileTrailer (Some x.groups) (Some x.transactions) (Some x.records) }
 {}

@@ -4,14 +4,14 @@
 //! a [`RawTransaction`] borrows the file's bytes, and [`Lines`] goes over lines.
 #![tactic(auto)]
 
-mod control;
-mod counts;
+mod control_bytes;
 mod fault;
+mod file_counts;
 pub mod laws;
 mod lines;
-mod place;
 mod refusal;
 mod role;
+mod span;
 mod submission;
 mod transactions;
 

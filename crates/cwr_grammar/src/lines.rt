@@ -2,9 +2,9 @@ ghost use Rattle.std.specs.Prelude.{◌≡◌, ◌<◌, ◌≤◌, ◌==◌, ◌
 ghost use Rattle.std.specs.Iterator.{YieldsFirstRef, item_count};
 ghost use Rattle.std.specs.List.{position};
 ghost use Rattle.std.specs.Str.Lines.{lines, strip_carriage_return};
-ghost use Rattle.cwr_grammar.specs.Rows.{has_control};
+ghost use Rattle.cwr_grammar.specs.FaultTests.{has_control};
 
-use crate::control::first_control;
+use crate::control_bytes::first_control;
 use std::iter::FusedIterator;
 use std::marker::Model;
 

@@ -1,12 +1,12 @@
-ghost use Rattle.std.specs.Prelude.{◌≡◌, ◌≤◌, IsTrue};
+ghost use Rattle.std.specs.Prelude.{◌≡◌};
 ghost use Rattle.cwr_record.specs.Columns.{field_at, group_head_transaction_type};
-ghost use Rattle.cwr_record.specs.Ranges.{is_in_line};
-ghost use Rattle.cwr_grammar.specs.Roles.{role_of, kind_named, transaction_header, detail, is_dated, number_at};
+ghost use Rattle.cwr_record.specs.Kinds.{work_kind_named};
+ghost use Rattle.cwr_grammar.specs.Roles.{role_of, transaction_header, detail, is_dated};
 
-use cwr_field::{date, digits, time};
+use cwr_field::{date, time};
 use cwr_record::{
-    Column, FileTrailer, GroupHead, GroupTrailer, Header, Prefix, RecordType, WorkKind, field_at,
-    type_of,
+    FileTrailer, GroupHead, GroupTrailer, Header, Prefix, RecordType, WorkKind, digits_at,
+    field_at, type_of,
 };
 
 /// A line by its role in a file: what its record opens, goes on with or closes, and the numbers that it states.
@@ -36,16 +36,16 @@ pub(crate) fn role_of(line: &[u8]) -> Role
 {
     match type_of(line) {
         RecordType::Hdr => Role::FileHeader(is_dated(line)),
-        RecordType::Grh => Role::GroupHeader(group_kind(line), number_at(line, GroupHead::GROUP)),
+        RecordType::Grh => Role::GroupHeader(group_kind(line), digits_at(line, GroupHead::GROUP)),
         RecordType::Grt => Role::GroupTrailer(
-            number_at(line, GroupTrailer::GROUP),
-            number_at(line, GroupTrailer::TRANSACTIONS),
-            number_at(line, GroupTrailer::RECORDS),
+            digits_at(line, GroupTrailer::GROUP),
+            digits_at(line, GroupTrailer::TRANSACTIONS),
+            digits_at(line, GroupTrailer::RECORDS),
         ),
         RecordType::Trl => Role::FileTrailer(
-            number_at(line, FileTrailer::GROUPS),
-            number_at(line, FileTrailer::TRANSACTIONS),
-            number_at(line, FileTrailer::RECORDS),
+            digits_at(line, FileTrailer::GROUPS),
+            digits_at(line, FileTrailer::TRANSACTIONS),
+            digits_at(line, FileTrailer::RECORDS),
         ),
         RecordType::Nwr => transaction_header(Some(WorkKind::Nwr), line),
         RecordType::Rev => transaction_header(Some(WorkKind::Rev), line),
@@ -69,8 +69,8 @@ fn transaction_header(kind: Option<WorkKind>, line: &[u8]) -> Role
 {
     Role::TransactionHeader(
         kind,
-        number_at(line, Prefix::TRANSACTION),
-        number_at(line, Prefix::DETAIL),
+        digits_at(line, Prefix::TRANSACTION),
+        digits_at(line, Prefix::DETAIL),
     )
 }
 
@@ -78,23 +78,16 @@ fn detail(line: &[u8]) -> Role
     ensures { result ≡ detail line.now }
 {
     Role::Detail(
-        number_at(line, Prefix::TRANSACTION),
-        number_at(line, Prefix::DETAIL),
+        digits_at(line, Prefix::TRANSACTION),
+        digits_at(line, Prefix::DETAIL),
     )
 }
 
 /// The transaction type of a group header, where it is one that is read.
 fn group_kind(line: &[u8]) -> Option<WorkKind>
-    ensures { result ≡ kind_named (field_at line.now group_head_transaction_type) }
+    ensures { result ≡ work_kind_named (field_at line.now group_head_transaction_type) }
 {
-    let name = field_at(line, GroupHead::TRANSACTION_TYPE).bytes::<3>();
-    if name == *b"NWR" {
-        Some(WorkKind::Nwr)
-    } else if name == *b"REV" {
-        Some(WorkKind::Rev)
-    } else {
-        None
-    }
+    WorkKind::named(&field_at(line, GroupHead::TRANSACTION_TYPE).bytes())
 }
 
 /// Whether the creation date, the creation time and the transmission date of a file header are valid.
@@ -105,13 +98,4 @@ fn is_dated(line: &[u8]) -> bool
     let created_at = time(field_at(line, Header::CREATION_TIME)).is_some();
     let sent = date(field_at(line, Header::TRANSMISSION_DATE)).is_some();
     created && created_at && sent
-}
-
-/// The number in a column.
-fn number_at(line: &[u8], column: Column) -> Option<u64>
-    requires column { IsTrue (is_in_line column) }
-    requires width { column.width ≤ 18 }
-    ensures { result ≡ number_at line.now column }
-{
-    digits(field_at(line, column))
 }

@@ -5,12 +5,12 @@ ghost use Rattle.cwr_record.specs.Layout.{StandsFor};
 ghost use Rattle.cwr_grammar.specs.File.{File, IsFile};
 ghost use Rattle.cwr_grammar.specs.Submitted.{BeginsWithHeader, IsReadTo, IsSubmission, IsBounded, IsRefusal};
 
-use crate::counts::Counts;
 use crate::fault::{fault_of, tail_fault};
+use crate::file_counts::FileCounts;
 use crate::lines::first_line;
-use crate::place::{Place, take_line};
 use crate::refusal::FileRefusal;
 use crate::role::role_of;
+use crate::span::{Span, take_line};
 use crate::transactions::Transactions;
 use cwr_record::{Header, read_header};
 use std::alloc::{Allocator, Global};
@@ -34,7 +34,7 @@ pub struct Submission<'a, A: Allocator = Global> {
 /// A well-formed file gives its header, its transactions and its counts: group ids of at most five digits, sequences of
 /// at most eight, transactions of at least one line, at most half as many lines as bytes, and a sender without a byte
 /// below 32. Any other gives its first fault: of its faulty lines the first, and of that line's faults the least. The
-/// bytes are gone over once. Memory is asked for the places of the transactions alone; that it was refused says nothing
+/// bytes are gone over once. Memory is asked for the spans of the transactions alone; that it was refused says nothing
 /// of the file.
 pub fn parse_file<'a, A: Allocator>(
     alloc: A,
@@ -44,8 +44,8 @@ pub fn parse_file<'a, A: Allocator>(
     ensures bounds { IfOk result (λ s. IsBounded (length bytes.now) s.header s.transactions) }
     ensures fault { IfErr result (IsRefusal (lines bytes.now)) }
 {
-    let mut places = Vec::new(alloc);
-    let mut counts = Counts::new();
+    let mut spans = Vec::new(alloc);
+    let mut counts = FileCounts::new();
     let mut current = None;
     let mut at = 0;
     while let Some(line) = first_line(&bytes[at..]) {
@@ -56,11 +56,11 @@ pub fn parse_file<'a, A: Allocator>(
                 line: counts.lines + 1,
             });
         }
-        current = take_line(&mut places, current, at, &role, &counts)?;
+        current = take_line(&mut spans, current, at, &role, &counts)?;
         counts.add(&role);
         at += line.size;
         if counts.is_ended {
-            return finished(bytes, at, places, &counts);
+            return finished(bytes, at, spans, &counts);
         }
     }
     Err(FileRefusal::Fault {
@@ -73,10 +73,10 @@ pub fn parse_file<'a, A: Allocator>(
 fn finished<'a, A: Allocator>(
     bytes: &'a [u8],
     at: usize,
-    places: Vec<Place, A>,
-    counts: &Counts,
+    spans: Vec<Span, A>,
+    counts: &FileCounts,
 ) -> Result<Submission<'a, A>, FileRefusal>
-    requires { IsReadTo bytes.now places.items counts.now at }
+    requires { IsReadTo bytes.now spans.items counts.now at }
     ensures found { IfOk result (λ s. (f : File) × IsFile (lines bytes.now) f × IsSubmission f s.header s.transactions s.groups s.records) }
     ensures bounds { IfOk result (λ s. IsBounded (length bytes.now) s.header s.transactions) }
     ensures fault { IfErr result (IsRefusal (lines bytes.now)) }
@@ -86,7 +86,7 @@ fn finished<'a, A: Allocator>(
     }
     Ok(Submission {
         header: header_of(bytes),
-        transactions: Transactions { bytes, places },
+        transactions: Transactions { bytes, spans },
         groups: counts.groups as u32,
         records: counts.lines as u32,
     })

@@ -1,10 +1,10 @@
 ghost use Rattle.std.specs.Prelude.{◌≡◌, ◌↔◌, [], length, slice_get, IsTrue};
 ghost use Rattle.std.specs.Iterator.{YieldsFirst, item_count};
 ghost use Rattle.cwr_grammar.specs.RawParts.{IsTransactionText};
-ghost use Rattle.cwr_grammar.specs.Places.{IsPlace, raw_at};
+ghost use Rattle.cwr_grammar.specs.Spans.{IsSpan, raw_at};
 
 use crate::Lines;
-use crate::place::Place;
+use crate::span::Span;
 use cwr_record::WorkKind;
 use std::alloc::{Allocator, Global};
 use std::iter::FusedIterator;
@@ -70,20 +70,20 @@ impl<'a> RawTransaction<'a> {
 #[derive(Drop)]
 pub struct Transactions<'a, A: Allocator = Global> {
     pub(crate) bytes: &'a [u8],
-    pub(crate) places: Vec<Place, A>,
+    pub(crate) spans: Vec<Span, A>,
 }
 
 impl<'a, A: Allocator> Model for Transactions<'a, A> {
     ghost use Rattle.std.specs.Prelude.{List};
     ghost use Rattle.std.specs.List.{AllByRecursion};
     ghost use Rattle.cwr_grammar.specs.RawParts.{RawParts};
-    ghost use Rattle.cwr_grammar.specs.Places.{IsPlace, raws_at};
+    ghost use Rattle.cwr_grammar.specs.Spans.{IsSpan, raws_at};
 
     ghost Value = { List RawParts };
 
-    ghost view = { λ t. raws_at t.bytes.now t.places.items };
+    ghost view = { λ t. raws_at t.bytes.now t.spans.items };
 
-    ghost invariant = { λ t. AllByRecursion (IsPlace t.bytes.now) t.places.items };
+    ghost invariant = { λ t. AllByRecursion (IsSpan t.bytes.now) t.spans.items };
 }
 
 impl<'a, A: Allocator> Transactions<'a, A> {
@@ -91,22 +91,22 @@ impl<'a, A: Allocator> Transactions<'a, A> {
     pub fn len(&self) -> usize
         ensures { result ≡ length self.now }
     {
-        self.places.len()
+        self.spans.len()
     }
 
     /// Whether there are none.
     pub fn is_empty(&self) -> bool
         ensures { IsTrue result ↔ (self.now ≡ []) }
     {
-        self.places.is_empty()
+        self.spans.is_empty()
     }
 
     /// The transaction at an index, counted from 0.
     pub fn get(&self, index: usize) -> Option<RawTransaction<'a>>
         ensures { result ≡ slice_get self.now index }
     {
-        let place = self.places.get(index)?;
-        Some(transaction_at(self.bytes, place))
+        let span = self.spans.get(index)?;
+        Some(transaction_at(self.bytes, span))
     }
 
     /// Goes over the transactions in order.
@@ -115,7 +115,7 @@ impl<'a, A: Allocator> Transactions<'a, A> {
     {
         TransactionIter {
             bytes: self.bytes,
-            places: self.places.as_slice(),
+            spans: self.spans.as_slice(),
         }
     }
 }
@@ -138,20 +138,20 @@ impl<'a, 's, A: Allocator> IntoIterator for &'s Transactions<'a, A> {
 #[derive(Debug, Drop)]
 pub struct TransactionIter<'a, 's> {
     bytes: &'a [u8],
-    places: &'s [Place],
+    spans: &'s [Span],
 }
 
 impl<'a, 's> Model for TransactionIter<'a, 's> {
     ghost use Rattle.std.specs.Prelude.{List};
     ghost use Rattle.std.specs.List.{AllByRecursion};
     ghost use Rattle.cwr_grammar.specs.RawParts.{RawParts};
-    ghost use Rattle.cwr_grammar.specs.Places.{IsPlace, raws_at};
+    ghost use Rattle.cwr_grammar.specs.Spans.{IsSpan, raws_at};
 
     ghost Value = { List RawParts };
 
-    ghost view = { λ t. raws_at t.bytes.now t.places.now };
+    ghost view = { λ t. raws_at t.bytes.now t.spans.now };
 
-    ghost invariant = { λ t. AllByRecursion (IsPlace t.bytes.now) t.places.now };
+    ghost invariant = { λ t. AllByRecursion (IsSpan t.bytes.now) t.spans.now };
 }
 
 impl<'a> Iterator for TransactionIter<'a, '_> {
@@ -162,23 +162,23 @@ impl<'a> Iterator for TransactionIter<'a, '_> {
     ghost remaining = { item_count (λ t. t) };
 
     fn next(&mut self) -> Option<RawTransaction<'a>> {
-        let (place, places) = self.places.split_first()?;
-        self.places = places;
-        Some(transaction_at(self.bytes, place))
+        let (span, spans) = self.spans.split_first()?;
+        self.spans = spans;
+        Some(transaction_at(self.bytes, span))
     }
 }
 
 impl FusedIterator for TransactionIter<'_, '_> {}
 
-/// The transaction at its place.
-fn transaction_at<'a>(bytes: &'a [u8], place: &Place) -> RawTransaction<'a>
-    requires { IsPlace bytes.now place.now }
-    ensures { result ≡ raw_at bytes.now place.now }
+/// The transaction in its span.
+fn transaction_at<'a>(bytes: &'a [u8], span: &Span) -> RawTransaction<'a>
+    requires { IsSpan bytes.now span.now }
+    ensures { result ≡ raw_at bytes.now span.now }
 {
     RawTransaction {
-        bytes: &bytes[place.start..place.end],
-        group: place.group,
-        sequence: place.sequence,
-        kind: place.kind,
+        bytes: &bytes[span.start..span.end],
+        group: span.group,
+        sequence: span.sequence,
+        kind: span.kind,
     }
 }

@@ -1,8 +1,6 @@
-pub mod LeastFault
-pub mod Fronts
-pub mod RoundTrip
-pub mod SameRecords
-pub mod Names
-pub mod TrailingBlanks
-pub mod Codes
-pub mod LineParts
+mod LeastFault
+mod Fronts
+mod SameRecords
+mod Names
+mod TrailingBlanks
+pub mod lemmas

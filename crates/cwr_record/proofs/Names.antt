@@ -2,8 +2,7 @@
 use Rattle.std.proofs.Common.{◌≡◌, ℕ, zero, suc, ◌-◌, true, List, length, replicate, refl}
 use Rattle.std.specs.Prelude.{nat_le}
 use Rattle.std.proofs.lemmas.List.Folds.{list_all-append}
-use Rattle.cwr_field.specs.Layout.{padded}
-use Rattle.cwr_record.specs.Stamp.{is_printable}
+use Rattle.cwr_field.specs.Layout.{padded, is_printable}
 
 all_blanks : (n : ℕ) → is_printable (replicate n 32) ≡ true
 all_blanks zero = refl

@@ -30,7 +30,7 @@ use Rattle.cwr_record.specs.Works as works
 use Rattle.cwr_record.specs.Layout.{Value, Bytes, Number, Maybe}
 use Rattle.cwr_record.specs.Control as control
 use Rattle.cwr_record.specs.Acknowledgement as acknowledgement
-use Rattle.cwr_record.proofs.RoundTrip.{values}
+use Rattle.cwr_record.proofs.lemmas.RoundTrip.{values}
 
 -- the value of a row, as what it is
 

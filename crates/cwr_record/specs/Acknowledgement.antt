@@ -2,7 +2,7 @@
 use Rattle.std.specs.Prelude.{List, [], ◌∷◌, codes}
 use Rattle.cwr_record.specs.Layout.{Part}
 use Rattle.cwr_record.specs.Columns as column
-use Rattle.cwr_record.specs.Rows.{kind, number, day, time, text}
+use Rattle.cwr_record.specs.Parts.{kind, number, day, time, text}
 use Rattle.cwr_record.specs.declared.acknowledgement.Ack.{Ack}
 use Rattle.cwr_record.specs.declared.acknowledgement.Message.{Message}
 

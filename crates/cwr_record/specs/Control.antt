@@ -2,7 +2,7 @@
 use Rattle.std.specs.Prelude.{List, [], ◌∷◌, codes}
 use Rattle.cwr_record.specs.Layout.{Part}
 use Rattle.cwr_record.specs.Columns as column
-use Rattle.cwr_record.specs.Rows.{kind, number, day, time, text, constant, blanks}
+use Rattle.cwr_record.specs.Parts.{kind, number, day, time, text, constant, blanks}
 use Rattle.cwr_record.specs.declared.control.Header.{Header}
 use Rattle.cwr_record.specs.declared.control.GroupHead.{GroupHead}
 use Rattle.cwr_record.specs.declared.control.GroupTrailer.{GroupTrailer}

@@ -1,5 +1,6 @@
 -- The codes of kinds: the record types that two kinds of a record have, and the status of a transaction.
-use Rattle.std.specs.Prelude.{ℕ, List, codes}
+use Rattle.std.specs.Prelude.{ℕ, List, Option, Some, None, codes, if◌then◌else◌}
+use Rattle.std.specs.Str.{bytes_eq}
 use Rattle.cwr_record.specs.declared.works.WorkKind.{WorkKind}
 use Rattle.cwr_record.specs.declared.works.WorkKind.TheVariants.{Nwr, Rev}
 use Rattle.cwr_record.specs.declared.status.Status.{Status}
@@ -13,6 +14,13 @@ use Rattle.cwr_record.specs.declared.writers.WriterKind.TheVariants.{Swr, Owr}
 abbrev pub work_kind_code : WorkKind → List ℕ
 work_kind_code Nwr = codes "NWR"
 work_kind_code Rev = codes "REV"
+
+-- the registration that a record type names
+abbrev pub work_kind_named : List ℕ → Option WorkKind
+work_kind_named code =
+    if bytes_eq code (codes "NWR") then Some Nwr
+    else if bytes_eq code (codes "REV") then Some Rev
+    else None
 
 -- a publisher controlled by the submitter, and another one
 abbrev pub publisher_kind_code : PublisherKind → List ℕ
@@ -30,3 +38,12 @@ status_text Accepted = codes "AS"
 status_text Duplicate = codes "DU"
 status_text Conflict = codes "CO"
 status_text Rejected = codes "RJ"
+
+-- the status that two letters name
+abbrev pub status_named : List ℕ → Option Status
+status_named code =
+    if bytes_eq code (codes "AS") then Some Accepted
+    else if bytes_eq code (codes "DU") then Some Duplicate
+    else if bytes_eq code (codes "CO") then Some Conflict
+    else if bytes_eq code (codes "RJ") then Some Rejected
+    else None

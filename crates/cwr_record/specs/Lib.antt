@@ -1,6 +1,6 @@
 pub mod Columns
 pub mod Layout
-pub mod Rows
+pub mod Parts
 pub mod Kinds
 pub mod Control
 pub mod Works

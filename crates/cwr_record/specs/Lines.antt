@@ -1,8 +1,9 @@
 -- The line that is written for a record, and what can be written.
-use Rattle.std.specs.Prelude.{◌≡◌, ℕ, ◌≤◌, ◌<◌, ◌+◌, ◌^◌, ◌==◌, nat_le, Bool, true, ◌&&◌, ◌⊎◌, IsTrue, List, [], ◌∷◌, length, Some, None}
+use Rattle.std.specs.Prelude.{◌≡◌, ℕ, ◌≤◌, ◌<◌, ◌+◌, ◌^◌, ◌==◌, nat_le, Bool, true, ◌&&◌, ◌⊎◌, IsTrue, List, [], ◌∷◌, length, Option, Some, None}
 use Rattle.std.specs.List.{flat_map}
 use Rattle.cwr_field.specs.Layout.{padded}
 use Rattle.cwr_field.specs.Number.{number_text}
+use Rattle.cwr_field.specs.Share.{whole}
 use Rattle.cwr_field.specs.Calendar.{is_day, is_time}
 use Rattle.cwr_field.specs.Iswc.{iswc_text}
 use Rattle.cwr_record.specs.Layout.{Value, Bytes, Number, Maybe, Part, Read, Kept, Written}
@@ -33,13 +34,21 @@ are_adjacent start (Read s part ∷ parts) = (s.column.start == start) && are_ad
 are_adjacent start (Kept column part ∷ parts) = (column.start == start) && are_adjacent (start + column.width) parts
 are_adjacent start (Written column text ∷ parts) = (column.start == start) && nat_le (length text) column.width && are_adjacent (start + column.width) parts
 
--- what a writer asks of a value: a number has no more digits than its field, a share is at most the whole, which
--- is 10000, and a code has nine digits
+-- what a writer asks of a value: a number has no more digits than its field, a share is at most the whole, and a code
+-- has nine digits
 abbrev pub FitsField : Content → ℕ → Value → Type 0
 FitsField Digits width (Number n) = n < 10 ^ width
-FitsField Share width (Number n) = n ≤ 10000
+FitsField Share width (Number n) = n ≤ whole
 FitsField Code width (Maybe (Some n)) = n < 10 ^ 9
 FitsField content width value = Unit {0}
+
+-- the text of a work's code, or blanks where there is none
+abbrev pub code_text : ℕ → Option ℕ → List ℕ
+code_text width n = spelling Code width (Maybe n)
+
+-- the code has nine digits, where there is one
+abbrev pub FitsCode : Option ℕ → Type 0
+FitsCode n = FitsField Code 11 (Maybe n)
 
 -- each part of the record can be written
 abbrev pub Fits : {X : Type 0} → List (Part X) → X → Type 0
@@ -53,7 +62,7 @@ abbrev pub IsHeld : Content → ℕ → Value → Type 0
 IsHeld (Kind code) width (Bytes bytes) = (bytes ≡ code) × (length code ≡ width)
 IsHeld (OneOf first second) width (Bytes bytes) = ((bytes ≡ first) ⊎ (bytes ≡ second)) × (length bytes ≡ width)
 IsHeld Digits width (Number n) = n < 10 ^ width
-IsHeld Share width (Number n) = (n ≤ 10000) × (width ≡ 5)
+IsHeld Share width (Number n) = (n ≤ whole) × (width ≡ 5)
 IsHeld Day width (Number n) = IsTrue (is_day n) × (width ≡ 8)
 IsHeld Time width (Number n) = IsTrue (is_time n) × (width ≡ 6)
 IsHeld OptionalDay width (Maybe None) = width ≡ 8

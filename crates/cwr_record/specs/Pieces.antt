@@ -1,7 +1,9 @@
 -- What is written field by field.
-use Rattle.std.specs.Prelude.{ℕ, ◌<◌, ◌≤◌, ◌^◌, List, [], length, Some, None}
+use Rattle.std.specs.Prelude.{ℕ, ◌<◌, ◌≤◌, ◌^◌, List, [], length, Some, None, IsTrue}
 use Rattle.cwr_field.specs.Layout.{padded}
 use Rattle.cwr_field.specs.Number.{number_text}
+use Rattle.cwr_field.specs.Share.{whole}
+use Rattle.cwr_field.specs.Calendar.{is_day, is_time}
 use Rattle.cwr_field.specs.Iswc.{iswc_text}
 use Rattle.cwr_record.specs.declared.pieces.Piece.{Piece}
 use Rattle.cwr_record.specs.declared.pieces.Piece.TheVariants.{Text, Digits, Share, Day, Time, OptionalDay, OptionalTime, Code}
@@ -33,6 +35,14 @@ piece_width (Code n) = 11
 abbrev pub FitsPiece : Piece → Type 0
 FitsPiece (Text text column) = length text.now ≤ column.width
 FitsPiece (Digits value column) = (value < 10 ^ column.width) × (column.width ≤ 18)
-FitsPiece (Share value) = value ≤ 10000
+FitsPiece (Share value) = value ≤ whole
 FitsPiece (Code (Some n)) = n < 10 ^ 9
 FitsPiece piece = Unit {0}
+
+-- a date or a time that is written is one of the calendar
+abbrev pub IsDated : Piece → Type 0
+IsDated (Day day) = IsTrue (is_day day)
+IsDated (Time time) = IsTrue (is_time time)
+IsDated (OptionalDay (Some day)) = IsTrue (is_day day)
+IsDated (OptionalTime (Some time)) = IsTrue (is_time time)
+IsDated piece = Unit {0}

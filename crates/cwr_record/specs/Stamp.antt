@@ -1,7 +1,6 @@
 -- Who acknowledges, and when.
-use Rattle.std.specs.Prelude.{ℕ, nat_le, Bool, ◌&&◌, List, length, Option, Some, None, if◌then◌else◌}
-use Rattle.std.specs.List.{list_all}
-use Rattle.cwr_field.specs.Layout.{padded}
+use Rattle.std.specs.Prelude.{ℕ, nat_le, ◌&&◌, List, length, Option, Some, None, if◌then◌else◌}
+use Rattle.cwr_field.specs.Layout.{padded, is_printable}
 
 -- a society's number, its name filled with blanks, and a date and a time as the numbers that their digits spell
 pub record StampParts : Type 0 where
@@ -9,10 +8,6 @@ pub record StampParts : Type 0 where
   pub name : List ℕ
   pub date : ℕ
   pub time : ℕ
-
--- no byte is below 32, as those of line ends and other controls are
-abbrev pub is_printable : List ℕ → Bool
-is_printable bytes = list_all (nat_le 32) bytes
 
 -- a society of three digits, and a name of at most 45 bytes
 abbrev pub stamp_of : ℕ → List ℕ → ℕ → ℕ → Option StampParts

@@ -2,7 +2,7 @@
 use Rattle.std.specs.Prelude.{List, [], ◌∷◌, codes}
 use Rattle.cwr_record.specs.Layout.{Part}
 use Rattle.cwr_record.specs.Columns as column
-use Rattle.cwr_record.specs.Rows.{kind, one_of, number, optional_day, optional_time, code, text}
+use Rattle.cwr_record.specs.Parts.{kind, one_of, number, optional_day, optional_time, code, text}
 use Rattle.cwr_record.specs.Kinds.{work_kind_code}
 use Rattle.cwr_record.specs.declared.works.WorkHead.{WorkHead}
 use Rattle.cwr_record.specs.declared.works.AltTitle.{AltTitle}

@@ -2,7 +2,7 @@
 use Rattle.std.specs.Prelude.{List, [], ◌∷◌, codes}
 use Rattle.cwr_record.specs.Layout.{Part}
 use Rattle.cwr_record.specs.Columns as column
-use Rattle.cwr_record.specs.Rows.{kind, one_of, number, share, text}
+use Rattle.cwr_record.specs.Parts.{kind, one_of, number, share, text}
 use Rattle.cwr_record.specs.Kinds.{writer_kind_code}
 use Rattle.cwr_record.specs.declared.writers.Writer.{Writer}
 use Rattle.cwr_record.specs.declared.writers.WriterTerritory.{WriterTerritory}

@@ -96,6 +96,8 @@ fn ack_at(line: &[u8]) -> Ack
 pub fn write_ack<A: Allocator>(out: &mut Vec<u8, A>, ack: &Ack) -> Result<(), Memory>
     requires { Fits table.ack ack.now }
     ensures ok { OnOk result (out.new.items ≡ out.old.items ++ line_of table.ack ack.now) }
+    // This is what the reader asks of a value that it reads again.
+    ensures whole { OnOk result (IsWhole table.ack ack.now) }
     ensures err { OnErr result (out.new.items ≡ out.old.items) }
     // Memory is answered only where there was no room for the line.
     ensures full { OnErr result (vec_capacity out.old < vec_len out.old + 159) }
@@ -104,12 +106,12 @@ pub fn write_ack<A: Allocator>(out: &mut Vec<u8, A>, ack: &Ack) -> Result<(), Me
         out,
         &[
             Piece::Text(b"ACK", RecordType::COLUMN),
-            Piece::Digits(ack.prefix.transaction, Prefix::TRANSACTION),
-            Piece::Digits(ack.prefix.detail, Prefix::DETAIL),
+            Piece::Digits(ack.prefix.transaction as u64, Prefix::TRANSACTION),
+            Piece::Digits(ack.prefix.detail as u64, Prefix::DETAIL),
             Piece::Day(ack.creation_date),
             Piece::Time(ack.creation_time),
-            Piece::Digits(ack.original_group, Ack::ORIGINAL_GROUP),
-            Piece::Digits(ack.original_transaction, Ack::ORIGINAL_TRANSACTION),
+            Piece::Digits(ack.original_group as u64, Ack::ORIGINAL_GROUP),
+            Piece::Digits(ack.original_transaction as u64, Ack::ORIGINAL_TRANSACTION),
             Piece::Text(&ack.original_type, Ack::ORIGINAL_TYPE),
             Piece::Text(&ack.title, Ack::TITLE),
             Piece::Text(&ack.submitter_number, Ack::SUBMITTER_NUMBER),
@@ -185,6 +187,8 @@ fn message_at(line: &[u8]) -> Message
 pub fn write_message<A: Allocator>(out: &mut Vec<u8, A>, message: &Message) -> Result<(), Memory>
     requires { Fits table.message message.now }
     ensures ok { OnOk result (out.new.items ≡ out.old.items ++ line_of table.message message.now) }
+    // This is what the reader asks of a value that it reads again.
+    ensures whole { OnOk result (IsWhole table.message message.now) }
     ensures err { OnErr result (out.new.items ≡ out.old.items) }
     // Memory is answered only where there was no room for the line.
     ensures full { OnErr result (vec_capacity out.old < vec_len out.old + 185) }
@@ -193,13 +197,16 @@ pub fn write_message<A: Allocator>(out: &mut Vec<u8, A>, message: &Message) -> R
         out,
         &[
             Piece::Text(b"MSG", RecordType::COLUMN),
-            Piece::Digits(message.prefix.transaction, Prefix::TRANSACTION),
-            Piece::Digits(message.prefix.detail, Prefix::DETAIL),
+            Piece::Digits(message.prefix.transaction as u64, Prefix::TRANSACTION),
+            Piece::Digits(message.prefix.detail as u64, Prefix::DETAIL),
             Piece::Text(&message.message_type, Message::MESSAGE_TYPE),
-            Piece::Digits(message.original_record, Message::ORIGINAL_RECORD),
+            Piece::Digits(message.original_record as u64, Message::ORIGINAL_RECORD),
             Piece::Text(&message.record_type, Message::RECORD_TYPE),
             Piece::Text(&message.message_level, Message::MESSAGE_LEVEL),
-            Piece::Digits(message.validation_number as u32, Message::VALIDATION_NUMBER),
+            Piece::Digits(
+                message.validation_number as u32 as u64,
+                Message::VALIDATION_NUMBER,
+            ),
             Piece::Text(&message.text, Message::TEXT),
         ],
     )

@@ -3,7 +3,8 @@
 //! The definitions say them once as well, in `specs/Columns.antt`. Each function that reads a field has a contract in
 //! the words of the definitions, so the check refuses it where the two differ.
 
-ghost use Rattle.std.specs.Prelude.{◌≡◌, length, IsTrue};
+ghost use Rattle.std.specs.Prelude.{◌≡◌, ◌≤◌, ◌<◌, ◌^◌, length, IfSome, IsTrue};
+ghost use Rattle.cwr_field.specs.Number.{number_of};
 ghost use Rattle.cwr_record.specs.Columns.{field_at};
 ghost use Rattle.cwr_record.specs.Ranges.{is_in_line};
 
@@ -14,7 +15,7 @@ use crate::publishers::{Publisher, PublisherTerritory};
 use crate::record_type::RecordType;
 use crate::works::{AltTitle, CrossRef, WorkHead};
 use crate::writers::{Link, Writer, WriterTerritory};
-use cwr_field::{Field, cut};
+use cwr_field::{Field, cut, digits};
 
 /// Where a field of a line stands: from a position, so many bytes.
 ///
@@ -37,6 +38,16 @@ pub fn field_at(line: &[u8], column: Column) -> Field<'_>
     ensures width { length result ≡ column.width }
 {
     cut(line, column.start, column.width)
+}
+
+/// The number that a column of at most 18 bytes holds, where each of its bytes is a digit.
+pub fn digits_at(line: &[u8], column: Column) -> Option<u64>
+    requires column { IsTrue (is_in_line column) }
+    requires width { column.width ≤ 18 }
+    ensures value { result ≡ number_of (field_at line.now column) }
+    ensures bound { IfSome result (λ n. n < 10 ^ column.width) }
+{
+    digits(field_at(line, column))
 }
 
 /// A column by its start and its width.

@@ -74,6 +74,8 @@ fn header_at(line: &[u8]) -> Header
 /// A refusal leaves the vector as it was.
 pub fn write_header<A: Allocator>(out: &mut Vec<u8, A>, header: &Header) -> Result<(), Memory>
     ensures ok { OnOk result (out.new.items ≡ out.old.items ++ line_of table.header header.now) }
+    // This is what the reader asks of a value that it reads again.
+    ensures whole { OnOk result (IsWhole table.header header.now) }
     ensures err { OnErr result (out.new.items ≡ out.old.items) }
     // Memory is answered only where there was no room for the line.
     ensures full { OnErr result (vec_capacity out.old < vec_len out.old + 167) }
@@ -150,6 +152,8 @@ fn group_head_at(line: &[u8]) -> GroupHead
 pub fn write_group_head<A: Allocator>(out: &mut Vec<u8, A>, head: &GroupHead) -> Result<(), Memory>
     requires { Fits table.group_head head.now }
     ensures ok { OnOk result (out.new.items ≡ out.old.items ++ line_of table.group_head head.now) }
+    // This is what the reader asks of a value that it reads again.
+    ensures whole { OnOk result (IsWhole table.group_head head.now) }
     ensures err { OnErr result (out.new.items ≡ out.old.items) }
     // Memory is answered only where there was no room for the line.
     ensures full { OnErr result (vec_capacity out.old < vec_len out.old + 28) }
@@ -159,7 +163,7 @@ pub fn write_group_head<A: Allocator>(out: &mut Vec<u8, A>, head: &GroupHead) ->
         &[
             Piece::Text(b"GRH", RecordType::COLUMN),
             Piece::Text(&head.transaction_type, GroupHead::TRANSACTION_TYPE),
-            Piece::Digits(head.group, GroupHead::GROUP),
+            Piece::Digits(head.group as u64, GroupHead::GROUP),
             Piece::Text(&head.version, GroupHead::VERSION),
             Piece::Text(&head.batch_request, GroupHead::BATCH_REQUEST),
             Piece::Text(&head.submission_type, GroupHead::SUBMISSION_TYPE),
@@ -219,6 +223,8 @@ pub fn write_group_trailer<A: Allocator>(
 ) -> Result<(), Memory>
     requires { Fits table.group_trailer trailer.now }
     ensures ok { OnOk result (out.new.items ≡ out.old.items ++ line_of table.group_trailer trailer.now) }
+    // This is what the reader asks of a value that it reads again.
+    ensures whole { OnOk result (IsWhole table.group_trailer trailer.now) }
     ensures err { OnErr result (out.new.items ≡ out.old.items) }
     // Memory is answered only where there was no room for the line.
     ensures full { OnErr result (vec_capacity out.old < vec_len out.old + 37) }
@@ -227,9 +233,9 @@ pub fn write_group_trailer<A: Allocator>(
         out,
         &[
             Piece::Text(b"GRT", RecordType::COLUMN),
-            Piece::Digits(trailer.group, GroupTrailer::GROUP),
-            Piece::Digits(trailer.transactions, GroupTrailer::TRANSACTIONS),
-            Piece::Digits(trailer.records, GroupTrailer::RECORDS),
+            Piece::Digits(trailer.group as u64, GroupTrailer::GROUP),
+            Piece::Digits(trailer.transactions as u64, GroupTrailer::TRANSACTIONS),
+            Piece::Digits(trailer.records as u64, GroupTrailer::RECORDS),
             Piece::Text(b"", GroupTrailer::MONETARY_VALUE),
         ],
     )
@@ -287,6 +293,8 @@ pub fn write_file_trailer<A: Allocator>(
 ) -> Result<(), Memory>
     requires { Fits table.file_trailer trailer.now }
     ensures ok { OnOk result (out.new.items ≡ out.old.items ++ line_of table.file_trailer trailer.now) }
+    // This is what the reader asks of a value that it reads again.
+    ensures whole { OnOk result (IsWhole table.file_trailer trailer.now) }
     ensures err { OnErr result (out.new.items ≡ out.old.items) }
     // Memory is answered only where there was no room for the line.
     ensures full { OnErr result (vec_capacity out.old < vec_len out.old + 24) }
@@ -295,9 +303,9 @@ pub fn write_file_trailer<A: Allocator>(
         out,
         &[
             Piece::Text(b"TRL", RecordType::COLUMN),
-            Piece::Digits(trailer.groups, FileTrailer::GROUPS),
-            Piece::Digits(trailer.transactions, FileTrailer::TRANSACTIONS),
-            Piece::Digits(trailer.records, FileTrailer::RECORDS),
+            Piece::Digits(trailer.groups as u64, FileTrailer::GROUPS),
+            Piece::Digits(trailer.transactions as u64, FileTrailer::TRANSACTIONS),
+            Piece::Digits(trailer.records as u64, FileTrailer::RECORDS),
         ],
     )
 }

@@ -15,7 +15,7 @@
 //! was written is read as the value that was written.
 //!
 //! Where a field stands is a [`Column`]: each struct has one for each of its fields, as [`WorkHead::TITLE`], and
-//! [`field_at`] gives what a line has there, whatever its other fields hold. [`party_of`], [`publisher_of`],
+//! [`field_at`] gives what a line has there, and [`digits_at`] the number, whatever its other fields hold. [`party_of`], [`publisher_of`],
 //! [`ownership_of`], [`collection_of`], [`indicator_of`] and [`territory_of`] read by it what each type of record has in
 //! columns of its own. None of these takes memory.
 //!
@@ -24,7 +24,8 @@
 //!
 //! The layouts stand in `specs/`, one table for each struct, which names the columns of `specs/Columns.antt`. There
 //! `StandsFor table line x` says that each field of the line is that part of `x`, `IsLeastFault` which fault is
-//! answered, and `line_of table x` is the line written. [`laws`] says that the tables and the readers of single fields
+//! answered, and `line_of table x` is the line written. Any other layout can be told in the same words, by a table of its
+//! own: [`field_at`] reads its fields, and [`put_line`] writes a line of [`Piece`]s. [`laws`] says that the tables and the readers of single fields
 //! agree.
 #![tactic(auto)]
 
@@ -45,15 +46,17 @@ mod works;
 mod writers;
 
 pub use acknowledgement::{Ack, Message, read_ack, read_message, write_ack, write_message};
-pub use columns::{Column, field_at};
+pub use columns::{Column, digits_at, field_at};
 pub use control::{
     FileTrailer, GroupHead, GroupTrailer, Header, read_file_trailer, read_group_head,
     read_group_trailer, read_header, write_file_trailer, write_group_head, write_group_trailer,
     write_header,
 };
+pub use cwr_field::{Clock, Day, Field, Memory};
 pub use parties::{
     collection_of, indicator_of, ownership_of, party_of, publisher_of, territory_of,
 };
+pub use pieces::{Piece, put_line};
 pub use prefix::Prefix;
 pub use publishers::{
     Publisher, PublisherKind, PublisherTerritory, read_publisher, read_publisher_territory,

@@ -148,6 +148,8 @@ pub fn write_publisher<A: Allocator>(
 ) -> Result<(), Memory>
     requires { Fits table.publisher publisher.now }
     ensures ok { OnOk result (out.new.items ≡ out.old.items ++ line_of table.publisher publisher.now) }
+    // This is what the reader asks of a value that it reads again.
+    ensures whole { OnOk result (IsWhole table.publisher publisher.now) }
     ensures err { OnErr result (out.new.items ≡ out.old.items) }
     // Memory is answered only where there was no room for the line.
     ensures full { OnErr result (vec_capacity out.old < vec_len out.old + 136) }
@@ -156,8 +158,8 @@ pub fn write_publisher<A: Allocator>(
         out,
         &[
             Piece::Text(publisher.kind.code(), RecordType::COLUMN),
-            Piece::Digits(publisher.prefix.transaction, Prefix::TRANSACTION),
-            Piece::Digits(publisher.prefix.detail, Prefix::DETAIL),
+            Piece::Digits(publisher.prefix.transaction as u64, Prefix::TRANSACTION),
+            Piece::Digits(publisher.prefix.detail as u64, Prefix::DETAIL),
             Piece::Text(&publisher.sequence, Publisher::SEQUENCE),
             Piece::Text(&publisher.party, Publisher::PARTY),
             Piece::Text(&publisher.name, Publisher::NAME),
@@ -257,6 +259,8 @@ pub fn write_publisher_territory<A: Allocator>(
 ) -> Result<(), Memory>
     requires { Fits table.publisher_territory territory.now }
     ensures ok { OnOk result (out.new.items ≡ out.old.items ++ line_of table.publisher_territory territory.now) }
+    // This is what the reader asks of a value that it reads again.
+    ensures whole { OnOk result (IsWhole table.publisher_territory territory.now) }
     ensures err { OnErr result (out.new.items ≡ out.old.items) }
     // Memory is answered only where there was no room for the line.
     ensures full { OnErr result (vec_capacity out.old < vec_len out.old + 58) }
@@ -265,8 +269,8 @@ pub fn write_publisher_territory<A: Allocator>(
         out,
         &[
             Piece::Text(b"SPT", RecordType::COLUMN),
-            Piece::Digits(territory.prefix.transaction, Prefix::TRANSACTION),
-            Piece::Digits(territory.prefix.detail, Prefix::DETAIL),
+            Piece::Digits(territory.prefix.transaction as u64, Prefix::TRANSACTION),
+            Piece::Digits(territory.prefix.detail as u64, Prefix::DETAIL),
             Piece::Text(&territory.party, PublisherTerritory::PARTY),
             Piece::Text(b"", PublisherTerritory::CONSTANT),
             Piece::Share(territory.performing_collection),

@@ -1,8 +1,8 @@
-ghost use Rattle.std.specs.Prelude.{◌≡◌, ◌≤◌, length, IsTrue};
-ghost use Rattle.cwr_field.specs.Layout.{padded};
-ghost use Rattle.cwr_record.specs.Stamp.{stamp_of, is_printable};
+ghost use Rattle.std.specs.Prelude.{◌≡◌, ◌≤◌, IsTrue};
+ghost use Rattle.cwr_field.specs.Layout.{is_printable};
+ghost use Rattle.cwr_record.specs.Stamp.{stamp_of};
 
-use cwr_field::{Clock, Day};
+use cwr_field::{Clock, Day, filled, is_printable};
 use std::marker::Model;
 
 /// The bytes of a sender's name.
@@ -19,7 +19,8 @@ pub struct Stamp {
 
 impl Model for Stamp {
     ghost use Rattle.std.specs.Prelude.{◌≤◌, IsTrue};
-    ghost use Rattle.cwr_record.specs.Stamp.{StampParts, is_printable};
+    ghost use Rattle.cwr_field.specs.Layout.{is_printable};
+    ghost use Rattle.cwr_record.specs.Stamp.{StampParts};
 
     ghost Value = { StampParts };
 
@@ -79,21 +80,4 @@ impl Stamp {
     {
         self.time
     }
-}
-
-/// Whether no byte is below 32.
-fn is_printable(bytes: &[u8]) -> bool
-    ensures { result ≡ is_printable bytes.now }
-{
-    bytes.iter().all(|byte| 32 <= *byte)
-}
-
-/// The name, and blanks up to its width.
-fn filled<const N: usize>(name: &[u8]) -> [u8; N]
-    requires { length name.now ≤ N }
-    ensures { result ≡ padded N name.now }
-{
-    let mut bytes = [b' '; N];
-    bytes[..name.len()].copy_from_slice(name);
-    bytes
 }

@@ -6,10 +6,10 @@ ghost use Rattle.cwr_record.specs.Layout.{value_of, Bytes, Number, Maybe};
 ghost use Rattle.cwr_record.specs.Ranges.{is_in_line};
 ghost use Rattle.cwr_record.specs.declared.slot.Content.TheVariants as content;
 
-use crate::columns::{Column, field_at};
+use crate::columns::{Column, digits_at, field_at};
 use crate::record_type::RecordType;
 use crate::slot::is_no_day;
-use cwr_field::{Clock, Day, Iswc, date, digits, iswc, share, time};
+use cwr_field::{Clock, Day, Iswc, date, iswc, share, time};
 
 /// The number of a field.
 pub(crate) fn number_at(line: &[u8], column: Column) -> u32
@@ -19,7 +19,7 @@ pub(crate) fn number_at(line: &[u8], column: Column) -> u32
     ensures value { value_of content.Digits (field_at line.now column) ≡ Some (Number result) }
     ensures bound { result < 10 ^ column.width }
 {
-    digits(field_at(line, column)).unwrap() as u32
+    digits_at(line, column).unwrap() as u32
 }
 
 /// The share of a field.

@@ -1,7 +1,7 @@
 ghost use Rattle.std.specs.Prelude.{◌≡◌, ◌++◌, IfOk, IfErr, OnOk, OnErr, vec_len, vec_capacity, ◌<◌, ◌+◌, codes, IsSome, Some};
 ghost use Rattle.std.specs.List.{AllByRecursion};
 ghost use Rattle.cwr_record.specs.Columns.{field_at, every_record_type};
-ghost use Rattle.cwr_record.specs.Kinds.{work_kind_code};
+ghost use Rattle.cwr_record.specs.Kinds.{work_kind_code, work_kind_named};
 ghost use Rattle.cwr_record.specs.declared.slot.Content.TheVariants as content;
 ghost use Rattle.cwr_record.specs.Layout.{StandsFor, value_of, Bytes};
 ghost use Rattle.cwr_record.specs.Readable.{IsReadable};
@@ -12,11 +12,12 @@ ghost use Rattle.cwr_record.specs.declared.works.WorkHead.{WorkHead};
 ghost use Rattle.cwr_record.specs.declared.works.AltTitle.{AltTitle};
 ghost use Rattle.cwr_record.specs.declared.works.CrossRef.{CrossRef};
 
+use crate::columns::field_at;
 use crate::pieces::{Piece, put_line};
 use crate::prefix::Prefix;
 use crate::record_type::RecordType;
 use crate::slot::{Content, FieldFault, Slot, check, slots};
-use crate::values::{code_at, is_first, number_at, optional_day_at, optional_time_at, text_at};
+use crate::values::{code_at, number_at, optional_day_at, optional_time_at, text_at};
 use cwr_field::{Clock, Day, Memory};
 use std::alloc::Allocator;
 
@@ -30,6 +31,19 @@ pub enum WorkKind {
 }
 
 impl WorkKind {
+    /// The kind that a record type names.
+    pub fn named(code: &[u8; 3]) -> Option<WorkKind>
+        ensures { result ≡ work_kind_named code.now }
+    {
+        if *code == *b"NWR" {
+            Some(WorkKind::Nwr)
+        } else if *code == *b"REV" {
+            Some(WorkKind::Rev)
+        } else {
+            None
+        }
+    }
+
     /// The record type that names it: `NWR` or `REV`.
     pub fn code(self) -> &'static [u8; 3]
         ensures { result.now ≡ work_kind_code self }
@@ -46,11 +60,7 @@ fn work_kind_at(line: &[u8]) -> WorkKind
     requires { IsSome (value_of (content.OneOf (codes "NWR") (codes "REV")) (field_at line.now every_record_type)) }
     ensures { value_of (content.OneOf (codes "NWR") (codes "REV")) (field_at line.now every_record_type) ≡ Some (Bytes (work_kind_code result)) }
 {
-    if is_first(line, *b"NWR", *b"REV") {
-        WorkKind::Nwr
-    } else {
-        WorkKind::Rev
-    }
+    WorkKind::named(&field_at(line, RecordType::COLUMN).bytes()).unwrap()
 }
 
 /// The head of a work's registration: NWR, New Work Registration, or REV, Revised Registration.
@@ -155,6 +165,8 @@ fn work_head_at(line: &[u8]) -> WorkHead
 pub fn write_work_head<A: Allocator>(out: &mut Vec<u8, A>, head: &WorkHead) -> Result<(), Memory>
     requires { Fits table.work_head head.now }
     ensures ok { OnOk result (out.new.items ≡ out.old.items ++ line_of table.work_head head.now) }
+    // This is what the reader asks of a value that it reads again.
+    ensures whole { OnOk result (IsWhole table.work_head head.now) }
     ensures err { OnErr result (out.new.items ≡ out.old.items) }
     // Memory is answered only where there was no room for the line.
     ensures full { OnErr result (vec_capacity out.old < vec_len out.old + 194) }
@@ -163,8 +175,8 @@ pub fn write_work_head<A: Allocator>(out: &mut Vec<u8, A>, head: &WorkHead) -> R
         out,
         &[
             Piece::Text(head.kind.code(), RecordType::COLUMN),
-            Piece::Digits(head.prefix.transaction, Prefix::TRANSACTION),
-            Piece::Digits(head.prefix.detail, Prefix::DETAIL),
+            Piece::Digits(head.prefix.transaction as u64, Prefix::TRANSACTION),
+            Piece::Digits(head.prefix.detail as u64, Prefix::DETAIL),
             Piece::Text(&head.title, WorkHead::TITLE),
             Piece::Text(&head.language, WorkHead::LANGUAGE),
             Piece::Text(&head.submitter_number, WorkHead::SUBMITTER_NUMBER),
@@ -246,6 +258,8 @@ pub fn write_alt_title<A: Allocator>(
 ) -> Result<(), Memory>
     requires { Fits table.alt_title alternate.now }
     ensures ok { OnOk result (out.new.items ≡ out.old.items ++ line_of table.alt_title alternate.now) }
+    // This is what the reader asks of a value that it reads again.
+    ensures whole { OnOk result (IsWhole table.alt_title alternate.now) }
     ensures err { OnErr result (out.new.items ≡ out.old.items) }
     // Memory is answered only where there was no room for the line.
     ensures full { OnErr result (vec_capacity out.old < vec_len out.old + 83) }
@@ -254,8 +268,8 @@ pub fn write_alt_title<A: Allocator>(
         out,
         &[
             Piece::Text(b"ALT", RecordType::COLUMN),
-            Piece::Digits(alternate.prefix.transaction, Prefix::TRANSACTION),
-            Piece::Digits(alternate.prefix.detail, Prefix::DETAIL),
+            Piece::Digits(alternate.prefix.transaction as u64, Prefix::TRANSACTION),
+            Piece::Digits(alternate.prefix.detail as u64, Prefix::DETAIL),
             Piece::Text(&alternate.title, AltTitle::TITLE),
             Piece::Text(&alternate.title_type, AltTitle::TITLE_TYPE),
             Piece::Text(&alternate.language, AltTitle::LANGUAGE),
@@ -323,6 +337,8 @@ pub fn write_cross_ref<A: Allocator>(
 ) -> Result<(), Memory>
     requires { Fits table.cross_ref reference.now }
     ensures ok { OnOk result (out.new.items ≡ out.old.items ++ line_of table.cross_ref reference.now) }
+    // This is what the reader asks of a value that it reads again.
+    ensures whole { OnOk result (IsWhole table.cross_ref reference.now) }
     ensures err { OnErr result (out.new.items ≡ out.old.items) }
     // Memory is answered only where there was no room for the line.
     ensures full { OnErr result (vec_capacity out.old < vec_len out.old + 38) }
@@ -331,8 +347,8 @@ pub fn write_cross_ref<A: Allocator>(
         out,
         &[
             Piece::Text(b"XRF", RecordType::COLUMN),
-            Piece::Digits(reference.prefix.transaction, Prefix::TRANSACTION),
-            Piece::Digits(reference.prefix.detail, Prefix::DETAIL),
+            Piece::Digits(reference.prefix.transaction as u64, Prefix::TRANSACTION),
+            Piece::Digits(reference.prefix.detail as u64, Prefix::DETAIL),
             Piece::Text(&reference.organisation, CrossRef::ORGANISATION),
             Piece::Text(&reference.identifier, CrossRef::IDENTIFIER),
             Piece::Text(&reference.identifier_type, CrossRef::IDENTIFIER_TYPE),

@@ -143,6 +143,8 @@ fn writer_at(line: &[u8]) -> Writer
 pub fn write_writer<A: Allocator>(out: &mut Vec<u8, A>, writer: &Writer) -> Result<(), Memory>
     requires { Fits table.writer writer.now }
     ensures ok { OnOk result (out.new.items ≡ out.old.items ++ line_of table.writer writer.now) }
+    // This is what the reader asks of a value that it reads again.
+    ensures whole { OnOk result (IsWhole table.writer writer.now) }
     ensures err { OnErr result (out.new.items ≡ out.old.items) }
     // Memory is answered only where there was no room for the line.
     ensures full { OnErr result (vec_capacity out.old < vec_len out.old + 150) }
@@ -151,8 +153,8 @@ pub fn write_writer<A: Allocator>(out: &mut Vec<u8, A>, writer: &Writer) -> Resu
         out,
         &[
             Piece::Text(writer.kind.code(), RecordType::COLUMN),
-            Piece::Digits(writer.prefix.transaction, Prefix::TRANSACTION),
-            Piece::Digits(writer.prefix.detail, Prefix::DETAIL),
+            Piece::Digits(writer.prefix.transaction as u64, Prefix::TRANSACTION),
+            Piece::Digits(writer.prefix.detail as u64, Prefix::DETAIL),
             Piece::Text(&writer.party, Writer::PARTY),
             Piece::Text(&writer.last_name, Writer::LAST_NAME),
             Piece::Text(&writer.first_name, Writer::FIRST_NAME),
@@ -248,6 +250,8 @@ pub fn write_writer_territory<A: Allocator>(
 ) -> Result<(), Memory>
     requires { Fits table.writer_territory territory.now }
     ensures ok { OnOk result (out.new.items ≡ out.old.items ++ line_of table.writer_territory territory.now) }
+    // This is what the reader asks of a value that it reads again.
+    ensures whole { OnOk result (IsWhole table.writer_territory territory.now) }
     ensures err { OnErr result (out.new.items ≡ out.old.items) }
     // Memory is answered only where there was no room for the line.
     ensures full { OnErr result (vec_capacity out.old < vec_len out.old + 52) }
@@ -256,8 +260,8 @@ pub fn write_writer_territory<A: Allocator>(
         out,
         &[
             Piece::Text(b"SWT", RecordType::COLUMN),
-            Piece::Digits(territory.prefix.transaction, Prefix::TRANSACTION),
-            Piece::Digits(territory.prefix.detail, Prefix::DETAIL),
+            Piece::Digits(territory.prefix.transaction as u64, Prefix::TRANSACTION),
+            Piece::Digits(territory.prefix.detail as u64, Prefix::DETAIL),
             Piece::Text(&territory.party, WriterTerritory::PARTY),
             Piece::Share(territory.performing_collection),
             Piece::Share(territory.mechanical_collection),
@@ -330,6 +334,8 @@ fn link_at(line: &[u8]) -> Link
 pub fn write_link<A: Allocator>(out: &mut Vec<u8, A>, link: &Link) -> Result<(), Memory>
     requires { Fits table.link link.now }
     ensures ok { OnOk result (out.new.items ≡ out.old.items ++ line_of table.link link.now) }
+    // This is what the reader asks of a value that it reads again.
+    ensures whole { OnOk result (IsWhole table.link link.now) }
     ensures err { OnErr result (out.new.items ≡ out.old.items) }
     // Memory is answered only where there was no room for the line.
     ensures full { OnErr result (vec_capacity out.old < vec_len out.old + 110) }
@@ -338,8 +344,8 @@ pub fn write_link<A: Allocator>(out: &mut Vec<u8, A>, link: &Link) -> Result<(),
         out,
         &[
             Piece::Text(b"PWR", RecordType::COLUMN),
-            Piece::Digits(link.prefix.transaction, Prefix::TRANSACTION),
-            Piece::Digits(link.prefix.detail, Prefix::DETAIL),
+            Piece::Digits(link.prefix.transaction as u64, Prefix::TRANSACTION),
+            Piece::Digits(link.prefix.detail as u64, Prefix::DETAIL),
             Piece::Text(&link.publisher_party, Link::PUBLISHER_PARTY),
             Piece::Text(&link.publisher_name, Link::PUBLISHER_NAME),
             Piece::Text(&link.submitter_agreement, Link::SUBMITTER_AGREEMENT),

@@ -9,6 +9,7 @@ mod control_records;
 mod faults;
 #[cfg(test)]
 mod lines;
+pub mod read_back;
 #[cfg(test)]
 mod single_fields;
 #[cfg(test)]

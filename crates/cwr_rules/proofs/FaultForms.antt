@@ -8,12 +8,12 @@ use Rattle.cwr_call.specs.declared.transaction_fault.Fault.{Fault}
 use Rattle.cwr_record.specs.declared.works.WorkKind.{WorkKind}
 use Rattle.cwr_record.specs.declared.works.WorkKind.TheVariants.{Nwr, Rev}
 use Rattle.cwr_record.specs.Kinds.{work_kind_code}
-use Rattle.cwr_rules.specs.declared.place.Place.{Place}
+use Rattle.cwr_rules.specs.declared.last_block.LastBlock.{LastBlock}
 use Rattle.cwr_rules.specs.declared.record.Record.{Record}
 use Rattle.cwr_rules.specs.declared.record.Record.TheVariants.{Spu, Opu, Spt, Swr, Owr, Swt, Pwr, Alt, Xrf, Carried}
 use Rattle.cwr_call.specs.Lawful.{is_fault}
-use Rattle.cwr_call.proofs.Tests.{both, parts}
-use Rattle.cwr_rules.specs.Place.{place_of}
+use Rattle.cwr_field.proofs.lemmas.Tests.{both, parts}
+use Rattle.cwr_rules.specs.LastBlock.{last_block}
 use Rattle.cwr_rules.specs.Rules.{name_of, publishers}
 use Rattle.cwr_rules.specs.Faults.{found, all_found, record_rules, head_rules, faults_after, faults_of}
 
@@ -41,12 +41,12 @@ table_is k t (rule ∷ rules) le numbers capitals =
     append_all (found k t rule.0 rule.1) (all_found k t rules) (found_is k rule.0 t rule.1 le p.0 capitals) (table_is k t rules le p.1 capitals)
 
 -- no rule holds of a record that is carried along
-order_stays : (o : Option Place) → (is_some o && is_none (option_and_then (λ place. Some place) o)) ≡ false
+order_stays : (o : Option LastBlock) → (is_some o && is_none (option_and_then (λ place. Some place) o)) ≡ false
 order_stays None = refl
 order_stays (Some p) = refl
 
 carried_is : (k : ℕ) (parties : List (List ℕ)) (before : List Record) (name : List ℕ) → list_all is_fault (all_found k name (record_rules parties before (Carried name))) ≡ true
-carried_is k parties before name = rw (order_stays (place_of before)) refl
+carried_is k parties before name = rw (order_stays (last_block before)) refl
 
 record_is : (k : ℕ) (parties : List (List ℕ)) (before : List Record) (r : Record) → k ≤ 99999999 → list_all is_fault (all_found k (name_of r) (record_rules parties before r)) ≡ true
 record_is k parties before (Spu p s) le = table_is k (name_of (Spu p s)) (record_rules parties before (Spu p s)) le refl refl

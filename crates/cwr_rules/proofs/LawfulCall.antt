@@ -23,7 +23,7 @@ use Rattle.cwr_rules.specs.Faults.{found, all_found, faults_after, faults_of, he
 use Rattle.cwr_rules.specs.Collected.{AreCapped}
 use Rattle.cwr_rules.proofs.SmallShares.{TotalsLe, totals_le}
 use Rattle.cwr_rules.proofs.Rising.{faults_rise}
-use Rattle.cwr_call.proofs.Tests.{both, parts}
+use Rattle.cwr_field.proofs.lemmas.Tests.{both, parts}
 use Rattle.cwr_rules.proofs.FaultForms.{le_test, faults_are, faults_few}
 
 abbrev is_clear : ℕ → Bool

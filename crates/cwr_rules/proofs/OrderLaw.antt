@@ -4,14 +4,14 @@ use Rattle.std.specs.Prelude.{replicate, option_and_then}
 use Rattle.std.specs.List.{flat_map, cons_option}
 use Rattle.std.proofs.lemmas.List.{reverse-append}
 use Rattle.std.proofs.lemmas.List.Elements.{filter_map-append}
-use Rattle.cwr_rules.specs.declared.place.Place.{Place}
-use Rattle.cwr_rules.specs.declared.place.Place.TheVariants.{Free, AtPublisher, AtWriter, AtOtherWriter, AtTitles}
+use Rattle.cwr_rules.specs.declared.last_block.LastBlock.{LastBlock}
+use Rattle.cwr_rules.specs.declared.last_block.LastBlock.TheVariants.{Free, AtPublisher, AtWriter, AtOtherWriter, AtTitles}
 use Rattle.cwr_rules.specs.declared.record.Record.{Record}
 use Rattle.cwr_rules.specs.declared.record.Record.TheVariants.{Spu, Opu, Spt, Swr, Owr, Swt, Pwr, Alt, Xrf, Carried}
-use Rattle.cwr_rules.specs.Place.{opened, after_publisher_territory, after_writer_territory, after_link, next_place, place_of}
+use Rattle.cwr_rules.specs.LastBlock.{opened, after_publisher_territory, after_writer_territory, after_link, next_block, last_block}
 use Rattle.cwr_rules.specs.Order.{DetailType, SPU, OPU, SPT, SWR, OWR, SWT, PWR, ALT, XRF, OfWriter, ATerritory, ALink, Ending, ATitle, AReference, Block, OfPublisher, OfOtherPublisher, OfWriterOfSubmitter, OfOtherWriter, of_writer, ending, block, in_order, IsPrefix, detail_type, types}
 
-abbrev step : Place → DetailType → Option Place
+abbrev step : LastBlock → DetailType → Option LastBlock
 step place SPU = opened place AtPublisher
 step place OPU = opened place Free
 step place SWR = opened place AtWriter
@@ -22,11 +22,11 @@ step place PWR = after_link place
 step place ALT = Some AtTitles
 step place XRF = Some AtTitles
 
-abbrev step_of : Place → Option DetailType → Option Place
+abbrev step_of : LastBlock → Option DetailType → Option LastBlock
 step_of place None = Some place
 step_of place (Some t) = step place t
 
-next_is : (place : Place) (r : Record) → next_place place r ≡ step_of place (detail_type r)
+next_is : (place : LastBlock) (r : Record) → next_block place r ≡ step_of place (detail_type r)
 next_is place (Spu a b) = refl
 next_is place (Opu a b) = refl
 next_is place (Spt a b c) = refl
@@ -39,14 +39,14 @@ next_is place Xrf = refl
 next_is place (Carried a) = refl
 
 -- the place after the types, from the first on
-abbrev goes : Place → List DetailType → Option Place
+abbrev goes : LastBlock → List DetailType → Option LastBlock
 goes place [] = Some place
 goes place (t ∷ ts) = option_and_then (λ next. goes next ts) (step place t)
 
-goes_more : (ts : List DetailType) (place : Place) (t : DetailType) → goes place (ts ++ t ∷ []) ≡ option_and_then (λ next. step next t) (goes place ts)
+goes_more : (ts : List DetailType) (place : LastBlock) (t : DetailType) → goes place (ts ++ t ∷ []) ≡ option_and_then (λ next. step next t) (goes place ts)
 goes_more [] place t = last (step place t)
   where
-    last : (o : Option Place) → option_and_then (λ next. Some next) o ≡ o
+    last : (o : Option LastBlock) → option_and_then (λ next. Some next) o ≡ o
     last None = refl
     last (Some p) = refl
 goes_more (u ∷ ts) place t =
@@ -68,27 +68,27 @@ types_more r before = ap types (reverse-append (r ∷ []) before) ∙ filter_map
 after_one : (ts : List DetailType) (o : Option DetailType) → goes Free (ts ++ listed o) ≡ option_and_then (λ place. step_of place o) (goes Free ts)
 after_one ts None = ap (goes Free) (append-nil ts) ∙ sym (same (goes Free ts))
   where
-    same : (o : Option Place) → option_and_then (λ place. Some place) o ≡ o
+    same : (o : Option LastBlock) → option_and_then (λ place. Some place) o ≡ o
     same None = refl
     same (Some p) = refl
 after_one ts (Some t) = goes_more ts Free t
 
-step_same : (r : Record) (o : Option Place) → option_and_then (λ place. next_place place r) o ≡ option_and_then (λ place. step_of place (detail_type r)) o
+step_same : (r : Record) (o : Option LastBlock) → option_and_then (λ place. next_block place r) o ≡ option_and_then (λ place. step_of place (detail_type r)) o
 step_same r None = refl
 step_same r (Some p) = next_is p r
 
-pub places : (before : List Record) → place_of before ≡ goes Free (types (reverse before))
+pub places : (before : List Record) → last_block before ≡ goes Free (types (reverse before))
 places [] = refl
 places (r ∷ before) =
-    step_same r (place_of before)
-    ∙ ap (λ (o : Option Place). option_and_then (λ place. step_of place (detail_type r)) o) (places before)
+    step_same r (last_block before)
+    ∙ ap (λ (o : Option LastBlock). option_and_then (λ place. step_of place (detail_type r)) o) (places before)
     ∙ sym (after_one (types (reverse before)) (detail_type r))
     ∙ ap (goes Free) (sym (types_more r before))
 
 abbrev IsWord : List DetailType → Type 0
 IsWord ts = (blocks : List Block) × (endings : List Ending) × (ts ≡ in_order blocks endings)
 
-abbrev IsRest : Place → List DetailType → Type 0
+abbrev IsRest : LastBlock → List DetailType → Type 0
 IsRest Free ts = IsWord ts
 IsRest AtPublisher ts = (n : ℕ) × (blocks : List Block) × (endings : List Ending) × (ts ≡ replicate n SPT ++ in_order blocks endings)
 IsRest AtWriter ts = (ws : List OfWriter) × (blocks : List Block) × (endings : List Ending) × (ts ≡ map of_writer ws ++ in_order blocks endings)
@@ -125,7 +125,7 @@ word_ALT ts r = ([], ATitle ∷ r.0, ap (λ (xs : List DetailType). ALT ∷ xs) 
 word_XRF : (ts : List DetailType) → IsRest AtTitles ts → IsWord (XRF ∷ ts)
 word_XRF ts r = ([], AReference ∷ r.0, ap (λ (xs : List DetailType). XRF ∷ xs) r.1)
 
-sound : (ts : List DetailType) (place last : Place) → goes place ts ≡ Some last → IsRest place ts
+sound : (ts : List DetailType) (place last : LastBlock) → goes place ts ≡ Some last → IsRest place ts
 sound [] Free last h = ([], [], refl)
 sound [] AtPublisher last h = (0, [], [], refl)
 sound [] AtWriter last h = ([], [], [], refl)
@@ -192,20 +192,20 @@ writer_goes [] ts = refl
 writer_goes (ATerritory ∷ ws) ts = writer_goes ws ts
 writer_goes (ALink ∷ ws) ts = writer_goes ws ts
 
-abbrev Goes : Place → List DetailType → Type 0
-Goes place ts = (last : Place) × (goes place ts ≡ Some last)
+abbrev Goes : LastBlock → List DetailType → Type 0
+Goes place ts = (last : LastBlock) × (goes place ts ≡ Some last)
 
 titles_go : (endings : List Ending) → Goes AtTitles (map ending endings)
 titles_go [] = (AtTitles, refl)
 titles_go (ATitle ∷ es) = titles_go es
 titles_go (AReference ∷ es) = titles_go es
 
-endings_go : (endings : List Ending) (place : Place) → Goes place (map ending endings)
+endings_go : (endings : List Ending) (place : LastBlock) → Goes place (map ending endings)
 endings_go [] place = (place, refl)
 endings_go (ATitle ∷ es) place = titles_go es
 endings_go (AReference ∷ es) place = titles_go es
 
-block_goes : (b : Block) (ts : List DetailType) → ((place : Place) → opened place Free ≡ Some Free → Goes place ts) → (place : Place) → opened place Free ≡ Some Free → Goes place (block b ++ ts)
+block_goes : (b : Block) (ts : List DetailType) → ((place : LastBlock) → opened place Free ≡ Some Free → Goes place ts) → (place : LastBlock) → opened place Free ≡ Some Free → Goes place (block b ++ ts)
 block_goes (OfPublisher n) ts h Free o = let r = h AtPublisher refl in (r.0, spt_goes n ts ∙ r.1)
 block_goes (OfPublisher n) ts h AtPublisher o = let r = h AtPublisher refl in (r.0, spt_goes n ts ∙ r.1)
 block_goes (OfPublisher n) ts h AtWriter o = let r = h AtPublisher refl in (r.0, spt_goes n ts ∙ r.1)
@@ -227,27 +227,27 @@ block_goes (OfOtherWriter n) ts h AtWriter o = let r = h AtOtherWriter refl in (
 block_goes (OfOtherWriter n) ts h AtOtherWriter o = let r = h AtOtherWriter refl in (r.0, pwr_goes n ts ∙ r.1)
 block_goes (OfOtherWriter n) ts h AtTitles o = absurd cc
 
-word_goes : (blocks : List Block) (endings : List Ending) (place : Place) → opened place Free ≡ Some Free → Goes place (in_order blocks endings)
+word_goes : (blocks : List Block) (endings : List Ending) (place : LastBlock) → opened place Free ≡ Some Free → Goes place (in_order blocks endings)
 word_goes [] endings place o = endings_go endings place
 word_goes (b ∷ blocks) endings place o =
     let r = block_goes b (in_order blocks endings) (word_goes blocks endings) place o in
     (r.0, ap (goes place) (append_assoc (block b) (flat_map block blocks) (map ending endings)) ∙ r.1)
 
-prefix_goes : (ts rest : List DetailType) (place last : Place) → goes place (ts ++ rest) ≡ Some last → Goes place ts
+prefix_goes : (ts rest : List DetailType) (place last : LastBlock) → goes place (ts ++ rest) ≡ Some last → Goes place ts
 prefix_goes [] rest place last h = (place, refl)
 prefix_goes (t ∷ ts) rest place last h =
-    let P : Option Place → Type 0 = λ o. option_and_then (λ next. goes next (ts ++ rest)) o ≡ Some last → (end : Place) × (option_and_then (λ next. goes next ts) o ≡ Some end) in
+    let P : Option LastBlock → Type 0 = λ o. option_and_then (λ next. goes next (ts ++ rest)) o ≡ Some last → (end : LastBlock) × (option_and_then (λ next. goes next ts) o ≡ Some end) in
     (elim (step place t) as P [
       | None ↦ λ e. absurd cc
       | Some next ↦ λ e. prefix_goes ts rest next last e
     ]) h
 
-pub prefix_from_place : (before : List Record) (last : Place) → place_of before ≡ Some last → IsPrefix (types (reverse before))
+pub prefix_from_place : (before : List Record) (last : LastBlock) → last_block before ≡ Some last → IsPrefix (types (reverse before))
 prefix_from_place before last h =
     let w = sound (types (reverse before)) Free last (sym (places before) ∙ h) in
     (w.0, w.1, [], append-nil (types (reverse before)) ∙ w.2)
 
-pub place_from_prefix : (before : List Record) → IsPrefix (types (reverse before)) → (last : Place) × (place_of before ≡ Some last)
+pub place_from_prefix : (before : List Record) → IsPrefix (types (reverse before)) → (last : LastBlock) × (last_block before ≡ Some last)
 place_from_prefix before p =
     let whole = word_goes p.0 p.1 Free refl in
     let r = prefix_goes (types (reverse before)) p.2 Free whole.0 (ap (goes Free) p.3 ∙ whole.1) in

@@ -25,7 +25,7 @@ use Rattle.cwr_record.specs.declared.writers.WriterKind.TheVariants as writer_ki
 use Rattle.cwr_record.specs.declared.writers.Writer.{Writer}
 use Rattle.cwr_record.specs.declared.writers.WriterTerritory.{WriterTerritory}
 use Rattle.cwr_record.specs.declared.writers.Link.{Link}
-use Rattle.cwr_record.proofs.LineParts.{named, number_is, publisher_is, writer_is}
+use Rattle.cwr_record.proofs.lemmas.LineParts.{named, number_is, publisher_is, writer_is}
 use Rattle.cwr_rules.specs.declared.record.Record.TheVariants.{Alt, Xrf}
 use Rattle.cwr_rules.specs.Head.{number_in, is_wrong_code, is_copyright_date, is_duration, has_wrong_date}
 use Rattle.cwr_rules.specs.Records.{record_of}

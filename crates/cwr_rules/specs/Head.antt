@@ -2,6 +2,7 @@
 use Rattle.std.specs.Prelude.{ℕ, Bool, true, false, not, ◌&&◌, ◌||◌, ◌==◌, nat_le, List, Option, Some, None, is_some}
 use Rattle.std.specs.List.{list_any}
 use Rattle.cwr_field.specs.Layout.{is_blank}
+use Rattle.cwr_field.specs.Share.{least_whole, most_whole}
 use Rattle.cwr_field.specs.Calendar.{day_of, time_of}
 use Rattle.cwr_field.specs.Iswc.{iswc_of}
 use Rattle.cwr_field.specs.declared.codes.Iswc.{Iswc}
@@ -54,4 +55,4 @@ has_no_writer records = not (list_any is_writer records)
 
 -- J11, J12, J13: the ownership of a right is neither none nor the whole, with a tolerance of 0.06 per cent
 abbrev pub is_off : ℕ → Bool
-is_off total = not (total == 0) && not (nat_le 9994 total && nat_le total 10006)
+is_off total = not (total == 0) && not (nat_le least_whole total && nat_le total most_whole)

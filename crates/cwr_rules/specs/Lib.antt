@@ -1,7 +1,7 @@
 pub mod Records
 pub mod Order
 pub mod Totals
-pub mod Place
+pub mod LastBlock
 pub mod Rules
 pub mod Head
 pub mod Faults
@@ -12,3 +12,4 @@ pub mod Parties
 pub mod Collected
 pub mod Summary
 pub mod OfRecords
+pub mod Added

@@ -3,7 +3,7 @@ use Rattle.std.specs.Prelude.{ℕ, Bool, true, false, not, ◌&&◌, ◌||◌, �
 use Rattle.std.specs.List.{list_any, filter_map}
 use Rattle.std.specs.Str.{bytes_eq}
 use Rattle.cwr_rules.specs.Totals.{shares_of}
-use Rattle.cwr_rules.specs.Place.{place_of}
+use Rattle.cwr_rules.specs.LastBlock.{last_block}
 use Rattle.cwr_rules.specs.declared.record.Shares.{Shares}
 use Rattle.cwr_rules.specs.declared.record.Territory.{Territory}
 use Rattle.cwr_rules.specs.declared.record.Record.{Record}
@@ -57,7 +57,7 @@ publishers records = filter_map publisher_party records
 
 -- J1: the records before are in order, and with this one they are not
 abbrev pub is_out_of_order : List Record → Record → Bool
-is_out_of_order before r = is_some (place_of before) && is_none (place_of (r ∷ before))
+is_out_of_order before r = is_some (last_block before) && is_none (last_block (r ∷ before))
 
 abbrev pub are_valid : Shares → Bool
 are_valid shares = is_some shares.performing && is_some shares.mechanical && is_some shares.synchronization

@@ -1,6 +1,7 @@
 -- The totals of a transaction's shares, in hundredths of one per cent.
 use Rattle.std.specs.Prelude.{ℕ, ◌+◌, Bool, true, false, ◌||◌, ◌==◌, nat_lt, if◌then◌else◌, List, [], ◌∷◌, filter, Option, Some, None}
 use Rattle.std.specs.List.{list_any, filter_map}
+use Rattle.cwr_field.specs.Share.{most_whole}
 use Rattle.cwr_rules.specs.declared.totals.Totals.{Totals}
 use Rattle.cwr_rules.specs.declared.record.Shares.{Shares}
 use Rattle.cwr_rules.specs.declared.record.Territory.{Territory}
@@ -89,7 +90,7 @@ collection code records = totals_of (collects_at code) records
 
 -- in some right above the whole by more than the tolerance of 0.06 per cent
 abbrev pub is_over : Totals → Bool
-is_over totals = nat_lt 10006 totals.performing || nat_lt 10006 totals.mechanical || nat_lt 10006 totals.synchronization
+is_over totals = nat_lt most_whole totals.performing || nat_lt most_whole totals.mechanical || nat_lt most_whole totals.synchronization
 
 -- the codes of the territories that are included
 abbrev pub codes_of : List Record → List ℕ

@@ -31,7 +31,8 @@ impl<A: Allocator + Copy> Collected<A> {
         }
     }
 
-    fn at(&self, code: u16) -> Totals
+    /// What is collected in the territory of a code.
+    pub(crate) fn at(&self, code: u16) -> Totals
         ensures { result ≡ value_at (get nat_eq self.now.by_code) code }
     {
         match self.by_code.get(&code) {

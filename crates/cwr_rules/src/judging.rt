@@ -1,6 +1,7 @@
 ghost use Rattle.std.specs.Prelude.{◌≡◌, ◌<◌, IsTrue, IfOk, length, nat_eq};
 ghost use Rattle.std.specs.HashMap.{get};
 ghost use Rattle.cwr_field.specs.Iswc.{iswc_of};
+ghost use Rattle.cwr_field.specs.Number.{most_count};
 ghost use Rattle.cwr_record.specs.Columns.{field_at, work_head_iswc};
 ghost use Rattle.cwr_call.specs.Lawful.{is_clean, is_iswc};
 ghost use Rattle.cwr_rules.specs.Calls.{call_of};
@@ -38,7 +39,7 @@ fn faults_of<A: Allocator + Copy>(
     records: &[Record],
     summary: &Summary<A>,
 ) -> Result<Vec<Fault, A>, Memory>
-    requires few { length records.now < 99999999 }
+    requires few { length records.now < most_count }
     requires summary { IsSummary summary.now.sums summary.now.parties.set (get nat_eq summary.now.collected.by_code) summary.now.collected.is_over records.now }
     ensures { IfOk result (λ faults. faults.items ≡ faults_of kind head.now records.now) }
 {

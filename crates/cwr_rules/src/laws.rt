@@ -9,7 +9,7 @@ ghost use Rattle.cwr_record.specs.declared.works.WorkKind.{WorkKind};
 ghost use Rattle.cwr_rules.specs.declared.record.Record.{Record};
 ghost use Rattle.cwr_rules.specs.Holds.{Holds, IsIn};
 ghost use Rattle.cwr_call.specs.Lawful.{rises};
-ghost use Rattle.cwr_rules.specs.Place.{place_of};
+ghost use Rattle.cwr_rules.specs.LastBlock.{last_block};
 ghost use Rattle.cwr_rules.specs.Order.{IsPrefix, types};
 ghost use Rattle.cwr_record.specs.Columns.{field_at, every_record_type};
 ghost use Rattle.cwr_record.specs.Layout.{StandsFor};
@@ -33,7 +33,7 @@ ghost use Rattle.cwr_rules.specs.Faults.{faults_of};
 
 /// The order stands after some records exactly where their types are a prefix of the pattern.
 pub fn order_is_prefix()
-    ensures { (before : List Record) → IsSome (place_of before) ↔ IsPrefix (types (reverse before)) }
+    ensures { (before : List Record) → IsSome (last_block before) ↔ IsPrefix (types (reverse before)) }
 {}
 
 /// The order breaks at the record with which the types are no prefix any more, so at one record at the most.

@@ -3,14 +3,14 @@ ghost use Rattle.cwr_rules.specs.declared.record.Record.{Record};
 ghost use Rattle.cwr_rules.specs.Rules.{is_out_of_order, differ, is_other, is_of_another_party};
 ghost use Rattle.cwr_rules.specs.Position.{position_of};
 
-use crate::place::Place;
+use crate::last_block::LastBlock;
 use crate::record::Record;
 
 /// What the records so far say about the next one.
 #[derive(Clone, Copy)]
 pub(crate) struct Position {
     /// Where the order stands; `None` once it is broken.
-    place: Option<Place>,
+    place: Option<LastBlock>,
     /// The party of the last SPU, `None` inside where it is blank.
     publisher: Option<Option<[u8; 9]>>,
     /// The party of the last SWR, `None` inside where it is blank.
@@ -46,7 +46,7 @@ impl Position {
         ensures { result ≡ position_of [] }
     {
         Position {
-            place: Some(Place::Free),
+            place: Some(LastBlock::Free),
             publisher: None,
             writer: None,
             follows_swr: false,

@@ -1,5 +1,6 @@
 ghost use Rattle.std.specs.Prelude.{◌≡◌, ◌<◌, ◌∷◌, [], IsTrue, IfOk, length};
 ghost use Rattle.cwr_record.specs.Parties.{has_collection};
+ghost use Rattle.cwr_field.specs.Number.{most_count};
 ghost use Rattle.cwr_rules.specs.Records.{record_of, records_of, territory_at};
 ghost use Rattle.cwr_call.specs.Lawful.{is_clean};
 
@@ -19,7 +20,7 @@ const USUAL_RECORDS: usize = 16;
 pub(crate) fn parts<'a>(transaction: &RawTransaction<'a>) -> (&'a [u8], Lines<'a>)
     ensures lines { transaction.now.lines ≡ result.0.now ∷ result.1 }
     ensures clean { IsTrue (is_clean result.0.now) }
-    ensures few { length result.1 < 99999999 }
+    ensures few { length result.1 < most_count }
 {
     let mut lines = transaction.lines();
     match lines.next() {

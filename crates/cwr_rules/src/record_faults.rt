@@ -3,6 +3,7 @@ ghost use Rattle.cwr_rules.specs.declared.record.Record.{Record};
 ghost use Rattle.cwr_rules.specs.Rules.{has_unknown_publisher, name_of};
 ghost use Rattle.cwr_rules.specs.Faults.{found, all_found, record_rules, faults_after};
 ghost use Rattle.cwr_rules.specs.Position.{position_of};
+ghost use Rattle.cwr_field.specs.Number.{most_count};
 ghost use Rattle.cwr_rules.specs.Parties.{HoldsParties};
 
 use crate::parties::Parties;
@@ -81,7 +82,7 @@ pub(crate) fn push_faults_of_records<A: Allocator + Copy>(
     known: &Parties<A>,
     records: &[Record],
 ) -> Result<(), Memory>
-    requires { length records.now < 99999999 }
+    requires { length records.now < most_count }
     ensures { OnOk result ((parties : List (List ℕ)) → HoldsParties known.now.set parties
         → faults.new.items ≡ faults.old.items ++ faults_after parties [] records.now) }
 {

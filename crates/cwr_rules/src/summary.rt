@@ -1,5 +1,6 @@
 ghost use Rattle.std.specs.Prelude.{◌<◌, IfOk, length, nat_eq};
 ghost use Rattle.std.specs.HashMap.{get};
+ghost use Rattle.cwr_field.specs.Number.{most_count};
 ghost use Rattle.cwr_rules.specs.Collected.{AreCapped};
 ghost use Rattle.cwr_rules.specs.Summary.{IsSummary};
 
@@ -24,7 +25,7 @@ pub(crate) fn summary_of<A: Allocator + Copy>(
     alloc: A,
     records: &[Record],
 ) -> Result<Summary<A>, Memory>
-    requires few { length records.now < 99999999 }
+    requires few { length records.now < most_count }
     requires capped { AreCapped records.now }
     ensures { IfOk result (λ s. IsSummary s.sums s.parties.set (get nat_eq s.collected.by_code) s.collected.is_over records.now) }
 {

@@ -3,13 +3,17 @@ ghost use Rattle.cwr_rules.specs.Totals.{valued, is_over, included_in};
 ghost use Rattle.cwr_rules.specs.Collected.{AreSmall};
 
 use crate::record::{Shares, Territory};
+use cwr_field::MOST_WHOLE;
 
-/// Shares of the three rights, added up, in hundredths of one per cent.
-#[derive(Clone, Copy)]
-pub(crate) struct Totals {
-    pub(crate) performing: u64,
-    pub(crate) mechanical: u64,
-    pub(crate) synchronization: u64,
+/// Shares of the three rights, added up, in hundredths of one per cent. A share that is not valid counts 0.
+#[derive(Clone, Copy, Debug, PartialEq, Eq)]
+pub struct Totals {
+    /// Of the performing right, PR.
+    pub performing: u64,
+    /// Of the mechanical right, MR.
+    pub mechanical: u64,
+    /// Of the synchronization right, SR.
+    pub synchronization: u64,
 }
 
 /// A share that is not valid counts 0.
@@ -42,11 +46,20 @@ impl Totals {
         self.synchronization += valued(shares.synchronization);
     }
 
+    /// Whether some right is above the whole by more than the tolerance.
+    pub(crate) fn is_over(&self) -> bool
+        ensures { result ≡ is_over self.now }
+    {
+        self.performing > MOST_WHOLE
+            || self.mechanical > MOST_WHOLE
+            || self.synchronization > MOST_WHOLE
+    }
+
     /// Whether some right is above the whole by more than the tolerance, or it was so before.
     pub(crate) fn is_over_or(&self, before: bool) -> bool
         ensures { result ≡ (is_over self.now || before) }
     {
-        self.performing > 10006 || self.mechanical > 10006 || self.synchronization > 10006 || before
+        self.is_over() || before
     }
 }
 

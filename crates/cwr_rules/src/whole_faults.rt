@@ -10,7 +10,7 @@ ghost use Rattle.cwr_rules.specs.Summary.{IsSummary};
 use crate::record_faults::push_found;
 use crate::summary::Summary;
 use cwr_call::Fault;
-use cwr_field::{Iswc, Memory, date, is_blank, iswc, time};
+use cwr_field::{Iswc, LEAST_WHOLE, MOST_WHOLE, Memory, date, is_blank, iswc, time};
 use cwr_record::{WorkHead, WorkKind, field_at, is_no_day};
 use std::alloc::Allocator;
 
@@ -38,16 +38,16 @@ fn has_wrong_iswc(head: &[u8]) -> bool
     }
 }
 
-/// Whether the copyright date is blank, zeros or a day.
-fn is_copyright_date(head: &[u8]) -> bool
+/// Whether the copyright date of a header's line is blank, zeros or a day, as rule J5 asks.
+pub fn is_copyright_date(head: &[u8]) -> bool
     ensures { result ≡ is_copyright_date (field_at head.now work_head_copyright_date) }
 {
     let text = field_at(head, WorkHead::COPYRIGHT_DATE);
     is_no_day(&text) || date(text).is_some()
 }
 
-/// Whether the duration is blank or a time.
-fn is_duration(head: &[u8]) -> bool
+/// Whether the duration of a header's line is blank or a time, as rule J5 asks.
+pub fn is_duration(head: &[u8]) -> bool
     ensures { result ≡ is_duration (field_at head.now work_head_duration) }
 {
     let text = field_at(head, WorkHead::DURATION);
@@ -65,7 +65,7 @@ fn has_wrong_date(head: &[u8]) -> bool
 fn is_off(total: u64) -> bool
     ensures { result ≡ is_off total }
 {
-    total != 0 && !(9994 <= total && total <= 10006)
+    total != 0 && !(LEAST_WHOLE <= total && total <= MOST_WHOLE)
 }
 
 /// Appends the faults of the transaction as a whole.

@@ -6,10 +6,14 @@ mod answers;
 mod compared;
 mod fields;
 mod files;
+mod large_files;
 
 pub use answers::{Answer, Told, acknowledgement, decision, one_answer};
 pub use compared::{same, same_bytes, same_lists, same_text};
 pub use files::{
     ALL, OTHER_SENDER, SENDER, file, file_of_lines, header, miscounted, one_work, one_writer,
     plain_file, rival_claims, stamp, three_works, with_newlines, work, work_twice, writer,
+};
+pub use large_files::{
+    crowded_faults, crowded_work, many_answers, many_checked, many_entries, many_groups, many_works,
 };

@@ -20,7 +20,7 @@ type MemoryRun = Run<Feed<'static>, Room>;
 const GOOD: &[u8] = b"\
 HDRPB000000123PUBLISHER A                                  01.102024050112000020240501\n\
 GRHNWR0000102.200000000001\n\
-NWR0000000000000000SONG ONE                                                      W1\n\
+NWR0000000000000000SONG ONE                                                      A-1\n\
 SWR0000000000000001000000001DOE                                                                         \
 CA                       10000   10000   10000\n\
 GRT000010000000100000004\n\
@@ -75,7 +75,7 @@ fn tell<R: Print>(rt: &R, alloc: Global, name: &str, outcome: &FileOutcome, job:
 
 /// Tells what the book has under the number of the first work.
 fn tell_claim<R: Print>(rt: &R, book: &Book) {
-    if let Some(claim) = book.claim(b"PB000000123", b"W1            ") {
+    if let Some(claim) = book.claim(b"PB000000123", b"A-1           ") {
         let _ = println!(rt; "work {}, version {}", claim.work, claim.version);
     }
 }

@@ -1,6 +1,6 @@
 //! The command lines that the program takes.
 
-use crate::run_command::{run_command, verbose_flag};
+use crate::run_command::{flag, run_command, verbose_flag};
 use clap::{Arg, Command};
 use std::alloc::{AllocError, Global};
 
@@ -13,7 +13,7 @@ pub(crate) fn command_line<'a>(alloc: Global) -> Result<Command<'a>, AllocError>
         .subcommand(audit_command(alloc)?)
 }
 
-/// `check [--verbose] FILE`. Its list of options leaves `--verbose` out, and stays as it was.
+/// `check [--long] [--verbose] FILE`. Its list of options leaves both out, and stays as it was.
 fn check_command<'a>(alloc: Global) -> Result<Command<'a>, AllocError> {
     Command::new(alloc, "check")
         .about("Tells which rules a CWR 2.2 file breaks")
@@ -22,6 +22,7 @@ fn check_command<'a>(alloc: Global) -> Result<Command<'a>, AllocError> {
                 .required(true)
                 .help("a CWR 2.2 file"),
         )?
+        .arg(flag(alloc, "long", "tell of each fault what is wrong").hide(true))?
         .arg(verbose_flag(alloc).hide(true))
 }
 

@@ -1,11 +1,10 @@
-//! Files of the system as sources and sinks.
+//! Files of the system as sources.
 
 ghost use Rattle.std.specs.Prelude.{◌≡◌, ◌≤◌, false, None, length, IfOk};
 
 use crate::telling::tell_reason;
-use byte_streams::{Failed, ReadCount, ReadRefused, Sink, Source, Through, read_file};
-use std::fs::File;
-use std::io::{Read, Write};
+use byte_streams::{Failed, ReadCount, ReadRefused, Source, Through, read_file};
+use std::io::Read;
 use std::rt::Files;
 use std::{fs, io};
 
@@ -153,102 +152,5 @@ impl<R: AllocGlobal + Eprint + Files> Source for InputFile<'_, R> {
         let read = self.read(room);
         self.failed = read.is_err();
         read
-    }
-}
-
-/// A file that is opened at its first write, and then begins empty. It tells no bytes.
-///
-/// A file that cannot be opened counts as a failed write. One to which nothing is written stays as it was.
-#[derive(Drop)]
-pub(crate) struct OutputFile<'a, R: Files> {
-    rt: &'a R,
-    path: &'a str,
-    /// Whether a file that is there already may be opened.
-    replaces: bool,
-    /// Whether each write, or why it failed, is told on standard error.
-    verbose: bool,
-    file: Option<R::File>,
-    failed: bool,
-}
-
-impl<'a, R: AllocGlobal + Eprint + Files> OutputFile<'a, R> {
-    /// The file of this name, which is not opened yet. Where it `replaces` none, it cannot be opened if it is there then.
-    pub(crate) fn new(rt: &'a R, path: &'a str, replaces: bool, verbose: bool) -> OutputFile<'a, R>
-        ensures { result.failed ≡ false }
-    {
-        OutputFile {
-            rt,
-            path,
-            replaces,
-            verbose,
-            file: None,
-            failed: false,
-        }
-    }
-
-    /// Opens the file, unless it is open.
-    fn open(&mut self) -> Result<(), Failed>
-        ensures { self.new.failed ≡ self.old.failed }
-    {
-        if self.file.is_none() {
-            let opened = if self.replaces {
-                File::create(self.rt, self.path)
-            } else {
-                File::create_new(self.rt, self.path)
-            };
-            match opened {
-                Ok(file) => self.file = Some(file),
-                Err(error) => return Err(self.fail(&error)),
-            }
-        }
-        Ok(())
-    }
-
-    /// Writes once to the file, which it opens where it is not open.
-    fn write(&mut self, bytes: &[u8]) -> Result<usize, Failed>
-        ensures bound { IfOk result (λ n. n ≤ length bytes.now) }
-        ensures failed { self.new.failed ≡ self.old.failed }
-    {
-        self.open()?;
-        let written = match &mut self.file {
-            Some(file) => file.write(bytes),
-            None => return Err(Failed),
-        };
-        match written {
-            Ok(n) => {
-                if self.verbose {
-                    let _ = eprintln!(self.rt; "{}: written, {n} bytes", self.path);
-                }
-                Ok(n)
-            }
-            Err(error) => Err(self.fail(&error)),
-        }
-    }
-
-    /// Tells why it failed.
-    fn fail(&self, error: &io::Error) -> Failed {
-        if self.verbose {
-            tell_reason(self.rt, self.path, error);
-        }
-        Failed
-    }
-}
-
-impl<R: AllocGlobal + Eprint + Files> Sink for OutputFile<'_, R> {
-    ghost taken = { λ _. None };
-
-    ghost has_failed = { λ s. s.failed };
-
-    fn failed(&self) -> bool {
-        self.failed
-    }
-
-    fn write_some(&mut self, bytes: &[u8]) -> Result<usize, Failed> {
-        let written = self.write(bytes);
-        self.failed = match written {
-            Ok(n) => n == 0 && !bytes.is_empty(),
-            Err(_) => true,
-        };
-        written
     }
 }

@@ -70,6 +70,10 @@ Reads: 1 to 63 files, and the register of --from.
 Writes: FILE.ack of each file that is acknowledged, the register of --to, and on standard
 output a line for each file. Nothing that is read is written over: where two of FILE,
 FILE.ack and --to are one file, or --from and FILE.ack, the run is refused.
+Drafts: FILE.ack.new and REGISTER.new take their names when they are whole, first the
+register, then the acknowledgements. Where the register cannot be kept, there are no
+new acknowledgements: make the run again. While a run leaves a register, it has
+REGISTER.lock locked, and a second one at that register ends at once.
 Status: 0 all files acknowledged, and the register kept; 2 the words are not taken, or
 help; 1 else.
 
@@ -84,15 +88,18 @@ Tells which rules a CWR 2.2 file breaks, before it is sent. Nothing is registere
 Usage: purvilgo check [OPTIONS] FILE
 
 Options:
+  --long         tell of each fault its line, its field, what stands there and
+                 what was expected
   -v, --verbose  tell steps and the system's reasons on standard error
   -h, --help     the words in short
 
 Reads: FILE, or standard input where FILE is -.
 Writes: on standard output a line for each transaction, or the file's first fault.
+With --long some lines for each fault, and none for a transaction without.
 Status: 0 no fault; 2 the words are not taken, or help; 1 else.
 
 Example:
-  purvilgo check in/a.v22
+  purvilgo check --long in/a.v22
 ";
 
 const AUDIT: &str = "\

@@ -5,13 +5,17 @@
 mod command_line;
 mod files;
 mod help;
+mod keeping;
+mod output;
 mod program;
 mod registers;
 mod run_command;
 mod running;
 mod same_files;
 mod status;
+mod targets;
 mod telling;
 mod version;
 
 pub use program::run_program;
+pub use registers::MOST_REGISTER_BYTES;

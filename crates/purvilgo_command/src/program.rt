@@ -12,6 +12,8 @@ use cwr_check::{Checked, check_text};
 use cwr_desk::{FileOutcome, MOST_BYTES, acknowledge, outcome_line};
 use cwr_field::{Clock, Day, cut, date, time};
 use cwr_record::Stamp;
+use cwr_report::check_long;
+use kept_file::Exclusive;
 use std::process::ExitCode;
 use std::rt::{Env, Files};
 use std::sync::Wait;
@@ -21,9 +23,9 @@ use std::{env, io, str};
 /// Runs the program on its words, and answers its exit status.
 ///
 /// Without words it acknowledges standard input to standard output. `run` acknowledges files at one book, which may
-/// come from a register and go to one. `check FILE` tells on standard output which rules a file breaks, and
-/// `audit REGISTER` tells there how many entries a register has, or its first fault. `--version` tells there the
-/// program's version.
+/// come from a register and go to one. `check FILE` tells on standard output which rules a file breaks, with `--long` also
+/// where and why, and `audit REGISTER` tells there how many entries a register has, or its first fault. `--version` tells
+/// there the program's version.
 ///
 /// The status is 0 without words where the input is acknowledged; of `run` where all files are, each outcome is told,
 /// and the register that is asked for is kept; of `check` and `audit` where there is no fault, and that is told; of
@@ -34,7 +36,7 @@ pub fn run_program<R: Env + AllocGlobal + Input + Print + Eprint + Files + Threa
     rt: &R,
 ) -> ExitCode
 where
-    R::File: Send,
+    R::File: Send + Exclusive,
     R::Dir: Send,
 {
     let words = match env::args(rt) {
@@ -93,7 +95,7 @@ fn run_given<R: AllocGlobal + Input + Print + Eprint + Files + Threads + Wait + 
     matches: &ArgMatches,
 ) -> ExitCode
 where
-    R::File: Send,
+    R::File: Send + Exclusive,
     R::Dir: Send,
 {
     match matches.subcommand() {
@@ -111,16 +113,17 @@ fn run_on_file<R: AllocGlobal + Input + Print + Eprint + Files>(
 ) -> ExitCode {
     let verbose = given.get_flag("verbose");
     match (name, given.get_str("FILE"), given.get_str("REGISTER")) {
-        ("check", Some(path), _) => check_file(rt, path, verbose),
+        ("check", Some(path), _) => check_file(rt, path, given.get_flag("long"), verbose),
         ("audit", _, Some(path)) => audit_file(rt, path, verbose),
         _ => bad_words(rt, "the command line is not taken"),
     }
 }
 
-/// Checks a file, or standard input for `-`, and tells on standard output what was found.
+/// Checks a file, or standard input for `-`, and tells on standard output what was found: in short, or all of it.
 fn check_file<R: AllocGlobal + Input + Print + Eprint + Files>(
     rt: &R,
     path: &str,
+    long: bool,
     verbose: bool,
 ) -> ExitCode {
     let text = match bytes_of(rt, path, MOST_BYTES, verbose) {
@@ -130,7 +133,12 @@ fn check_file<R: AllocGlobal + Input + Print + Eprint + Files>(
             return ExitCode::FAILURE;
         }
     };
-    match check_text(rt.alloc(), &text) {
+    let checked = if long {
+        check_long(rt.alloc(), &text)
+    } else {
+        check_text(rt.alloc(), &text)
+    };
+    match checked {
         Ok(checked) => tell_check(rt, &checked),
         Err(_) => no_memory(rt),
     }

@@ -3,16 +3,17 @@
 ghost use Rattle.std.specs.Prelude.{◌≡◌, true, IfSome};
 ghost use Rattle.work_registry.specs.Replay.{is_opening};
 
-use crate::files::{InputFile, OutputFile, bytes_of};
+use crate::files::{InputFile, bytes_of};
 use crate::status::no_memory;
-use byte_streams::{ReadRefused, read_file, write_out};
+use byte_streams::{ReadRefused, read_file};
 use cwr_desk::MOST_ENTRIES;
+use kept_file::{CallFailed, Exclusive, FileNames, lock, takes_draft};
 use std::process::ExitCode;
 use std::rt::Files;
 use work_registry::{Book, RegisterRefusal, audit, read_register};
 
 /// The most bytes of a register.
-const MOST_REGISTER_BYTES: usize = 68_719_476_736;
+pub const MOST_REGISTER_BYTES: usize = 68_719_476_736;
 
 /// The bytes of a file that a register is to lie in.
 fn register_bytes<R: AllocGlobal + Eprint + Files>(
@@ -33,7 +34,8 @@ pub(crate) fn opening_book<R: AllocGlobal + Eprint + Files>(
     from: Option<&str>,
     verbose: bool,
 ) -> Option<Book>
-    ensures { IfSome result (λ book. is_opening book.history ≡ true) }
+    ensures opening { IfSome result (λ book. is_opening book.history ≡ true) }
+    ensures limit { IfSome result (λ book. book.limit ≡ 99999999) }
 {
     match from {
         None => Some(Book::new(rt.alloc(), MOST_ENTRIES)),
@@ -43,7 +45,8 @@ pub(crate) fn opening_book<R: AllocGlobal + Eprint + Files>(
 
 /// The book of a register. One that is refused is told on standard error.
 fn book_in<R: AllocGlobal + Eprint + Files>(rt: &R, path: &str, verbose: bool) -> Option<Book>
-    ensures { IfSome result (λ book. is_opening book.history ≡ true) }
+    ensures opening { IfSome result (λ book. is_opening book.history ≡ true) }
+    ensures limit { IfSome result (λ book. book.limit ≡ 99999999) }
 {
     let bytes = match register_bytes(rt, path, verbose) {
         Ok(bytes) => bytes,
@@ -70,28 +73,34 @@ fn book_in<R: AllocGlobal + Eprint + Files>(rt: &R, path: &str, verbose: bool) -
     }
 }
 
-/// Writes the register of a book into a file, in place of what the file held, and answers whether all of it is there.
-/// What stopped it is told on standard error.
-pub(crate) fn keep_book<R: AllocGlobal + Eprint + Files>(
+/// What keeps other runs from a register: a locked file beside it, where the register is replaced whole.
+#[derive(Drop)]
+pub(crate) struct RegisterLock<F: Drop> {
+    file: Option<F>,
+}
+
+/// Locks the register that a run is to leave, if any, until the lock is dropped or the run is ended from outside. Where
+/// another run has it, or it cannot be locked, that is told on standard error.
+pub(crate) fn locked_register<R: Eprint + Files>(
     rt: &R,
-    book: &Book,
-    path: &str,
-    verbose: bool,
-) -> bool {
-    let Ok(text) = book.write_register(rt.alloc()) else {
-        let _ = eprintln!(rt; "register: stopped: memory");
-        return false;
+    to: Option<&FileNames>,
+) -> Option<RegisterLock<R::File>>
+where
+    R::File: Exclusive,
+{
+    let names = match to {
+        Some(names) if takes_draft(rt, names) => names,
+        Some(_) | None => return Some(RegisterLock { file: None }),
     };
-    match write_out(&mut OutputFile::new(rt, path, true, verbose), &text) {
-        Ok(()) => {
-            if verbose {
-                let _ = eprintln!(rt; "{path}: register kept, {} entries", book.len());
-            }
-            true
+    match lock(rt, names.lock()) {
+        Ok(Some(file)) => Some(RegisterLock { file: Some(file) }),
+        Ok(None) => {
+            let _ = eprintln!(rt; "register: in use");
+            None
         }
-        Err(cut) => {
-            let _ = eprintln!(rt; "register: stopped: {cut}");
-            false
+        Err(CallFailed) => {
+            let _ = eprintln!(rt; "register: stopped: write after 0 bytes");
+            None
         }
     }
 }

@@ -1,17 +1,21 @@
 //! The command `run`: files are acknowledged at one book, each on a thread of its own or one after another.
 
-ghost use Rattle.std.specs.Prelude.{◌≡◌, ◌≤◌, All, IfOk, false, length, vec_len};
+ghost use Rattle.std.specs.Prelude.{◌≡◌, ◌<◌, ◌≤◌, All, IfOk, false, length, vec_len};
 
-use crate::files::{InputFile, OutputFile};
-use crate::registers::{keep_book, opening_book};
-use crate::run_command::right_words;
+use crate::files::InputFile;
+use crate::keeping::{Waiting, keep_run};
+use crate::output::OutputFile;
+use crate::registers::{locked_register, opening_book};
+use crate::run_command::{RunWords, right_words};
 use crate::same_files::is_one_file_twice;
 use crate::status::{bad_words, no_memory};
+use crate::targets::Targets;
 use clap::ArgMatches;
-use cwr_desk::{FileOutcome, Job, OpenGate, outcome_line, serve, serve_in_turn};
+use cwr_desk::{FileOutcome, Job, OpenGate, Run, outcome_line, serve, serve_in_turn};
 use cwr_field::Memory;
+use cwr_record::Stamp;
+use kept_file::{Exclusive, FileNames};
 use run_words::RunFault;
-use std::alloc::Global;
 use std::fs;
 use std::process::ExitCode;
 use std::rt::Files;
@@ -20,6 +24,9 @@ use std::thread::Threads;
 
 /// Acknowledges the files that the words name, all at one book: each by a worker on a thread of its own, or one after
 /// another where the words ask for it.
+///
+/// The acknowledgements are drafts until all workers have ended and the register, where one is asked for, is on the disk
+/// under its name; where it cannot be kept, they are taken away. A run that leaves a register holds its lock.
 ///
 /// How each job ended is told on standard output. The status is 0 where all files were acknowledged, and all of it was
 /// told and kept.
@@ -31,7 +38,7 @@ pub(crate) fn run_files<R: AllocGlobal + Print + Eprint + Files + Threads + Wait
     matches: &ArgMatches,
 ) -> ExitCode
 where
-    R::File: Send,
+    R::File: Send + Exclusive,
     R::Dir: Send,
 {
     let words = match right_words(rt, matches) {
@@ -41,36 +48,58 @@ where
     let Some(stamp) = words.stamp() else {
         return bad_words(rt, "the words name no stamp");
     };
-    let Ok(answers) = acknowledgements(rt.alloc(), words.files) else {
+    let Ok(targets) = Targets::of(rt, &words) else {
         return no_memory(rt);
     };
-    match is_one_file_twice(rt, words.files, &answers, words.from, words.to) {
+    match is_one_file_twice(rt, words.files, words.from, &targets) {
         Ok(false) => {}
         Ok(true) => return bad_words(rt, RunFault::Twice.text()),
         Err(_) => return no_memory(rt),
     }
-    if words.no_clobber && tell_taken(rt, &answers) {
+    if words.no_clobber && tell_taken(rt, &targets.answers) {
         return ExitCode::FAILURE;
     }
+    let Some(_held) = locked_register(rt, targets.register.as_ref()) else {
+        return ExitCode::FAILURE;
+    };
+    run_into(rt, &words, &stamp, &targets)
+}
+
+/// Acknowledges the files of these words to these targets, and leaves the register.
+fn run_into<R: AllocGlobal + Print + Eprint + Files + Threads + Wait + Sync>(
+    rt: &R,
+    words: &RunWords,
+    stamp: &Stamp,
+    targets: &Targets,
+) -> ExitCode
+where
+    R::File: Send,
+    R::Dir: Send,
+    requires few { length words.now.files.now < 64 }
+{
     let Some(book) = opening_book(rt, words.from, words.verbose) else {
         return ExitCode::FAILURE;
     };
-    let Ok(jobs) = jobs_of(rt, words.files, &answers, !words.no_clobber, words.verbose) else {
+    let made = jobs_of(rt, words.files, &targets.answers, words);
+    let room = Waiting::room_for(rt.alloc(), words.files.len());
+    let (Ok(jobs), Ok(waiting)) = (made, room) else {
         return no_memory(rt);
     };
     let served = if words.in_turn {
-        serve_in_turn(rt.alloc(), jobs, book, &stamp)
+        serve_in_turn(rt.alloc(), jobs, book, stamp)
     } else {
-        serve(rt, rt.alloc(), jobs, book, &stamp, &OpenGate)
+        serve(rt, rt.alloc(), jobs, book, stamp, &OpenGate)
     };
     let Ok(run) = served else {
         return no_memory(rt);
     };
-    let told = tell_outcomes(rt, words.files, &run.outcomes);
-    let kept = match words.to {
-        Some(path) => keep_book(rt, &run.book, path, words.verbose),
-        None => true,
-    };
+    let Run {
+        book,
+        outcomes,
+        jobs,
+    } = run;
+    let told = tell_outcomes(rt, words.files, &outcomes);
+    let kept = keep_run(rt, &book, jobs, waiting, targets.register.as_ref(), words);
     if told && kept {
         ExitCode::SUCCESS
     } else {
@@ -78,42 +107,32 @@ where
     }
 }
 
-/// The names of the acknowledgement files, in the order of the files.
-fn acknowledgements(alloc: Global, files: &[&str]) -> Result<Vec<String>, Memory> {
-    let mut names = Vec::with_capacity(alloc, files.len())?;
-    for file in files {
-        names.push(format!(in alloc; "{file}.ack")?)?;
-    }
-    Ok(names)
-}
-
 /// Tells on standard error which acknowledgements are there already, and answers whether any is.
-fn tell_taken<R: Eprint + Files>(rt: &R, answers: &[String]) -> bool {
+fn tell_taken<R: Eprint + Files>(rt: &R, answers: &[FileNames]) -> bool {
     let mut taken = false;
     for answer in answers {
-        if fs::symlink_metadata(rt, answer).is_ok() {
-            let _ = eprintln!(rt; "{answer}: is there already");
+        if fs::symlink_metadata(rt, answer.word()).is_ok() {
+            let _ = eprintln!(rt; "{}: is there already", answer.word());
             taken = true;
         }
     }
     taken
 }
 
-/// A job for each file, and for its acknowledgement, which may replace one that is there or not. Nothing is opened yet.
+/// A job for each file and its acknowledgement. Nothing is opened yet.
 fn jobs_of<'a, R: AllocGlobal + Eprint + Files>(
     rt: &'a R,
     files: &'a [&'a str],
-    answers: &'a [String],
-    replaces: bool,
-    verbose: bool,
+    answers: &'a [FileNames],
+    words: &RunWords,
 ) -> Result<Vec<Job<InputFile<'a, R>, OutputFile<'a, R>>>, Memory>
     ensures few { IfOk result (λ jobs. vec_len jobs ≤ length files.now) }
     ensures works { IfOk result (λ jobs. All (λ j. (j.reader.failed ≡ false) × (j.writer.failed ≡ false)) jobs.items) }
 {
     let mut jobs = Vec::with_capacity(rt.alloc(), files.len())?;
     for (file, answer) in files.iter().zip(answers) {
-        let reader = InputFile::new(rt, file, verbose);
-        let writer = OutputFile::new(rt, answer.as_str(), replaces, verbose);
+        let reader = InputFile::new(rt, file, words.verbose);
+        let writer = OutputFile::new(rt, answer, !words.no_clobber, words.verbose);
         jobs.push(Job { reader, writer })?;
     }
     Ok(jobs)

@@ -1,14 +1,12 @@
 //! Whether files that the words of a run name are one file of the system.
 
+use crate::targets::Targets;
 use cwr_field::Memory;
+use kept_file::FileNames;
 use std::fs;
-use std::io::ErrorKind;
 use std::os::unix::fs::MetadataExt;
-use std::path::{Path, PathBuf};
+use std::path::Path;
 use std::rt::Files;
-
-/// How many links are followed to a file that is not there yet.
-const MOST_LINKS: u32 = 40;
 
 /// A file or a directory that is there: its device, and its number on it.
 #[derive(Clone, Copy, Debug, PartialEq, Eq)]
@@ -38,37 +36,97 @@ impl Place {
     }
 }
 
+/// The places of some files that a run writes, and of what lies beside each.
+#[derive(Drop)]
+struct Written {
+    /// The files themselves.
+    files: Vec<Place>,
+    /// Their drafts, in the same order.
+    drafts: Vec<Place>,
+}
+
+impl Written {
+    /// The places of these files.
+    fn of<R: AllocGlobal + Files>(rt: &R, files: &[FileNames]) -> Result<Written, Memory> {
+        let mut written = Written {
+            files: Vec::new(rt.alloc()),
+            drafts: Vec::new(rt.alloc()),
+        };
+        for names in files {
+            written.add(rt, names)?;
+        }
+        Ok(written)
+    }
+
+    /// One file more.
+    fn add<R: AllocGlobal + Files>(&mut self, rt: &R, names: &FileNames) -> Result<(), Memory> {
+        self.files.push(place_of(rt, names.name())?)?;
+        self.drafts.push(place_of(rt, names.draft())?)?;
+        Ok(())
+    }
+
+    /// Whether one of them, or one of their drafts, is a place.
+    fn has(&self, place: &Place) -> bool {
+        is_among(place, &self.files) || is_among(place, &self.drafts)
+    }
+
+    /// Whether two of them are one place, or two of their drafts, or the draft of one and another.
+    fn is_twice(&self) -> bool {
+        is_twice(&self.files) || is_twice(&self.drafts) || self.has_draft_of_another()
+    }
+
+    /// Whether the draft of one of them is another of them.
+    fn has_draft_of_another(&self) -> bool {
+        for (index, draft) in self.drafts.iter().enumerate() {
+            for (other, file) in self.files.iter().enumerate() {
+                if index != other && draft.is_one_with(file) {
+                    return true;
+                }
+            }
+        }
+        false
+    }
+}
+
 /// Whether a run on these files would write over what it reads, or twice over one file: whether two of the files, their
 /// acknowledgements and the register `to` are one file of the system, or the register `from` is one with an
-/// acknowledgement.
+/// acknowledgement; and the same of their drafts and of the register's lock, of which `from` may be none either.
 ///
 /// Files are one where they have one device and number, so by any path and by any link. A name that leads to no file
 /// counts as the name of its directory where the file would be made. What the system tells nothing of is one with
-/// nothing.
+/// nothing. A draft may be one with the file that it is to replace: it is made anew before it is written.
 pub(crate) fn is_one_file_twice<R: AllocGlobal + Files>(
     rt: &R,
     files: &[&str],
-    answers: &[String],
     from: Option<&str>,
-    to: Option<&str>,
+    targets: &Targets,
 ) -> Result<bool, Memory> {
     let mut read = Vec::new(rt.alloc());
     for file in files {
         read.push(place_of(rt, file)?)?;
     }
-    let mut written = Vec::new(rt.alloc());
-    for answer in answers {
-        written.push(place_of(rt, answer.as_str())?)?;
+    let mut written = Written::of(rt, &targets.answers)?;
+    let begun = match from {
+        Some(word) => place_of(rt, word)?,
+        None => Place::Untold,
+    };
+    if is_among(&begun, &written.files) {
+        return Ok(true);
     }
-    if let Some(word) = from {
-        if is_among(&place_of(rt, word)?, &written) {
+    if let Some(register) = &targets.register {
+        written.add(rt, register)?;
+        let lock = place_of(rt, register.lock())?;
+        if lock.is_one_with(&begun) || is_among(&lock, &read) || written.has(&lock) {
             return Ok(true);
         }
     }
-    if let Some(word) = to {
-        written.push(place_of(rt, word)?)?;
-    }
-    Ok(is_twice(&read) || is_twice(&written) || are_crossed(&read, &written))
+    Ok(
+        is_twice(&read)
+            || are_crossed(&read, &written.files)
+            || are_crossed(&read, &written.drafts)
+            || is_among(&begun, &written.drafts)
+            || written.is_twice(),
+    )
 }
 
 /// Whether two of the places, at different positions, are one.
@@ -106,36 +164,18 @@ fn place_of<R: AllocGlobal + Files>(rt: &R, name: &str) -> Result<Place, Memory>
     if let Some(node) = node_of(rt, name) {
         return Ok(Place::Taken(node));
     }
-    let mut path = PathBuf::from_str(rt.alloc(), name)?;
-    for _ in 0..MOST_LINKS {
-        match fs::read_link(rt, path.as_path()) {
-            Ok(target) => {
-                path.pop();
-                path.push(target.as_path())?;
-            }
-            Err(error) if error.kind() == ErrorKind::OutOfMemory => return Err(Memory),
-            Err(_) => return free_place(rt, path.as_path()),
-        }
-    }
-    Ok(Place::Untold)
+    free_place(rt, &FileNames::of_word(rt, name)?)
 }
 
-/// The place of a file that would be made under a name that is no link.
-fn free_place<R: AllocGlobal + Files>(rt: &R, path: Path) -> Result<Place, Memory> {
-    let Some(name) = path.file_name() else {
+/// The place of a file that would be made under these names.
+fn free_place<R: AllocGlobal + Files>(rt: &R, names: &FileNames) -> Result<Place, Memory> {
+    let Some(name) = Path::new(names.name()).file_name() else {
         return Ok(Place::Untold);
     };
-    match directory_of(rt, path) {
+    match node_of(rt, names.directory()) {
         Some(node) => Ok(Place::Free(node, String::from_str(rt.alloc(), name)?)),
         None => Ok(Place::Untold),
     }
-}
-
-/// The directory that a name lies in.
-fn directory_of<R: Files>(rt: &R, path: Path) -> Option<Node> {
-    let parent = path.parent()?;
-    let name = parent.as_os_str();
-    node_of(rt, if name.is_empty() { "." } else { name })
 }
 
 /// The file or the directory that a name leads to. A runtime of one's own gives them no numbers: each is 0.

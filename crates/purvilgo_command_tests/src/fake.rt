@@ -1,5 +1,6 @@
 //! A runtime of the tests' own: words, standard input, files, and what was printed. Threads are those of another one.
-use crate::fake_files::{FakeFile, KeptFile, unsupported};
+use crate::calls::{Calls, Disk};
+use crate::fake_files::{FakeFile, KeptFile, NO_SUCH_FILE, unsupported};
 use cwr_sheets::{same, same_bytes, same_text};
 use purvilgo_command::run_program;
 use std::alloc::{Allocator, Global};
@@ -14,8 +15,11 @@ use std::sync::{Mutex, Wait};
 use std::test::Fail;
 use std::thread::Threads;
 
-/// The number by which the system tells that there is no such file.
-const NO_SUCH_FILE: i32 = 2;
+/// What stands behind the name of a register in that of its lock.
+const LOCK: &str = ".lock";
+
+/// The directories of all files that can be written.
+const FOLDERS: [&str; 2] = [".", "in"];
 
 pub(crate) struct Fake<'a, T> {
     /// The runtime that starts threads and waits.
@@ -30,6 +34,12 @@ pub(crate) struct Fake<'a, T> {
     pub(crate) nodes: &'a [(&'a str, Metadata)],
     /// The names that are links, and to what.
     pub(crate) links: &'a [(&'a str, &'a str)],
+    /// The locks that another run has.
+    pub(crate) locked: &'a [&'a str],
+    /// Where the calls that change files are counted, if anywhere.
+    pub(crate) calls: Option<&'a Calls>,
+    /// Whether a file was opened that can only be read.
+    pub(crate) has_read: Mutex<bool>,
     pub(crate) alloc: Global,
     pub(crate) printed: Mutex<Vec<u8>>,
     pub(crate) complained: Mutex<String>,
@@ -46,6 +56,9 @@ impl<'a, T: AllocGlobal> Fake<'a, T> {
             kept: &[],
             nodes: &[],
             links: &[],
+            locked: &[],
+            calls: None,
+            has_read: Mutex::new(false),
             alloc,
             printed: Mutex::new(Vec::new(alloc)),
             complained: Mutex::new(String::new(alloc)),
@@ -66,6 +79,9 @@ impl<'a, T: AllocGlobal> Fake<'a, T> {
             kept: _,
             nodes,
             links,
+            locked,
+            calls,
+            has_read,
             alloc,
             printed,
             complained,
@@ -78,6 +94,9 @@ impl<'a, T: AllocGlobal> Fake<'a, T> {
             kept,
             nodes,
             links,
+            locked,
+            calls,
+            has_read,
             alloc,
             printed,
             complained,
@@ -98,6 +117,9 @@ impl<'a, T: AllocGlobal> Fake<'a, T> {
             kept,
             nodes: _,
             links: _,
+            locked,
+            calls,
+            has_read,
             alloc,
             printed,
             complained,
@@ -110,6 +132,47 @@ impl<'a, T: AllocGlobal> Fake<'a, T> {
             kept,
             nodes,
             links,
+            locked,
+            calls,
+            has_read,
+            alloc,
+            printed,
+            complained,
+        }
+    }
+
+    /// The same runtime with these files that can only be read, and with the others on this disk.
+    pub(crate) fn with_disk(
+        self,
+        files: &'a [(&'a str, FakeFile<'a>)],
+        disk: &'a Disk<'a>,
+    ) -> Fake<'a, T> {
+        let Fake {
+            rt,
+            words,
+            input,
+            files: _,
+            kept: _,
+            nodes: _,
+            links: _,
+            locked: _,
+            calls: _,
+            has_read,
+            alloc,
+            printed,
+            complained,
+        } = self;
+        Fake {
+            rt,
+            words,
+            input,
+            files,
+            kept: &disk.files,
+            nodes: &disk.nodes,
+            links: disk.links,
+            locked: disk.locked,
+            calls: Some(&disk.calls),
+            has_read,
             alloc,
             printed,
             complained,
@@ -126,6 +189,9 @@ impl<'a, T: AllocGlobal> Fake<'a, T> {
             kept: _,
             nodes: _,
             links: _,
+            locked: _,
+            calls: _,
+            has_read: _,
             alloc: _,
             printed,
             complained,
@@ -164,6 +230,34 @@ impl<T> Fake<'_, T> {
             complained.push_str(end)?;
         }
         Ok(())
+    }
+}
+
+impl<'a, T> Fake<'a, T> {
+    /// Counts a call that changes files, where they are counted.
+    fn count(&self, what: &'static str, name: &str) -> io::Result<()> {
+        match self.calls {
+            Some(calls) => calls.make(what, name),
+            None => Ok(()),
+        }
+    }
+
+    /// Whether a file was read.
+    fn has_begun(&self) -> bool {
+        match self.has_read.try_lock() {
+            Some(has_read) => *has_read,
+            None => false,
+        }
+    }
+
+    /// The file whose draft has this name and is there.
+    fn drafted_by(&self, path: &str) -> io::Result<&'a KeptFile<'a>> {
+        for file in self.kept {
+            if file.is_drafted_by(path) && file.has_draft() {
+                return Ok(file);
+            }
+        }
+        Err(io::Error::from_raw_os_error(NO_SUCH_FILE))
     }
 }
 
@@ -255,13 +349,33 @@ impl<'a, T> Files for Fake<'a, T> {
     fn open_file(&self, how: &OpenOptions, path: &str) -> io::Result<FakeFile<'a>> {
         for (name, file) in self.files {
             if *name == path && !how.asks_write() {
+                if let Some(mut has_read) = self.has_read.try_lock() {
+                    *has_read = true;
+                }
                 return Ok(*file);
             }
         }
         for file in self.kept {
             if file.name == path {
-                return file.opened(how);
+                if how.asks_write() {
+                    self.count("open", file.name)?;
+                }
+                return file.opened(how, self.calls);
             }
+            if file.is_drafted_by(path) {
+                if how.asks_create_new() {
+                    self.count("create", file.name)?;
+                }
+                return file.opened_draft(how, self.calls);
+            }
+        }
+        if FOLDERS.contains(&path) {
+            return Ok(FakeFile::Folder(self.calls));
+        }
+        if path.ends_with(LOCK) && how.asks_create() {
+            self.count("lock", path)?;
+            let taken = self.locked.contains(&path);
+            return Ok(FakeFile::Lock { taken });
         }
         Err(io::Error::from_raw_os_error(NO_SUCH_FILE))
     }
@@ -279,10 +393,16 @@ impl<'a, T> Files for Fake<'a, T> {
         Err(io::Error::from(ErrorKind::NotFound))
     }
 
+    /// Of a file that can be written the system tells only once another was read: as if it came in between.
     fn symlink_metadata(&self, path: &str) -> io::Result<Metadata> {
         for (name, _) in self.links {
             if *name == path {
                 return Ok(Metadata::of_symlink(0));
+            }
+        }
+        for file in self.kept {
+            if file.name == path && file.has_bytes() && self.has_begun() {
+                return Ok(Metadata::of_file(1));
             }
         }
         self.metadata(path)
@@ -301,12 +421,31 @@ impl<'a, T> Files for Fake<'a, T> {
         unsupported()
     }
 
-    fn rename(&self, _from: &str, _to: &str) -> io::Result<()> {
-        unsupported()
+    fn rename(&self, from: &str, to: &str) -> io::Result<()> {
+        let file = self.drafted_by(from)?;
+        if file.name != to {
+            return unsupported();
+        }
+        self.count("rename", file.name)?;
+        file.take_draft(true)
     }
 
-    fn remove_file(&self, _path: &str) -> io::Result<()> {
-        unsupported()
+    fn hard_link(&self, original: &str, link: &str) -> io::Result<()> {
+        let file = self.drafted_by(original)?;
+        if file.name != link {
+            return unsupported();
+        }
+        self.count("link", file.name)?;
+        if file.has_bytes() {
+            return Err(io::Error::from(ErrorKind::AlreadyExists));
+        }
+        file.take_draft(false)
+    }
+
+    fn remove_file(&self, path: &str) -> io::Result<()> {
+        let file = self.drafted_by(path)?;
+        self.count("remove", file.name)?;
+        file.drop_draft()
     }
 
     fn create_dir(&self, _path: &str) -> io::Result<()> {

@@ -1,55 +1,223 @@
 //! Files of the tests' own.
-ghost use Rattle.std.specs.Prelude.{◌≡◌, true, is_err};
+ghost use Rattle.std.specs.Prelude.{◌≡◌, ◌≤◌, true, length, is_err, IfOk};
 
-use std::fs::{Metadata, OpenFile, OpenOptions};
+use crate::calls::Calls;
+use kept_file::{CallFailed, Exclusive};
+use std::fs::{Metadata, OpenFile, OpenOptions, Permissions};
 use std::io::{self, ErrorKind, Read, Seek, SeekFrom, Write};
 use std::sync::Mutex;
+
+/// The number by which the system tells that there is no such file.
+pub(crate) const NO_SUCH_FILE: i32 = 2;
+
+/// What stands behind the name of a file in that of its draft.
+const DRAFT: &str = ".new";
 
 /// A file that is there: what its reads give and its writes do.
 #[derive(Clone, Copy, Drop)]
 pub(crate) enum FakeFile<'a> {
     /// The bytes that are left of it.
     Holds(&'a [u8]),
+    /// Bytes, then an error once, and then other bytes.
+    Breaks {
+        first: &'a [u8],
+        rest: &'a [u8],
+        broken: bool,
+    },
     /// The byte `A` for ever.
     Endless,
     /// An error.
     Broken,
-    /// What was written to it, of which `read` bytes were read. It takes at most `room` bytes.
-    Kept {
-        bytes: &'a Mutex<Vec<u8>>,
-        room: usize,
-        read: usize,
+    /// A file that can be written, or its draft.
+    Kept(Opened<'a>),
+    /// A directory.
+    Folder(Option<&'a Calls>),
+    /// A file to be locked, which another run has locked already or not.
+    Lock {
+        taken: bool,
     },
 }
 
-/// A file that can be written.
+/// A file that can be written, or its draft, as it was opened.
+#[derive(Clone, Copy, Drop)]
+pub(crate) struct Opened<'a> {
+    file: &'a KeptFile<'a>,
+    /// Whether it is the draft.
+    drafted: bool,
+    /// How many of its bytes were read.
+    read: usize,
+    /// Where the calls that change it are counted, if anywhere.
+    calls: Option<&'a Calls>,
+}
+
+impl Opened<'_> {
+    /// Counts a call that changes it, where calls are counted.
+    fn count(&self, what: &'static str) -> io::Result<()> {
+        match self.calls {
+            Some(calls) => calls.make(what, self.file.name),
+            None => Ok(()),
+        }
+    }
+
+    /// Reads on.
+    fn read(&mut self, room: &mut [u8]) -> io::Result<usize>
+        ensures { IfOk result (λ n. n ≤ length room.new) }
+    {
+        let file = self.file;
+        let bytes = if self.drafted {
+            &file.draft
+        } else {
+            &file.bytes
+        };
+        match bytes.try_lock() {
+            Some(held) => {
+                let mut left = held.get(self.read..).unwrap_or(&[]);
+                let n = left.read(room)?;
+                self.read = held.len().saturating_sub(left.len());
+                Ok(n)
+            }
+            None => unsupported(),
+        }
+    }
+
+    /// Writes a few bytes at its end.
+    fn write(&self, bytes: &[u8]) -> io::Result<usize>
+        ensures { IfOk result (λ n. n ≤ length bytes.now) }
+    {
+        if self.drafted {
+            self.count("write")?;
+        }
+        let file = self.file;
+        let held = if self.drafted {
+            &file.draft
+        } else {
+            &file.bytes
+        };
+        match held.try_lock() {
+            Some(mut held) => {
+                let left = self.file.room.saturating_sub(held.len());
+                let n = left.min(self.file.piece).min(bytes.len());
+                held.extend_from_slice(&bytes[..n])?;
+                Ok(n)
+            }
+            None => unsupported(),
+        }
+    }
+}
+
+/// A file that can be written, by itself or by its draft.
 #[derive(Drop)]
 pub(crate) struct KeptFile<'a> {
     pub(crate) name: &'a str,
     /// What it holds.
     pub(crate) bytes: Mutex<Vec<u8>>,
-    /// How many bytes it takes at most.
+    /// How many bytes it takes at most, and as many its draft.
     pub(crate) room: usize,
+    /// How many bytes it takes at most in one write.
+    pub(crate) piece: usize,
+    /// What its draft holds.
+    pub(crate) draft: Mutex<Vec<u8>>,
+    /// Whether its draft is there.
+    pub(crate) drafted: Mutex<bool>,
 }
 
-impl KeptFile<'_> {
-    /// The file where it is opened in this way. Opened for writing, it is emptied; as a new one it cannot be opened
-    /// where it holds something.
-    pub(crate) fn opened(&self, how: &OpenOptions) -> io::Result<FakeFile<'_>> {
-        if how.asks_write() {
+impl<'a> KeptFile<'a> {
+    /// Whether this is the name of its draft.
+    pub(crate) fn is_drafted_by(&self, path: &str) -> bool {
+        path.strip_suffix(DRAFT) == Some(self.name)
+    }
+
+    /// Whether its draft is there.
+    pub(crate) fn has_draft(&self) -> bool {
+        match self.drafted.try_lock() {
+            Some(drafted) => *drafted,
+            None => false,
+        }
+    }
+
+    /// Whether it holds something.
+    pub(crate) fn has_bytes(&self) -> bool {
+        match self.bytes.try_lock() {
+            Some(bytes) => !bytes.is_empty(),
+            None => false,
+        }
+    }
+
+    /// The file where it is opened in this way. Opened for writing and to be made, it is emptied; as a new one it cannot
+    /// be opened where it holds something.
+    pub(crate) fn opened(
+        &'a self,
+        how: &OpenOptions,
+        calls: Option<&'a Calls>,
+    ) -> io::Result<FakeFile<'a>> {
+        if how.asks_create_new() && self.has_bytes() {
+            return Err(io::Error::from(ErrorKind::AlreadyExists));
+        }
+        if how.asks_create_new() || how.asks_truncate() {
             match self.bytes.try_lock() {
-                Some(bytes) if how.asks_create_new() && !bytes.is_empty() => {
-                    return Err(io::Error::from(ErrorKind::AlreadyExists));
-                }
                 Some(mut bytes) => bytes.clear(),
                 None => return unsupported(),
             }
         }
-        Ok(FakeFile::Kept {
-            bytes: &self.bytes,
-            room: self.room,
+        Ok(FakeFile::Kept(Opened {
+            file: self,
+            drafted: false,
             read: 0,
-        })
+            calls,
+        }))
+    }
+
+    /// Its draft where that is opened in this way: it is there already or is made as a new one.
+    pub(crate) fn opened_draft(
+        &'a self,
+        how: &OpenOptions,
+        calls: Option<&'a Calls>,
+    ) -> io::Result<FakeFile<'a>> {
+        let Some(mut drafted) = self.drafted.try_lock() else {
+            return unsupported();
+        };
+        match (how.asks_create_new(), *drafted) {
+            (true, true) => Err(io::Error::from(ErrorKind::AlreadyExists)),
+            (false, false) => Err(io::Error::from_raw_os_error(NO_SUCH_FILE)),
+            (made, _) => {
+                *drafted = true;
+                if let Some(mut draft) = self.draft.try_lock() {
+                    if made {
+                        draft.clear();
+                    }
+                }
+                Ok(FakeFile::Kept(Opened {
+                    file: self,
+                    drafted: true,
+                    read: 0,
+                    calls,
+                }))
+            }
+        }
+    }
+
+    /// Gives the draft its name, and takes it away from where it lay if it `moves`.
+    pub(crate) fn take_draft(&self, moves: bool) -> io::Result<()> {
+        let (Some(mut bytes), Some(draft)) = (self.bytes.try_lock(), self.draft.try_lock()) else {
+            return unsupported();
+        };
+        if !self.has_draft() {
+            return Err(io::Error::from_raw_os_error(NO_SUCH_FILE));
+        }
+        bytes.clear();
+        bytes.extend_from_slice(draft.as_slice())?;
+        if moves { self.drop_draft() } else { Ok(()) }
+    }
+
+    /// Takes the draft away.
+    pub(crate) fn drop_draft(&self) -> io::Result<()> {
+        match self.drafted.try_lock() {
+            Some(mut drafted) if *drafted => {
+                *drafted = false;
+                Ok(())
+            }
+            _ => Err(io::Error::from_raw_os_error(NO_SUCH_FILE)),
+        }
     }
 }
 
@@ -64,20 +232,26 @@ impl Read for FakeFile<'_> {
     fn read(&mut self, buf: &mut [u8]) -> io::Result<usize> {
         match self {
             FakeFile::Holds(bytes) => bytes.read(buf),
+            FakeFile::Breaks {
+                first,
+                rest,
+                broken,
+            } => {
+                if !first.is_empty() {
+                    return first.read(buf);
+                }
+                if *broken {
+                    return rest.read(buf);
+                }
+                *broken = true;
+                unsupported()
+            }
             FakeFile::Endless => {
                 buf.fill(b'A');
                 Ok(buf.len())
             }
-            FakeFile::Broken => unsupported(),
-            FakeFile::Kept { bytes, read, .. } => match bytes.try_lock() {
-                Some(bytes) => {
-                    let mut left = bytes.get(*read..).unwrap_or(&[]);
-                    let n = left.read(buf)?;
-                    *read = bytes.len().saturating_sub(left.len());
-                    Ok(n)
-                }
-                None => unsupported(),
-            },
+            FakeFile::Broken | FakeFile::Folder(_) | FakeFile::Lock { .. } => unsupported(),
+            FakeFile::Kept(opened) => opened.read(buf),
         }
     }
 }
@@ -85,14 +259,7 @@ impl Read for FakeFile<'_> {
 impl Write for FakeFile<'_> {
     fn write(&mut self, buf: &[u8]) -> io::Result<usize> {
         match self {
-            FakeFile::Kept { bytes, room, .. } => match bytes.try_lock() {
-                Some(mut bytes) => {
-                    let n = room.saturating_sub(bytes.len()).min(buf.len());
-                    bytes.extend_from_slice(&buf[..n])?;
-                    Ok(n)
-                }
-                None => unsupported(),
-            },
+            FakeFile::Kept(opened) => opened.write(buf),
             _ => unsupported(),
         }
     }
@@ -118,10 +285,31 @@ impl OpenFile for FakeFile<'_> {
     }
 
     fn sync_all(&self) -> io::Result<()> {
-        unsupported()
+        match self {
+            FakeFile::Kept(opened) => opened.count("sync"),
+            FakeFile::Folder(Some(calls)) => calls.make("sync", "."),
+            FakeFile::Folder(None) => Ok(()),
+            _ => unsupported(),
+        }
     }
 
     fn sync_data(&self) -> io::Result<()> {
         unsupported()
+    }
+
+    fn set_permissions(&self, _permissions: Permissions) -> io::Result<()> {
+        match self {
+            FakeFile::Kept(opened) => opened.count("permissions"),
+            _ => unsupported(),
+        }
+    }
+}
+
+impl Exclusive for FakeFile<'_> {
+    fn try_exclusive(&self) -> Result<bool, CallFailed> {
+        match self {
+            FakeFile::Lock { taken } => Ok(!*taken),
+            _ => Err(CallFailed),
+        }
     }
 }

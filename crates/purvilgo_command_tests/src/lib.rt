@@ -2,7 +2,13 @@
 #![tactic(auto)]
 
 #[cfg(test)]
+mod at_once;
+#[cfg(test)]
+mod calls;
+#[cfg(test)]
 mod commands;
+#[cfg(test)]
+mod ends;
 #[cfg(test)]
 mod fake;
 #[cfg(test)]
@@ -13,6 +19,16 @@ mod given_words;
 mod help_pages;
 #[cfg(test)]
 mod kept_registers;
+#[cfg(test)]
+mod kept_whole;
+#[cfg(test)]
+mod large_files;
+#[cfg(test)]
+mod limits;
+#[cfg(test)]
+mod long_checks;
+#[cfg(test)]
+mod meeting;
 #[cfg(test)]
 mod other_words;
 #[cfg(test)]

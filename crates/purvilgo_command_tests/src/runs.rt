@@ -58,6 +58,9 @@ pub(crate) fn keeping<'a>(
         name,
         bytes: Mutex::new(Vec::from_slice(alloc, text)?),
         room,
+        piece: room,
+        draft: Mutex::new(Vec::new(alloc)),
+        drafted: Mutex::new(false),
     })
 }
 

@@ -35,13 +35,17 @@ fn expect_untouched(kept: &[KeptFile]) -> Result<(), Fail> {
 fn writes_no_register_over_a_file(rt: HostRuntime) -> Result<(), Fail> {
     let alloc = rt.alloc();
     let kept = older(alloc)?;
-    let cases: [&[&str]; 6] = [
+    let cases: [&[&str]; 10] = [
         &["--to", "a", "a", "b"],
         &["--to", "b", "a", "b"],
         &["--to", "a.ack", "a", "b"],
         &["--to", "b.ack", "a", "b"],
         &["--from", "b.ack", "a", "b"],
         &["--from", "b.ack", "--to", "book", "a", "b"],
+        &["--to", "book", "a", "book.new"],
+        &["--to", "book", "a", "book.lock"],
+        &["--from", "book.lock", "--to", "book", "a", "b"],
+        &["a", "b", "a.ack.new"],
     ];
     for more in cases {
         let words = run_with(alloc, more)?;
@@ -108,6 +112,55 @@ fn knows_a_file_that_is_not_there_yet(rt: HostRuntime) -> Result<(), Fail> {
         expect_program(fake, ExitCode::from(2), b"", TWICE)?;
     }
     expect_untouched(&kept)
+}
+
+/// Each run would write a draft or a lock over what it reads or writes, as the system tells of names and of links.
+#[test]
+fn knows_the_place_of_a_draft_and_of_a_lock(rt: HostRuntime) -> Result<(), Fail> {
+    let alloc = rt.alloc();
+    let kept = older(alloc)?;
+    let (here, other) = two_nodes(&rt)?;
+    let links = [("linked", "book")];
+    let cases: [(&[&str], &str); 9] = [
+        (&["--to", "book", "a", "./book.new"], "."),
+        (&["--to", "book", "a", "./book.lock"], "."),
+        (&["--from", "./book.new", "--to", "book", "a"], "."),
+        (&["--from", "./book.lock", "--to", "linked", "a"], "."),
+        (&["a", "./a.ack.new"], "."),
+        (&["--from", "./a.ack.new", "a"], "."),
+        (&["--to", "./a.ack.new", "a"], "."),
+        (&["--to", "book", "a"], "book.new"),
+        (&["--to", "book", "a"], "book.lock"),
+    ];
+    for (more, name) in cases {
+        let nodes = [
+            ("unrelated", other.clone()?),
+            ("a", here.clone()?),
+            (name, here.clone()?),
+        ];
+        let words = run_with(alloc, more)?;
+        let fake = Fake::new(&rt, &words, b"")
+            .with_files(&[], &kept)
+            .with_names(&nodes, &links);
+        expect_program(fake, ExitCode::from(2), b"", TWICE)?;
+    }
+    expect_untouched(&kept)
+}
+
+/// A draft may be one with the file that it replaces: it is made anew.
+#[test]
+fn lets_a_draft_be_its_own_file(rt: HostRuntime) -> Result<(), Fail> {
+    let alloc = rt.alloc();
+    let input = plain_file(alloc)?;
+    let (_, node) = two_nodes(&rt)?;
+    let files = [("a", FakeFile::Holds(&input))];
+    let kept = [keeping(alloc, "a.ack", b"older", 1000)?];
+    let nodes = [("a.ack", node.clone()?), ("a.ack.new", node)];
+    let words = run_with(alloc, &["a"])?;
+    let fake = Fake::new(&rt, &words, b"")
+        .with_files(&files, &kept)
+        .with_names(&nodes, &[]);
+    expect_program(fake, ExitCode::SUCCESS, b"a: acknowledged 1\n", "")
 }
 
 /// Files of other names, other directories and other numbers are not one, and `--from` and `--to` may be.

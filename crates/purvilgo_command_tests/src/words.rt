@@ -48,10 +48,16 @@ fn tells_wrong_files() -> Result<(), Fail> {
         (["a", "a"].as_slice(), Some(RunFault::Twice)),
         (["a", "a.ack"].as_slice(), Some(RunFault::Twice)),
         (["b", "a.ack", "c", "a"].as_slice(), Some(RunFault::Twice)),
+        (["a", "a.ack.new"].as_slice(), Some(RunFault::Twice)),
+        (["a.ack.new", "b", "a"].as_slice(), Some(RunFault::Twice)),
         (["a", "b", "c", "b"].as_slice(), Some(RunFault::Twice)),
         (["a"].as_slice(), None),
         ([].as_slice(), None),
         (["a", "b.ack", "aa", "a.ac", ".ack"].as_slice(), None),
+        (
+            ["a", "a.new", "a.lock", "b.ack.new", "a.ack.lock"].as_slice(),
+            None,
+        ),
     ] {
         same(
             "files",
@@ -79,9 +85,23 @@ fn tells_registers_that_would_be_lost() -> Result<(), Fail> {
         (Some("b.ack"), Some("after"), twice),
         (None, Some("a.ac"), None),
         (None, Some("a.ack.ack"), None),
+        (Some("a.ack.new"), None, twice),
+        (Some("b.ack.new"), Some("after"), twice),
+        (None, Some("b.ack.new"), twice),
+        (Some("book.new"), Some("book"), twice),
+        (Some("book.lock"), Some("book"), twice),
+        (Some("book"), Some("book.new"), None),
+        (Some("book"), Some("book.lock"), None),
+        (Some("book.new"), None, None),
+        (Some("a.new"), Some("a.lock"), None),
     ] {
         let found = words_fault("007", "X", "20240229", "090000", &["a", "b"], from, to);
         same("registers", &(from, to, found), &(from, to, wanted))?;
+    }
+    for file in ["book.new", "book.lock"] {
+        let run = |to| words_fault("007", "X", "20240229", "090000", &["a", file], None, to);
+        same(file, &run(Some("book")), &twice)?;
+        same(file, &run(Some("other")), &None)?;
     }
     let found = words_fault("007", "X", "20240229", "", &["a"], None, Some("a"));
     same("a time before it", &found, &Some(RunFault::Time))?;

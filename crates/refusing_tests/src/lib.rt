@@ -14,6 +14,8 @@ mod files;
 #[cfg(test)]
 mod rooms;
 #[cfg(test)]
+mod sweeps;
+#[cfg(test)]
 mod texts;
 #[cfg(test)]
 mod ticket_locks;

@@ -10,7 +10,7 @@ use Rattle.ticket_core.specs.declared.array_lock.ArrayOutcome.TheVariants.{Waits
 use Rattle.ticket_core.specs.ArrayLock.{ArrayState, ticket_phase}
 use Rattle.ticket_core.specs.ArraySteps.{new_array_lock, array_answer, array_after_all}
 use Rattle.ticket_core.specs.TicketLock.{AtMostOneInside}
-use Rattle.ticket_core.proofs.ArrayRuns.{array_after_all-append}
+use Rattle.ticket_core.proofs.lemmas.ArrayRuns.{array_after_all-append}
 use Rattle.registry_desk.specs.declared.view.View.{View}
 use Rattle.registry_desk.specs.Kinds.{Kind, draws, looks, shuts, passes, counts, gives, meets, exchanges, left_by, given_by, joined_by}
 use Rattle.registry_desk.specs.Rule.{DeskState}

@@ -20,10 +20,10 @@ use Rattle.ticket_core.specs.declared.ticket_lock.Phase.{Phase}
 use Rattle.ticket_core.specs.declared.ticket_lock.Phase.TheVariants.{Away as TicketAway}
 use Rattle.ticket_core.specs.TicketLock.{LockState, IsLawful, phase_at, ticket_of, tickets_out}
 use Rattle.ticket_core.specs.TicketSteps.{greatest_next}
-use Rattle.ticket_core.proofs.TicketLawful.{nobody_inside, tickets_of}
-use Rattle.ticket_core.proofs.ArrayLawful.{phase_is, open_is_served}
-use Rattle.ticket_core.proofs.ArrayRuns.{array_steps, array_lawful_one_inside}
-use Rattle.ticket_core.proofs.ArrayStates.{new_array_lawful}
+use Rattle.ticket_core.proofs.lemmas.TicketLawful.{nobody_inside, tickets_of}
+use Rattle.ticket_core.proofs.lemmas.ArrayLawful.{phase_is, open_is_served}
+use Rattle.ticket_core.proofs.lemmas.ArrayRuns.{array_steps, array_lawful_one_inside}
+use Rattle.ticket_core.proofs.lemmas.ArrayStates.{new_array_lawful}
 use Rattle.work_registry.specs.EntryValue.{EntryValue}
 use Rattle.registry_desk.specs.declared.view.View.{View}
 use Rattle.registry_desk.specs.Views.{phase_of, drawn, looked, entered, shut, passed}

@@ -2,7 +2,7 @@
 use Rattle.std.proofs.Common.{◌+◌, get_or, arith}
 use Rattle.std.proofs.lemmas.Bool.Decides.{nat_tests}
 use Rattle.ticket_core.specs.ArrayLock.{flag_of}
-use Rattle.ticket_core.proofs.ArrayRuns.{array_lawful_one_inside}
+use Rattle.ticket_core.proofs.lemmas.ArrayRuns.{array_lawful_one_inside}
 use Rattle.registry_desk.specs.Rule.{shown_lock}
 use Rattle.registry_desk.specs.Events.{ShowsLawfulLock, DrawIsEvent, EnterIsEvent, WaitIsEvent, ShutIsEvent, PassIsEvent}
 use Rattle.registry_desk.proofs.Lock.{draw_event, enter_event, wait_event, shut_event, pass_event}

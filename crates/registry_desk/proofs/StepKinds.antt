@@ -15,7 +15,7 @@ use Rattle.ticket_core.specs.declared.array_lock.ArrayOutcome.TheVariants.{Drew,
 use Rattle.ticket_core.specs.ArrayLock.{ArrayState, array_phase_at, flag_of, serving_of, NobodyLeaves, IsLawfulArrayState}
 use Rattle.ticket_core.specs.ArraySteps.{new_array_lock}
 use Rattle.ticket_core.specs.TicketSteps.{greatest_next}
-use Rattle.ticket_core.proofs.ArrayStates.{new_array_lawful}
+use Rattle.ticket_core.proofs.lemmas.ArrayStates.{new_array_lawful}
 use Rattle.work_registry.specs.BookValue.{BookValue}
 use Rattle.registry_desk.specs.declared.view.View.{View}
 use Rattle.registry_desk.specs.Views.{phase_of, turns_of, spent_view, opening_view, drawn, looked, entered, shut, passed}

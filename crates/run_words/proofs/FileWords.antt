@@ -1,12 +1,11 @@
 -- Words that name files, and words of a fixed width.
 use Rattle.std.proofs.Common.{◌≡◌, ◌∙◌, ℕ, Bool, true, false, List, ◌++◌, length, replicate, refl, sym, ap, bytes_eq, Option, arith}
-use Rattle.std.specs.Prelude.{◌&&◌, ◌==◌, codes, is_some}
+use Rattle.std.specs.Prelude.{◌&&◌, ◌==◌, is_some}
 use Rattle.std.proofs.Math.Seq.{take-append_seam}
 use Rattle.std.proofs.lemmas.Bool.Decides.{same_from_decides, nat_tests}
 use Rattle.std.proofs.lemmas.List.{append_cancel_right}
 use Rattle.std.proofs.lemmas.Slice.Eq.{bytes_eq-Decides}
 use Rattle.cwr_field.specs.Layout.{field}
-use Rattle.run_words.specs.RunFault.{is_acknowledgement}
 
 -- a field that a word fills is the word
 word_field : (word : List ℕ) (n : ℕ) → length word ≡ n → field word 1 n ≡ word
@@ -19,18 +18,17 @@ named_by read word cut n found result e is f r =
     let same : (length word == n) ≡ true = grind (arith, nat_tests) in
     rw same (r ∙ ap (λ (o : Option ℕ). is_some o) (f ∙ ap read (is ∙ word_field word n e)))
 
--- a name is that of an acknowledgement where it is the file's with the ending
-pub named_with : (file other front : List ℕ) → other ≡ front ++ codes ".ack" → bytes_eq front file ≡ is_acknowledgement file other
-named_with file other front e =
-    let end = codes ".ack" in
+-- a name is the file's with this end where what stands before the end is the file's
+pub named_with : (end file other front : List ℕ) → other ≡ front ++ end → bytes_eq front file ≡ bytes_eq other (file ++ end)
+named_with end file other front e =
     let same = bytes_eq-Decides front file in
     let joined = bytes_eq-Decides other (file ++ end) in
-    same_from_decides (bytes_eq front file) (is_acknowledgement file other) same
+    same_from_decides (bytes_eq front file) (bytes_eq other (file ++ end)) same
     (λ h. append_cancel_right front file end (sym e ∙ joined.0 h), λ h. joined.1 (e ∙ ap (λ (x : List ℕ). x ++ end) h))
 
-pub named_without : (file other : List ℕ) → ((front : List ℕ) → other ≡ front ++ codes ".ack" → ⊥) → is_acknowledgement file other ≡ false
-named_without file other none = by (is_acknowledgement file other) refl
+pub named_without : (end file other : List ℕ) → ((front : List ℕ) → other ≡ front ++ end → ⊥) → bytes_eq other (file ++ end) ≡ false
+named_without end file other none = by (bytes_eq other (file ++ end)) refl
   where
-    by : (b : Bool) → is_acknowledgement file other ≡ b → is_acknowledgement file other ≡ false
-    by true h = absurd (none file ((bytes_eq-Decides other (file ++ codes ".ack")).0 h))
+    by : (b : Bool) → bytes_eq other (file ++ end) ≡ b → bytes_eq other (file ++ end) ≡ false
+    by true h = absurd (none file ((bytes_eq-Decides other (file ++ end)).0 h))
     by false h = h

@@ -1,10 +1,10 @@
-ghost use Rattle.std.specs.Prelude.{◌≡◌, map, option_map};
+ghost use Rattle.std.specs.Prelude.{◌≡◌, ◌++◌, map, option_map};
 ghost use Rattle.std.specs.List.{list_all, list_any};
 ghost use Rattle.std.specs.Char.{is_ascii_digit};
-ghost use Rattle.cwr_record.specs.Stamp.{is_printable};
-ghost use Rattle.run_words.specs.RunFault.{is_society, is_name, is_date, is_time, is_acknowledgement, is_same_file, is_named_twice, is_of_file, is_read_lost, is_kept_over, run_fault, words_fault, run_fault_text};
+ghost use Rattle.std.specs.Str.{bytes_eq};
+ghost use Rattle.run_words.specs.RunFault.{is_society, is_name, is_date, is_time, is_written_for, is_beside_register, is_same_file, is_named_twice, is_of_file, is_read_lost, is_kept_over, is_read_taken, run_fault, words_fault, run_fault_text};
 
-use cwr_field::{cut, date, time};
+use cwr_field::{cut, date, is_printable, time};
 
 /// The most files of one run: a seat for each beside the opening one.
 const MOST_FILES: usize = 63;
@@ -25,8 +25,10 @@ pub enum RunFault {
     Time,
     /// There are more than 63 files.
     TooMany,
-    /// Two of the files are one, or one is the acknowledgement of another: its name with `.ack` behind it. Or a register
-    /// would be lost: the run would write it over a file or an acknowledgement, or the acknowledgement over it.
+    /// Two of the names that a run reads and writes are one: of the files, of the acknowledgement of each (its name with
+    /// `.ack` behind it) and its draft (`.ack.new`), of the register that is left, its draft (`.new`) and its lock
+    /// (`.lock`), and of the register that is read. The two registers may have one name, and a file may be the register
+    /// that is read.
     Twice,
 }
 
@@ -46,7 +48,8 @@ impl RunFault {
     }
 }
 
-/// What is wrong with the words of a run, the first in the order of [`RunFault`], or `None` where nothing is.
+/// What is wrong with the words of a run without registers, the first in the order of [`RunFault`], or `None` where
+/// nothing is.
 ///
 /// Files are compared by the words that name them. No memory is asked for.
 pub fn run_fault(
@@ -80,10 +83,13 @@ pub fn run_fault(
 }
 
 /// What is wrong with the words of a run that may begin with the register `from` and leave its own in `to`: as
-/// [`run_fault`], and `Twice` also where `to` names one of the files or the acknowledgement of one, or `from` the
-/// acknowledgement of one.
+/// [`run_fault`], and `Twice` also where
+/// - `to` names one of the files, or the acknowledgement of one or its draft,
+/// - `from` names the acknowledgement of one of the files or its draft,
+/// - the draft or the lock of `to` has the name of one of the files or of `from`.
 ///
-/// `from` and `to` may be one word, and `from` one of the files: nothing is written over either before it is read.
+/// `from` and `to` may be one word, and `from` one of the files: nothing is written over either before it is read. A
+/// draft or a lock has never the name of an acknowledgement, as these end otherwise.
 pub fn words_fault(
     society: &str,
     name: &str,
@@ -99,7 +105,7 @@ pub fn words_fault(
     if let Some(fault) = run_fault(society, name, date, time, files) {
         return Some(fault);
     }
-    if is_read_lost(from, files) || is_kept_over(to, files) {
+    if is_read_lost(from, files) || is_kept_over(to, files) || is_read_taken(from, to) {
         return Some(RunFault::Twice);
     }
     None
@@ -135,14 +141,7 @@ fn are_digits(word: &[u8]) -> bool
     word.iter().all(|byte| byte.is_ascii_digit())
 }
 
-/// Whether no byte is below 32.
-fn is_printable(word: &[u8]) -> bool
-    ensures { result ≡ is_printable word.now }
-{
-    word.iter().all(|byte| 32 <= *byte)
-}
-
-/// Whether two of the files are one, or one is the acknowledgement of another.
+/// Whether two of the files are one, or one is written for another.
 fn is_named_twice(files: &[&str]) -> bool
     ensures { result ≡ is_named_twice (map (λ file. file.now) files.now) }
 {
@@ -154,7 +153,7 @@ fn is_named_twice(files: &[&str]) -> bool
     false
 }
 
-/// Whether a file is one of some others, or one of them is its acknowledgement, or it is theirs.
+/// Whether a file is one of some others, or one of them is written for it, or it for one of them.
 fn is_among(file: &[u8], others: &[&str]) -> bool
     ensures { result ≡ list_any (is_same_file file.now) (map (λ other. other.now) others.now) }
 {
@@ -170,30 +169,47 @@ fn is_among(file: &[u8], others: &[&str]) -> bool
 fn is_same_file(file: &[u8], other: &[u8]) -> bool
     ensures { result ≡ is_same_file file.now other.now }
 {
-    file == other || is_acknowledgement(file, other) || is_acknowledgement(other, file)
+    file == other || is_written_for(file, other) || is_written_for(other, file)
 }
 
-/// Whether the other's name is that of the file with `.ack` behind it.
-fn is_acknowledgement(file: &[u8], other: &[u8]) -> bool
-    ensures { result ≡ is_acknowledgement file.now other.now }
+/// Whether the other's name is that of the acknowledgement of a file, or of its draft.
+#[tactic(auto, unfolding(crate::specs::RunFault::is_written_for))]
+fn is_written_for(file: &[u8], other: &[u8]) -> bool
+    ensures { result ≡ is_written_for file.now other.now }
 {
-    match other.strip_suffix(b".ack") {
-        Some(front) => front == file,
+    is_with(file, b".ack", other) || is_with(file, b".ack.new", other)
+}
+
+/// Whether the other's name is that of a register's draft, or of its lock.
+#[tactic(auto, unfolding(crate::specs::RunFault::is_beside_register))]
+fn is_beside_register(register: &[u8], other: &[u8]) -> bool
+    ensures { result ≡ is_beside_register register.now other.now }
+{
+    is_with(register, b".new", other) || is_with(register, b".lock", other)
+}
+
+/// Whether the other's name is this one with an end behind it.
+fn is_with(name: &[u8], end: &[u8], other: &[u8]) -> bool
+    ensures { result ≡ bytes_eq other.now (name.now ++ end.now) }
+{
+    match other.strip_suffix(end) {
+        Some(front) => front == name,
         None => false,
     }
 }
 
-/// Whether the register that a run begins with would lie in the acknowledgement of one of the files.
+/// Whether the register that a run begins with would lie where an acknowledgement of one of the files, or its draft, does.
 fn is_read_lost(from: Option<&str>, files: &[&str]) -> bool
     ensures { result ≡ is_read_lost (option_map (λ word. word.now) from.entry) (map (λ file. file.now) files.now) }
 {
     match from {
-        Some(word) => is_acknowledgement_of_any(word.as_bytes(), files),
+        Some(word) => is_written_for_any(word.as_bytes(), files),
         None => false,
     }
 }
 
-/// Whether the register that a run leaves would be written over one of the files, or over the acknowledgement of one.
+/// Whether the register that a run leaves, its draft or its lock would lie where one of the files, the acknowledgement of
+/// one or its draft does.
 fn is_kept_over(to: Option<&str>, files: &[&str]) -> bool
     ensures { result ≡ is_kept_over (option_map (λ word. word.now) to.entry) (map (λ file. file.now) files.now) }
 {
@@ -203,34 +219,45 @@ fn is_kept_over(to: Option<&str>, files: &[&str]) -> bool
     }
 }
 
-/// Whether a word names the acknowledgement of one of the files.
-fn is_acknowledgement_of_any(word: &[u8], files: &[&str]) -> bool
-    ensures { result ≡ list_any (λ file. is_acknowledgement file word.now) (map (λ file. file.now) files.now) }
+/// Whether the register that a run begins with would lie where the draft or the lock of the other does.
+fn is_read_taken(from: Option<&str>, to: Option<&str>) -> bool
+    ensures { result ≡ is_read_taken (option_map (λ word. word.now) from.entry) (option_map (λ word. word.now) to.entry) }
+{
+    match (from, to) {
+        (Some(from), Some(to)) => is_beside_register(to.as_bytes(), from.as_bytes()),
+        (None, _) | (Some(_), None) => false,
+    }
+}
+
+/// Whether a word names the acknowledgement of one of the files, or its draft.
+fn is_written_for_any(word: &[u8], files: &[&str]) -> bool
+    ensures { result ≡ list_any (λ file. is_written_for file word.now) (map (λ file. file.now) files.now) }
 {
     for file in files {
-        if is_acknowledgement(file.as_bytes(), word) {
+        if is_written_for(file.as_bytes(), word) {
             return true;
         }
     }
     false
 }
 
-/// Whether a word names one of the files, or the acknowledgement of one.
-fn is_of_any(word: &[u8], files: &[&str]) -> bool
-    ensures { result ≡ list_any (is_of_file word.now) (map (λ file. file.now) files.now) }
+/// Whether a register and one of the files are in each other's way.
+fn is_of_any(register: &[u8], files: &[&str]) -> bool
+    ensures { result ≡ list_any (is_of_file register.now) (map (λ file. file.now) files.now) }
 {
     for file in files {
-        if is_of_file(word, file.as_bytes()) {
+        if is_of_file(register, file.as_bytes()) {
             return true;
         }
     }
     false
 }
 
-/// Whether a word names a file, or its acknowledgement.
+/// Whether a register has the name of a file, of its acknowledgement or of the draft of that, or the file that of the
+/// register's draft or lock.
 #[tactic(auto, unfolding(crate::specs::RunFault::is_of_file))]
-fn is_of_file(word: &[u8], file: &[u8]) -> bool
-    ensures { result ≡ is_of_file word.now file.now }
+fn is_of_file(register: &[u8], file: &[u8]) -> bool
+    ensures { result ≡ is_of_file register.now file.now }
 {
-    word == file || is_acknowledgement(file, word)
+    register == file || is_written_for(file, register) || is_beside_register(register, file)
 }

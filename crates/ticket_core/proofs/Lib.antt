@@ -1,6 +1,3 @@
-pub mod Places
-pub mod TicketLawful
-pub mod TicketRuns
-pub mod ArrayLawful
-pub mod ArrayStates
-pub mod ArrayRuns
+mod Places
+mod TicketRuns
+pub mod lemmas

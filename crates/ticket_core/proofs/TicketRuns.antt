@@ -4,7 +4,7 @@ use Rattle.std.specs.Prelude.{count_by, nat_lt, ◌==◌}
 use Rattle.std.specs.List.{cons_option}
 use Rattle.std.proofs.lemmas.Bool.Decides.{nat_tests}
 use Rattle.std.proofs.lemmas.List.Sums.{sum_by-set, sum_by-cons}
-use Rattle.ticket_core.proofs.TicketLawful.{is_there, nobody_inside, draws, enters, leaves, new_lawful, sum_by-replicate_zero}
+use Rattle.ticket_core.proofs.lemmas.TicketLawful.{is_there, nobody_inside, draws, enters, leaves, new_lawful, sum_by-replicate_zero}
 use Rattle.ticket_core.specs.declared.ticket_lock.Phase.{Phase}
 use Rattle.ticket_core.specs.declared.ticket_lock.Phase.TheVariants.{Away, Waiting, Inside}
 use Rattle.ticket_core.specs.declared.ticket_lock.Event.{Event}

@@ -8,7 +8,7 @@ pub mod LaterHistories
 pub mod Decided
 pub mod GrowingBooks
 pub mod RegisterFields
-pub mod RegisterTables
+pub mod HandedOn
 pub mod RegisterFits
 pub mod RegisterSteps
 pub mod RegisterFaultTexts

@@ -1,6 +1,6 @@
 -- A register that was written is read again: it has no fault, and it is that of no other history.
 use Rattle.std.proofs.Common.{◌≡◌, ◌∙◌, ℕ, ◌+◌, leb, Bool, true, false, List, [], ◌∷◌, ◌++◌, length, take, Option, Some, None, IsTrue, arith, ap, sym, refl}
-use Rattle.std.specs.Prelude.{slice_index, ◌==◌, codes}
+use Rattle.std.specs.Prelude.{slice_index, ◌==◌}
 use Rattle.std.specs.List.{list_all, AllByRecursion}
 use Rattle.std.specs.Char.{is_ascii_digit, is_ascii_uppercase}
 use Rattle.std.proofs.lemmas.Bool.Decides.{nat_tests}
@@ -8,7 +8,7 @@ use Rattle.std.proofs.lemmas.List.{length-append}
 use Rattle.std.proofs.lemmas.List.Folds.{list_all-append}
 use Rattle.cwr_field.specs.Number.{number_text}
 use Rattle.cwr_field.specs.Iswc.{check_digit}
-use Rattle.cwr_field.proofs.DigitText.{all_digits}
+use Rattle.cwr_field.proofs.lemmas.DigitText.{all_digits}
 use Rattle.cwr_record.specs.declared.works.WorkKind.{WorkKind}
 use Rattle.cwr_record.specs.declared.works.WorkKind.TheVariants.{Nwr, Rev}
 use Rattle.cwr_record.specs.Kinds.{work_kind_code}
@@ -16,12 +16,16 @@ use Rattle.cwr_record.specs.Kinds.{status_text}
 use Rattle.cwr_record.specs.declared.status.Status.{Status}
 use Rattle.cwr_record.specs.declared.status.Status.TheVariants as status
 use Rattle.cwr_call.specs.declared.transaction_fault.Fault.{Fault}
-use Rattle.cwr_field.proofs.SameFronts.{same_fronts}
-use Rattle.cwr_call.proofs.Tests.{both, parts}
+use Rattle.cwr_field.proofs.lemmas.SameFronts.{same_fronts}
+use Rattle.cwr_field.proofs.lemmas.Tests.{both, parts}
 use Rattle.cwr_call.specs.Lawful.{is_clean, is_fault, is_lawful, rises}
 use Rattle.work_registry.specs.declared.register.head.Head.{Head}
-use Rattle.work_registry.specs.RegisterLine.{Column, line_of, head, fault, head_of, code_text, line_from, EntryLine, IsEntryLine}
-use Rattle.work_registry.specs.RegisterPieces.{IsWholeFault}
+use Rattle.cwr_field.specs.Layout.{padded}
+use Rattle.cwr_record.specs.Layout.{Part}
+use Rattle.cwr_record.specs.Lines.{text_of, code_text, line_of, IsWhole}
+use Rattle.cwr_record.proofs.lemmas.Codes.{length-work_kind_code, length-status_text}
+use Rattle.cwr_record.proofs.lemmas.RoundTrip.{padded_full}
+use Rattle.work_registry.specs.RegisterLine.{entry_count, head, fault, head_of, line_from, EntryLine, IsEntryLine, IsTyped}
 use Rattle.work_registry.specs.RegisterFaults.{has_end}
 use Rattle.work_registry.proofs.RegisterFits.{lawful_parts}
 use Rattle.work_registry.proofs.RegisterFaultTexts.{faults_text, length-fault, same_fault, fault_stands}
@@ -43,14 +47,18 @@ number_clean : (width n : ℕ) → is_clean (number_text width n) ≡ true
 number_clean width n = each_clean is_ascii_digit digit_clean (number_text width n) (all_digits width n)
 
 joined_clean : (xs ys : List ℕ) → is_clean xs ≡ true → is_clean ys ≡ true → is_clean (xs ++ ys) ≡ true
-joined_clean xs ys p q = list_all-append (λ b. leb 32 b) xs ys ∙ both (is_clean xs) (is_clean ys) p q
+joined_clean xs ys p q = list_all-append (leb 32) xs ys ∙ both (is_clean xs) (is_clean ys) p q
 
-abbrev AreClean : {X : Type 0} → List (Column X) → X → Type 0
-AreClean columns x = AllByRecursion (λ c. is_clean (c.text x) ≡ true) columns
+abbrev AreClean : {X : Type 0} → List (Part X) → X → Type 0
+AreClean parts x = AllByRecursion (λ part. is_clean (text_of x part) ≡ true) parts
 
-line_clean : {X : Type 0} (columns : List (Column X)) (x : X) → AreClean columns x → is_clean (line_of columns x) ≡ true
+line_clean : {X : Type 0} (parts : List (Part X)) (x : X) → AreClean parts x → is_clean (line_of parts x) ≡ true
 line_clean [] x h = refl
-line_clean (c ∷ columns) x h = joined_clean (c.text x) (line_of columns x) h.0 (line_clean columns x h.1)
+line_clean (part ∷ parts) x h = joined_clean (text_of x part) (line_of parts x) h.0 (line_clean parts x h.1)
+
+-- a text that fills its field is written as it is
+full_clean : (width : ℕ) (text : List ℕ) → length text ≡ width → is_clean text ≡ true → is_clean (padded width text) ≡ true
+full_clean width text len h = ap is_clean (padded_full width text len) ∙ h
 
 kind_clean : (k : WorkKind) → is_clean (work_kind_code k) ≡ true
 kind_clean Nwr = refl
@@ -65,20 +73,20 @@ status_clean status.Rejected = refl
 check_clean : (n : ℕ) → leb 32 (48 + n) ≡ true
 check_clean n = grind (arith, nat_tests)
 
-code_clean : (o : Option ℕ) → is_clean (code_text o) ≡ true
+code_clean : (o : Option ℕ) → is_clean (code_text 11 o) ≡ true
 code_clean None = refl
 code_clean (Some n) = joined_clean (84 ∷ number_text 9 n) ((48 + check_digit n) ∷ []) (number_clean 9 n) (both (leb 32 (48 + check_digit n)) true (check_clean (check_digit n)) refl)
 
-fault_clean : (f : Fault) → is_fault f ≡ true → is_clean (line_of fault f) ≡ true
-fault_clean f h =
+fault_clean : (f : Fault) → length f.rtype ≡ 3 → is_fault f ≡ true → is_clean (line_of fault f) ≡ true
+fault_clean f typed h =
     let type = each_clean is_ascii_uppercase capital_clean f.rtype (parts _ (list_all is_ascii_uppercase f.rtype) h).1 in
-    line_clean fault f (number_clean 8 f.sequence, (number_clean 2 f.number, (type, tt)))
+    line_clean fault f (number_clean 8 f.sequence, (number_clean 2 f.number, (full_clean 3 f.rtype typed type, tt)))
 
-faults_clean : (fs : List Fault) → list_all is_fault fs ≡ true → is_clean (faults_text fs) ≡ true
-faults_clean [] h = refl
-faults_clean (f ∷ fs) h =
+faults_clean : (fs : List Fault) → AllByRecursion IsTyped fs → list_all is_fault fs ≡ true → is_clean (faults_text fs) ≡ true
+faults_clean [] typed h = refl
+faults_clean (f ∷ fs) typed h =
     let p = parts (is_fault f) (list_all is_fault fs) h in
-    joined_clean (line_of fault f) (faults_text fs) (fault_clean f p.0) (faults_clean fs p.1)
+    joined_clean (line_of fault f) (faults_text fs) (fault_clean f typed.0 p.0) (faults_clean fs typed.1 p.1)
 
 clean_has_none : (xs : List ℕ) → is_clean xs ≡ true → has_end xs ≡ false
 clean_has_none [] h = refl
@@ -87,15 +95,15 @@ clean_has_none (x ∷ xs) h =
     let first : (x == 10) ≡ false = (let q = p.0 in grind (arith, nat_tests)) in
     rw first (clean_has_none xs p.1)
 
-pub number_has_none : (n : ℕ) → has_end (codes "REG" ++ number_text 8 n) ≡ false
-number_has_none n = clean_has_none (codes "REG" ++ number_text 8 n) (joined_clean (codes "REG") (number_text 8 n) refl (number_clean 8 n))
+pub number_has_none : (n : ℕ) → has_end (line_of entry_count n) ≡ false
+number_has_none n = clean_has_none (line_of entry_count n) (line_clean entry_count n (refl, (number_clean 8 n, tt)))
 
 -- the line of an entry, less its LF
 abbrev pub front_of : EntryLine → List ℕ
 front_of x = line_of head (head_of x) ++ faults_text x.call.faults
 
-pub front_has_none : (x : EntryLine) → IsTrue (is_lawful x.call) → has_end (front_of x) ≡ false
-front_has_none x lawful =
+pub front_has_none : (x : EntryLine) → IsTrue (is_lawful x.call) → length x.call.submitter ≡ 11 → length x.call.title ≡ 60 → length x.call.number ≡ 14 → AllByRecursion IsTyped x.call.faults → has_end (front_of x) ≡ false
+front_has_none x lawful submitter title number typed =
     let p = lawful_parts x.call lawful in
     let faults = (parts _ (list_all is_fault x.call.faults) (parts _ (rises x.call.faults) p.faults).0).1 in
     clean_has_none (front_of x) (joined_clean (line_of head (head_of x)) (faults_text x.call.faults)
@@ -104,16 +112,16 @@ front_has_none x lawful =
       (
         number_clean 8 x.index,
         (
-          p.submitter,
+          full_clean 11 x.call.submitter submitter p.submitter,
           (
-            kind_clean x.call.kind,
+            full_clean 3 (work_kind_code x.call.kind) (length-work_kind_code x.call.kind) (kind_clean x.call.kind),
             (
-              p.title,
+              full_clean 60 x.call.title title p.title,
               (
-                p.number,
+                full_clean 14 x.call.number number p.number,
                 (
                   code_clean x.call.iswc,
-                  (number_clean 12 (slice_index x.call.control 0), (number_clean 12 (slice_index x.call.control 1), (number_clean 12 (slice_index x.call.control 2), (status_clean x.status, (number_clean 8 x.work, (number_clean 8 x.version, (number_clean 9 (length x.call.faults), tt))))))),
+                  (number_clean 12 (slice_index x.call.control 0), (number_clean 12 (slice_index x.call.control 1), (number_clean 12 (slice_index x.call.control 2), (full_clean 2 (status_text x.status) (length-status_text x.status) (status_clean x.status), (number_clean 8 x.work, (number_clean 8 x.version, (number_clean 9 (length x.call.faults), tt))))))),
                 ),
               ),
             ),
@@ -121,17 +129,17 @@ front_has_none x lawful =
         ),
       ),
     ))
-    (faults_clean x.call.faults faults))
+    (faults_clean x.call.faults typed faults))
 
 -- ---- one line, one reading
 
-same_faults : (fs gs : List Fault) → AllByRecursion IsWholeFault fs → AllByRecursion IsWholeFault gs → faults_text fs ≡ faults_text gs → fs ≡ gs
+same_faults : (fs gs : List Fault) → AllByRecursion (IsWhole fault) fs → AllByRecursion (IsWhole fault) gs → faults_text fs ≡ faults_text gs → fs ≡ gs
 same_faults [] [] p q e = refl
-same_faults [] (g ∷ gs) p q e = absurd (let l = ap length e in omega (arith, l, length-fault g q.0.typed, length-append (line_of fault g) (faults_text gs)))
-same_faults (f ∷ fs) [] p q e = absurd (let l = ap length e in omega (arith, l, length-fault f p.0.typed, length-append (line_of fault f) (faults_text fs)))
+same_faults [] (g ∷ gs) p q e = absurd (let l = ap length e in omega (arith, l, length-fault g q.0.1.1.0, length-append (line_of fault g) (faults_text gs)))
+same_faults (f ∷ fs) [] p q e = absurd (let l = ap length e in omega (arith, l, length-fault f p.0.1.1.0, length-append (line_of fault f) (faults_text fs)))
 same_faults (f ∷ fs) (g ∷ gs) p q e =
-    let split = same_fronts (line_of fault f) (line_of fault g) (faults_text fs) (faults_text gs) (length-fault f p.0.typed ∙ sym (length-fault g q.0.typed)) e in
-    let one = same_fault (line_of fault g) f g p.0.fits q.0.fits (fault_stands (line_of fault g) f p.0.typed split.0) (fault_stands (line_of fault g) g q.0.typed refl) in
+    let split = same_fronts (line_of fault f) (line_of fault g) (faults_text fs) (faults_text gs) (length-fault f p.0.1.1.0 ∙ sym (length-fault g q.0.1.1.0)) e in
+    let one = same_fault (line_of fault g) f g (fault_stands (line_of fault g) f p.0 split.0) (fault_stands (line_of fault g) g q.0 refl) in
     let more = same_faults fs gs p.1 q.1 split.1 in
     rw (one, more) refl
 
@@ -139,6 +147,6 @@ pub one_reading : (front : List ℕ) (x y : EntryLine) → IsEntryLine (front ++
 one_reading front x y h i =
     let s = said front x h in
     let t = said front y i in
-    let heads = same_head (take 173 front) (head_of x) (head_of y) s.head_fits t.head_fits h.control i.control s.head_stands t.head_stands in
+    let heads = same_head (take 173 front) (head_of x) (head_of y) h.control i.control s.head_stands t.head_stands in
     let faults = same_faults x.call.faults y.call.faults s.whole t.whole (s.faults ∙ sym t.faults) in
     ap (λ (z : Head). line_from z x.call.faults) heads ∙ ap (λ (zs : List Fault). line_from (head_of y) zs) faults

@@ -6,31 +6,24 @@ use Rattle.std.proofs.lemmas.List.{length-append, length-take, take_at, drop_at,
 use Rattle.cwr_record.specs.declared.works.WorkKind.{WorkKind}
 use Rattle.cwr_record.specs.declared.status.Status.{Status}
 use Rattle.cwr_call.specs.declared.transaction_fault.Fault.{Fault}
-use Rattle.cwr_record.proofs.Codes.{same_kind, same_status, length-work_kind_code, length-status_text}
+use Rattle.cwr_record.proofs.lemmas.Codes.{same_kind, same_status}
 use Rattle.cwr_call.specs.Lawful.{is_lawful}
 use Rattle.work_registry.specs.declared.register.head.Head.{Head}
-use Rattle.work_registry.specs.RegisterLine.{line_of, StandsFor, head, head_of, line_from, code_text, EntryLine, IsEntryLine, IsTyped}
-use Rattle.work_registry.specs.RegisterPieces.{FitsCode, FitsHead, IsWholeFault}
-use Rattle.work_registry.proofs.RegisterFields.{same_number, same_code}
-use Rattle.work_registry.proofs.RegisterTables.{Fills, spelled, stands, same_texts, fills, length-line_of}
-use Rattle.work_registry.proofs.RegisterFits.{line_fits, lawful_parts, faults_fit, whole_faults}
+use Rattle.work_registry.specs.RegisterLine.{head, fault, head_of, line_from, EntryLine, IsEntryLine, IsTyped}
+use Rattle.cwr_record.specs.Layout.{StandsFor}
+use Rattle.cwr_record.specs.Lines.{Fits, IsWhole, line_of}
+use Rattle.cwr_field.proofs.lemmas.Spelling.{length-field}
+use Rattle.cwr_record.proofs.lemmas.RoundTrip.{stands}
+use Rattle.cwr_record.proofs.lemmas.Spelled.{spelled, same_parts, same_number, same_maybe, length-line_of}
+use Rattle.work_registry.proofs.RegisterFits.{line_whole, lawful_parts, faults_fit, whole_faults}
 use Rattle.work_registry.proofs.RegisterFaultTexts.{faults_text, length-faults}
-
-length-code_text : (o : Option ℕ) → length (code_text o) ≡ 11
-length-code_text None = refl
-length-code_text (Some n) = refl
-
-head_fills : (line : List ℕ) (x : EntryLine) → IsEntryLine line x → Fills head (head_of x)
-head_fills line x h =
-    (refl, (refl, (h.submitter, (length-work_kind_code x.call.kind, (h.title, (h.number, (length-code_text x.call.iswc, (refl, (refl, (refl, (length-status_text x.status, (refl, (refl, (refl, tt))))))))))))))
 
 -- what is known of a line, less its LF, that says something of an entry
 pub record Said (front : List ℕ) (x : EntryLine) : Type 0 where
   pub long : 173 ≤ length front
   pub head_stands : StandsFor head (take 173 front) (head_of x)
-  pub head_fits : FitsHead (head_of x)
   pub faults : faults_text x.call.faults ≡ drop 173 front
-  pub whole : AllByRecursion IsWholeFault x.call.faults
+  pub whole : AllByRecursion (IsWhole fault) x.call.faults
   pub rest : length (drop 173 front) ≡ 13 * length x.call.faults
 
 split_at : (xs ys zs : List ℕ) (n : ℕ) → length xs ≡ n → zs ≡ xs ++ ys → (take n zs ≡ xs) × (drop n zs ≡ ys)
@@ -38,17 +31,16 @@ split_at xs ys zs n len e = rw e (take_at xs ys n len, drop_at xs ys n len)
 
 pub said : (front : List ℕ) (x : EntryLine) → IsEntryLine (front ++ 10 ∷ []) x → Said front x
 said front x h =
-    let filled = head_fills (front ++ 10 ∷ []) x h in
+    let whole = line_whole (front ++ 10 ∷ []) x h in
     let text : front ≡ line_of head (head_of x) ++ faults_text x.call.faults = append_cancel_right front (line_of head (head_of x) ++ faults_text x.call.faults) (10 ∷ []) h.text in
-    let len : length (line_of head (head_of x)) ≡ 173 = length-line_of head (head_of x) filled in
+    let len : length (line_of head (head_of x)) ≡ 173 = length-line_of head (head_of x) refl whole in
     let split = split_at (line_of head (head_of x)) (faults_text x.call.faults) front 173 len text in
     let lawful = lawful_parts x.call h.lawful in
     let P : List ℕ → Type 0 = λ line. StandsFor head line (head_of x) in
     let long : length front ≡ length (line_of head (head_of x)) + length (faults_text x.call.faults) = ap length text ∙ length-append (line_of head (head_of x)) (faults_text x.call.faults) in
     record {
       long = omega (arith, long, len);
-      head_stands = subst P (sym split.0) (stands head (head_of x) refl filled);
-      head_fits = line_fits x h.index h.work h.version h.lawful;
+      head_stands = subst P (sym split.0) (stands head (head_of x) refl whole);
       faults = sym split.1;
       whole = whole_faults x.call.faults (faults_fit x.call.faults lawful.faults) h.types;
       rest = ap length split.1 ∙ length-faults x.call.faults h.types;
@@ -65,49 +57,49 @@ head_is : (i i' : ℕ) (s s' : List ℕ) (k k' : WorkKind) (t t' n n' : List ℕ
 head_is i i' s s' k k' t t' n n' o o' c c' u u' w w' v v' f f' e1 e2 e3 e4 e5 e6 e7 e8 e9 e10 e11 = rw (e1, e2, e3, e4, e5, e6, e7, e8, e9, e10, e11) refl
 
 -- a line has one reading in its fields of fixed place
-pub same_head : (line : List ℕ) (x y : Head) → FitsHead x → FitsHead y → length x.control ≡ 3 → length y.control ≡ 3 → StandsFor head line x → StandsFor head line y → x ≡ y
-same_head line x y p q cx cy a b =
-    let same = same_texts head line x y a b in
+pub same_head : (line : List ℕ) (x y : Head) → length x.control ≡ 3 → length y.control ≡ 3 → StandsFor head line x → StandsFor head line y → x ≡ y
+same_head line x y cx cy a b =
+    let same = same_parts head line x y a b in
     let from_kind = same.1.1.1 in
     let from_rights = from_kind.1.1.1.1 in
     let from_status = from_rights.1.1.1 in
     head_is x.index y.index x.submitter y.submitter x.kind y.kind x.title y.title x.number y.number x.iswc y.iswc x.control y.control x.status y.status x.work y.work x.version y.version x.faults y.faults
-    (same_number 8 x.index y.index p.index q.index same.1.0)
+    (same_number x.index y.index same.1.0)
     same.1.1.0
     (same_kind x.kind y.kind from_kind.0)
     from_kind.1.0
     from_kind.1.1.0
-    (same_code x.iswc y.iswc p.iswc q.iswc from_kind.1.1.1.0)
+    (same_maybe x.iswc y.iswc from_kind.1.1.1.0)
     (three x.control y.control cx cy
-    (same_number 12 (slice_index x.control 0) (slice_index y.control 0) p.performing q.performing from_rights.0)
-    (same_number 12 (slice_index x.control 1) (slice_index y.control 1) p.mechanical q.mechanical from_rights.1.0)
-    (same_number 12 (slice_index x.control 2) (slice_index y.control 2) p.synchronization q.synchronization from_rights.1.1.0))
+    (same_number (slice_index x.control 0) (slice_index y.control 0) from_rights.0)
+    (same_number (slice_index x.control 1) (slice_index y.control 1) from_rights.1.0)
+    (same_number (slice_index x.control 2) (slice_index y.control 2) from_rights.1.1.0))
     (same_status x.status y.status from_status.0)
-    (same_number 8 x.work y.work p.work q.work from_status.1.0)
-    (same_number 8 x.version y.version p.version q.version from_status.1.1.0)
-    (same_number 9 x.faults y.faults p.faults q.faults from_status.1.1.1.0)
+    (same_number x.work y.work from_status.1.0)
+    (same_number x.version y.version from_status.1.1.0)
+    (same_number x.faults y.faults from_status.1.1.1.0)
 
 -- what was read of a line is what it says
 
-pub says : (front : List ℕ) (h : Head) (fs : List Fault) (x : EntryLine) → 173 ≤ length front → StandsFor head (take 173 front) h → FitsHead h → length h.control ≡ 3
+pub says : (front : List ℕ) (h : Head) (fs : List Fault) (x : EntryLine) → 173 ≤ length front → StandsFor head (take 173 front) h → Fits head h → length h.control ≡ 3
     → faults_text fs ≡ drop 173 front → AllByRecursion IsTyped fs → length (drop 173 front) ≡ 13 * h.faults → x ≡ line_from h fs → IsTrue (is_lawful (line_from h fs).call)
     → IsEntryLine (front ++ 10 ∷ []) x
 says front h fs x long st fits rights text typed rest is lawful =
-    let filled = fills head (take 173 front) h st in
+    let line = take 173 front in
     let count : h.faults ≡ length fs = (let a = length-faults fs typed in let b = ap length text in omega (arith, a, b, rest)) in
     let same : head_of (line_from h fs) ≡ h = ap (λ (n : ℕ). record h { faults = n }) (sym count) in
-    let fixed : line_of head h ≡ take 173 front = spelled head (take 173 front) h 1 (omega arith) refl (omega (arith, long, length-take 173 front)) st ∙ take_all 173 (take 173 front) (omega (arith, length-take 173 front)) in
+    let fixed : line_of head h ≡ take 173 front = spelled head (take 173 front) h 1 (omega arith) refl refl (omega (arith, long, length-take 173 front)) st ∙ take_all 173 (take 173 front) (omega (arith, length-take 173 front)) in
     let whole : front ≡ line_of head (head_of (line_from h fs)) ++ faults_text fs =
     sym (take-append-drop 173 front) ∙ ap (λ (xs : List ℕ). xs ++ drop 173 front) (sym fixed ∙ ap (λ (y : Head). line_of head y) (sym same)) ∙ ap (λ (xs : List ℕ). line_of head (head_of (line_from h fs)) ++ xs) (sym text) in
     rw is (record {
       text = ap (λ (xs : List ℕ). xs ++ 10 ∷ []) whole;
-      index = fits.index;
-      work = fits.work;
-      version = fits.version;
+      index = fits.1.0;
+      work = fits.1.1.1.1.1.1.0;
+      version = fits.1.1.1.1.1.1.1.0;
       lawful = lawful;
-      submitter = filled.1.1.0;
-      title = filled.1.1.1.1.0;
-      number = filled.1.1.1.1.1.0;
+      submitter = ap length st.1.1.0 ∙ length-field line 12 11;
+      title = ap length st.1.1.1.1.0 ∙ length-field line 26 60;
+      number = ap length st.1.1.1.1.1.0 ∙ length-field line 86 14;
       control = rights;
       types = typed;
     })
@@ -115,10 +107,10 @@ says front h fs x long st fits rights text typed rest is lawful =
 -- what a line says is what was read of it
 
 pub read_is : (front : List ℕ) (h : Head) (fs : List Fault) (x : EntryLine) (o : Option EntryLine) → Said front x → length x.call.control ≡ 3 → IsTrue (is_lawful x.call)
-    → StandsFor head (take 173 front) h → FitsHead h → length h.control ≡ 3 → fs ≡ x.call.faults
+    → StandsFor head (take 173 front) h → length h.control ≡ 3 → fs ≡ x.call.faults
     → is_some o ≡ is_lawful (line_from h fs).call → IfSome o (λ y. y ≡ line_from h fs) → o ≡ Some x
-read_is front h fs x o s rights lawful st fits control faults when value =
-    let same = same_head (take 173 front) h (head_of x) fits s.head_fits control rights st s.head_stands in
+read_is front h fs x o s rights lawful st control faults when value =
+    let same = same_head (take 173 front) h (head_of x) control rights st s.head_stands in
     let is : line_from h fs ≡ x = ap (λ (y : Head). line_from y fs) same ∙ ap (λ (ys : List Fault). line_from (head_of x) ys) faults in
     by o (when ∙ ap (λ (y : EntryLine). is_lawful y.call) is ∙ lawful) value is
   where
@@ -131,35 +123,35 @@ read_is front h fs x o s rights lawful st fits control faults when value =
 pub short : (front : List ℕ) (x : EntryLine) → length front < 173 → IsEntryLine (front ++ 10 ∷ []) x → ⊥
 short front x lt h = let s = said front x h in let long = s.long in omega (arith, lt, long)
 
-pub headless : (front : List ℕ) (x : EntryLine) → ((y : Head) → FitsCode y.iswc → StandsFor head (take 173 front) y → ⊥) → IsEntryLine (front ++ 10 ∷ []) x → ⊥
-headless front x none h = let s = said front x h in none (head_of x) s.head_fits.iswc s.head_stands
+pub headless : (front : List ℕ) (x : EntryLine) → ((y : Head) → StandsFor head (take 173 front) y → ⊥) → IsEntryLine (front ++ 10 ∷ []) x → ⊥
+headless front x none h = let s = said front x h in none (head_of x) s.head_stands
 
 -- another number of faults stands in the head than follows
-pub miscounted : (front : List ℕ) (y : Head) (x : EntryLine) → StandsFor head (take 173 front) y → FitsHead y → length y.control ≡ 3
+pub miscounted : (front : List ℕ) (y : Head) (x : EntryLine) → StandsFor head (take 173 front) y → length y.control ≡ 3
     → (length (drop 173 front) ≡ 13 * y.faults → ⊥) → IsEntryLine (front ++ 10 ∷ []) x → ⊥
-miscounted front y x st fits rights wrong h =
+miscounted front y x st rights wrong h =
     let s = said front x h in
-    let same = same_head (take 173 front) y (head_of x) fits s.head_fits rights h.control st s.head_stands in
+    let same = same_head (take 173 front) y (head_of x) rights h.control st s.head_stands in
     wrong (s.rest ∙ ap (λ (z : Head). 13 * z.faults) (sym same))
 
-pub says_some : (front : List ℕ) (h : Head) (fs : List Fault) (o : Option EntryLine) → 173 ≤ length front → StandsFor head (take 173 front) h → FitsHead h → length h.control ≡ 3
+pub says_some : (front : List ℕ) (h : Head) (fs : List Fault) (o : Option EntryLine) → 173 ≤ length front → StandsFor head (take 173 front) h → Fits head h → length h.control ≡ 3
     → faults_text fs ≡ drop 173 front → AllByRecursion IsTyped fs → length (drop 173 front) ≡ 13 * h.faults
     → is_some o ≡ is_lawful (line_from h fs).call → IfSome o (λ y. y ≡ line_from h fs) → IfSome o (IsEntryLine (front ++ 10 ∷ []))
 says_some front h fs None long st fits rights text typed rest when value = tt
 says_some front h fs (Some x) long st fits rights text typed rest when value = says front h fs x long st fits rights text typed rest value (sym when)
 
 -- what the line says of an entry is what was read of it
-pub only_read : (front : List ℕ) (h : Head) (fs : List Fault) (p : Option (List Fault)) (o : Option EntryLine) → StandsFor head (take 173 front) h → FitsHead h → length h.control ≡ 3
-    → p ≡ Some fs → ((gs : List Fault) → AllByRecursion IsWholeFault gs → faults_text gs ≡ drop 173 front → p ≡ Some gs)
+pub only_read : (front : List ℕ) (h : Head) (fs : List Fault) (p : Option (List Fault)) (o : Option EntryLine) → StandsFor head (take 173 front) h → length h.control ≡ 3
+    → p ≡ Some fs → ((gs : List Fault) → AllByRecursion (IsWhole fault) gs → faults_text gs ≡ drop 173 front → p ≡ Some gs)
     → is_some o ≡ is_lawful (line_from h fs).call → IfSome o (λ y. y ≡ line_from h fs)
     → (x : EntryLine) → IsEntryLine (front ++ 10 ∷ []) x → o ≡ Some x
-only_read front h fs p o st fits rights is only when value x line =
+only_read front h fs p o st rights is only when value x line =
     let s = said front x line in
     let found : Some fs ≡ Some x.call.faults = sym is ∙ only x.call.faults s.whole s.faults in
     let same : fs ≡ x.call.faults = cc in
-    read_is front h fs x o s line.control line.lawful st fits rights same when value
+    read_is front h fs x o s line.control line.lawful st rights same when value
 
-pub faultless : (front : List ℕ) (p : Option (List Fault)) → p ≡ None → ((gs : List Fault) → AllByRecursion IsWholeFault gs → faults_text gs ≡ drop 173 front → p ≡ Some gs)
+pub faultless : (front : List ℕ) (p : Option (List Fault)) → p ≡ None → ((gs : List Fault) → AllByRecursion (IsWhole fault) gs → faults_text gs ≡ drop 173 front → p ≡ Some gs)
     → (x : EntryLine) → IsEntryLine (front ++ 10 ∷ []) x → ⊥
 faultless front p is only x line =
     let s = said front x line in

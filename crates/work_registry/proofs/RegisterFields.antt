@@ -1,164 +1,61 @@
--- What a field of a register's line spells, and that it spells nothing else.
-use Rattle.std.proofs.Common.{◌≡◌, ◌∙◌, ℕ, zero, suc, ◌+◌, ◌-◌, ◌*◌, ◌/◌, ◌%◌, ◌<◌, ◌≤◌, ◌^◌, Bool, true, false, eqb, List, [], ◌∷◌, ◌++◌, length, take, drop, get_or, replicate, Option, Some, None, arith, ap, sym, refl, cond, add-one}
-use Rattle.std.specs.Prelude.{IfSome, IfNone, ◌&&◌, slice_range, slice_index, ◌==◌, if◌then◌else◌}
-use Rattle.std.specs.List.{list_all}
-use Rattle.std.specs.Char.{is_ascii_digit, digit_value}
-use Rattle.std.specs.Str.Parse.{digits_value}
-use Rattle.std.proofs.lemmas.Bool.Decides.{nat_tests}
-use Rattle.std.proofs.lemmas.Int.Digits.{digits_value_more}
-use Rattle.std.proofs.lemmas.List.{take_more, take_all, length-take, length-drop}
-use Rattle.std.proofs.lemmas.List.Folds.{list_all_more}
-use Rattle.cwr_field.specs.Layout.{is_blank}
-use Rattle.cwr_field.specs.Number.{number_of, number_text}
-use Rattle.cwr_field.specs.Iswc.{check_digit, code_of, iswc_of, iswc_text}
-use Rattle.cwr_field.specs.declared.codes.Iswc.{Iswc}
-use Rattle.cwr_field.specs.declared.codes.Iswc.TheVariants.{Blank, Valid, Wrong}
-use Rattle.cwr_field.proofs.DigitSteps.{is_digit}
-use Rattle.cwr_field.proofs.DigitText.{number_of-number_text, all_digits}
-use Rattle.cwr_field.proofs.CodeText.{iswc_of-iswc_text}
-use Rattle.cwr_call.proofs.Tests.{parts}
-use Rattle.work_registry.specs.RegisterLine.{code_text}
-use Rattle.work_registry.specs.RegisterPieces.{FitsCode}
+-- What the fields of a register's line were read as.
+use Rattle.std.proofs.Common.{◌≡◌, ◌∙◌, ℕ, Bool, true, false, List, Option, Some, None, ap, sym, refl}
+use Rattle.std.specs.Prelude.{option_map, not, if◌then◌else◌}
+use Rattle.std.specs.Str.{bytes_eq}
+use Rattle.std.proofs.lemmas.Slice.Eq.{bytes_eq-Decides}
+use Rattle.cwr_field.specs.Number.{number_of}
+use Rattle.cwr_record.specs.Kinds.{work_kind_code, work_kind_named, status_text, status_named}
+use Rattle.cwr_record.specs.Layout.{Value, Bytes, Number, Maybe}
+use Rattle.cwr_record.specs.declared.works.WorkKind.{WorkKind}
+use Rattle.cwr_record.specs.declared.status.Status.{Status}
+use Rattle.cwr_record.proofs.lemmas.Codes.{work_kind_named-code, status_named-text, code_of_kind, text_of_status}
 
--- ---- numbers
+-- a number that was read
+pub number_read : (bytes : List ℕ) (n : ℕ) → Some n ≡ number_of bytes → option_map Number (number_of bytes) ≡ Some (Number n)
+number_read bytes n e = ap (option_map Number) (sym e)
 
--- one digit more
-digit_more : (i v c : ℕ) (xs : List ℕ) → is_ascii_digit c ≡ true → number_text i v ≡ xs → number_text (suc i) (v * 10 + digit_value c) ≡ xs ++ c ∷ []
-digit_more i v c xs h e =
-    let d = is_digit c h in
-    let high = d.high in
-    let low = d.low in
-    let front : (v * 10 + (c - 48)) / 10 ≡ v = omega (arith, low, high) in
-    let last : 48 + (v * 10 + (c - 48)) % 10 ≡ c = omega (arith, low, high) in
-    rw (d.value, front, last, e) refl
-
-digits_spell : (bytes : List ℕ) (i : ℕ) → i ≤ length bytes → list_all is_ascii_digit (take i bytes) ≡ true → number_text i (digits_value 10 (take i bytes)) ≡ take i bytes
-digits_spell bytes zero le h = refl
-digits_spell bytes (suc i) le h =
-    let next : i + 1 ≡ suc i = add-one i in
-    let lt : i < length bytes = omega (arith, le) in
-    let all : (list_all is_ascii_digit (take i bytes) && is_ascii_digit (get_or bytes i 0)) ≡ true = sym (list_all_more is_ascii_digit bytes i 0 lt) ∙ ap (λ (n : ℕ). list_all is_ascii_digit (take n bytes)) next ∙ h in
-    let p = parts (list_all is_ascii_digit (take i bytes)) (is_ascii_digit (get_or bytes i 0)) all in
-    let so_far = digits_spell bytes i (omega (arith, lt)) p.0 in
-    let value : digits_value 10 (take (suc i) bytes) ≡ digits_value 10 (take i bytes) * 10 + digit_value (get_or bytes i 0) = ap (λ (n : ℕ). digits_value 10 (take n bytes)) (sym next) ∙ digits_value_more 10 bytes i lt in
-    ap (λ (n : ℕ). number_text (suc i) n) value
-    ∙ digit_more i (digits_value 10 (take i bytes)) (get_or bytes i 0) (take i bytes) p.1 so_far
-    ∙ sym (take_more bytes i 0 lt) ∙ ap (λ (n : ℕ). take n bytes) next
-
-some_number : (bytes : List ℕ) (n : ℕ) (b : Bool) → list_all is_ascii_digit bytes ≡ b → cond b (Some (digits_value 10 bytes)) None ≡ Some n → (b ≡ true) × (digits_value 10 bytes ≡ n)
-some_number bytes n true h e = (refl, cc)
-some_number bytes n false h e = absurd cc
-
--- digits are the text of the number that they spell
-pub number_spells : (bytes : List ℕ) (width n : ℕ) → length bytes ≡ width → number_of bytes ≡ Some n → number_text width n ≡ bytes
-number_spells bytes width n len e =
-    let known = some_number bytes n (list_all is_ascii_digit bytes) refl e in
-    let whole : take (length bytes) bytes ≡ bytes = take_all (length bytes) bytes (omega arith) in
-    let all : list_all is_ascii_digit (take (length bytes) bytes) ≡ true = ap (list_all is_ascii_digit) whole ∙ known.0 in
-    let text = digits_spell bytes (length bytes) (omega arith) all in
-    rw (← len, ← known.1) (ap (λ (xs : List ℕ). number_text (length bytes) (digits_value 10 xs)) (sym whole) ∙ text ∙ whole)
-
-pub field_spells : (bytes field : List ℕ) (width : ℕ) (o : Option ℕ) → bytes ≡ field → length bytes ≡ width → o ≡ number_of bytes → IfSome o (λ n. number_text width n ≡ field)
-field_spells bytes field width None is len e = tt
-field_spells bytes field width (Some n) is len e = number_spells bytes width n len (sym e) ∙ is
-
--- what is no number is the text of none
-no_number : (bytes : List ℕ) (width n : ℕ) → number_of bytes ≡ None → number_text width n ≡ bytes → ⊥
-no_number bytes width n e is =
-    let known : number_of bytes ≡ Some (digits_value 10 bytes) = ap (λ (b : Bool). if b then Some (digits_value 10 bytes) else None) (ap (list_all is_ascii_digit) (sym is) ∙ all_digits width n) in
-    let no : None ≡ Some (digits_value 10 bytes) = sym e ∙ known in
+pub no_number : (bytes : List ℕ) (n : ℕ) → None ≡ number_of bytes → option_map Number (number_of bytes) ≡ Some (Number n) → ⊥
+no_number bytes n e is =
+    let no : None ≡ Some (Number n) = ap (option_map Number) e ∙ is in
     cc
 
-pub field_spells_none : (bytes field : List ℕ) (width : ℕ) (o : Option ℕ) → bytes ≡ field → o ≡ number_of bytes → IfNone o ((n : ℕ) → number_text width n ≡ field → ⊥)
-field_spells_none bytes field width None is e = λ n text. no_number bytes width n (sym e) (text ∙ sym is)
-field_spells_none bytes field width (Some n) is e = tt
+-- a code that was read
+pub code_read : (value : Option Value) (o : Option ℕ) → value ≡ option_map Maybe (Some o) → value ≡ Some (Maybe o)
+code_read value o e = e
 
--- ---- codes
+pub no_code : (value : Option Value) (r : Option (Option ℕ)) (o : Option ℕ) → r ≡ None → value ≡ option_map Maybe r → value ≡ Some (Maybe o) → ⊥
+no_code value r o none e is =
+    let no : None ≡ Some (Maybe o) = sym (ap (option_map Maybe) none) ∙ sym e ∙ is in
+    cc
 
-all_blank : (n : ℕ) (bytes : List ℕ) → length bytes ≡ n → is_blank bytes ≡ true → bytes ≡ replicate n 32
-all_blank zero [] len h = refl
-all_blank zero (b ∷ bytes) len h = absurd (omega arith)
-all_blank (suc n) [] len h = absurd (omega arith)
-all_blank (suc n) (b ∷ bytes) len h =
-    let p = parts (eqb b 32) (is_blank bytes) h in
-    let first : b ≡ 32 = (let q = p.0 in grind (arith, nat_tests)) in
-    rw (first, all_blank n bytes (omega (arith, len)) p.1) refl
+-- a kind and a status
+pub kind_read : (bytes field : List ℕ) (kind : WorkKind) → bytes ≡ field → Some kind ≡ work_kind_named bytes → work_kind_code kind ≡ field
+kind_read bytes field kind is e = code_of_kind bytes kind (sym e) ∙ is
 
-eleven : (bytes : List ℕ) → length bytes ≡ 11 → bytes ≡ get_or bytes 0 0 ∷ slice_range bytes 1 10 ++ get_or bytes 10 0 ∷ []
-eleven [] len = absurd (omega arith)
-eleven (b ∷ bytes) len =
-    let lt : 9 < length bytes = omega (arith, len) in
-    let whole : take 10 bytes ≡ bytes = take_all 10 bytes (omega (arith, len)) in
-    ap (λ (xs : List ℕ). b ∷ xs) (sym whole ∙ take_more bytes 9 0 lt)
+pub no_kind : (bytes field : List ℕ) (kind : WorkKind) → bytes ≡ field → None ≡ work_kind_named bytes → work_kind_code kind ≡ field → ⊥
+no_kind bytes field kind is e code =
+    let no : None ≡ Some kind = e ∙ ap work_kind_named (is ∙ sym code) ∙ work_kind_named-code kind in
+    cc
 
-code_is : (bytes : List ℕ) (m n : ℕ) (b : Bool) → (((slice_index bytes 0 == 84) && (slice_index bytes 10 == 48 + check_digit m)) ≡ b) → (if b then Valid m else Wrong) ≡ Valid n
-    → (m ≡ n) × (slice_index bytes 0 ≡ 84) × (slice_index bytes 10 ≡ 48 + check_digit m)
-code_is bytes m n false h e = absurd cc
-code_is bytes m n true h e =
-    let p = parts (slice_index bytes 0 == 84) (slice_index bytes 10 == 48 + check_digit m) h in
-    (cc, (let q = p.0 in grind (arith, nat_tests)), (let q = p.1 in grind (arith, nat_tests)))
+pub status_read : (bytes field : List ℕ) (status : Status) → bytes ≡ field → Some status ≡ status_named bytes → status_text status ≡ field
+status_read bytes field status is e = text_of_status bytes status (sym e) ∙ is
 
-between : (a b c d : ℕ) (xs ys : List ℕ) → a ≡ b → xs ≡ ys → c ≡ d → a ∷ xs ++ c ∷ [] ≡ b ∷ ys ++ d ∷ []
-between a b c d xs ys p q r = rw (p, q, r) refl
+pub no_status : (bytes field : List ℕ) (status : Status) → bytes ≡ field → None ≡ status_named bytes → status_text status ≡ field → ⊥
+no_status bytes field status is e text =
+    let no : None ≡ Some status = e ∙ ap status_named (is ∙ sym text) ∙ status_named-text status in
+    cc
 
-code_spells : (bytes : List ℕ) (n : ℕ) (o : Option ℕ) → length bytes ≡ 11 → number_of (slice_range bytes 1 10) ≡ o → code_of bytes o ≡ Valid n → iswc_text n ≡ bytes
-code_spells bytes n None len is e = absurd cc
-code_spells bytes n (Some m) len is e =
-    let k = code_is bytes m n ((slice_index bytes 0 == 84) && (slice_index bytes 10 == 48 + check_digit m)) refl e in
-    let nine : length (slice_range bytes 1 10) ≡ 9 = omega (arith, len, length-take 9 (drop 1 bytes), length-drop 1 bytes) in
-    let digits = number_spells (slice_range bytes 1 10) 9 m nine is in
-    ap iswc_text (sym k.0)
-    ∙ between 84 (get_or bytes 0 0) (48 + check_digit m) (get_or bytes 10 0) (number_text 9 m) (slice_range bytes 1 10) (sym k.1) digits (sym k.2)
-    ∙ sym (eleven bytes len)
+-- what a line tells is named where it stands for that
+marked : (field code : List ℕ) (b : Bool) (v : Value) → bytes_eq field code ≡ b → (if b then Some v else None) ≡ Some v → field ≡ code
+marked field code true v p e = (bytes_eq-Decides field code).0 p
+marked field code false v p e = absurd cc
 
--- a valid code is the text of its number
-pub code_some : (bytes : List ℕ) (n : ℕ) → length bytes ≡ 11 → iswc_of bytes ≡ Valid n → iswc_text n ≡ bytes
-code_some bytes n len e = by (is_blank bytes) e
+pub is_marked : (field code : List ℕ) (v : Value) → (if bytes_eq field code then Some v else None) ≡ Some v → field ≡ code
+is_marked field code v e = marked field code (bytes_eq field code) v refl e
+
+pub mark_read : (bytes field code : List ℕ) → bytes ≡ field → false ≡ not (bytes_eq bytes code) → (if bytes_eq field code then Some (Bytes code) else None) ≡ Some (Bytes code)
+mark_read bytes field code is e = by (bytes_eq bytes code) refl e
   where
-    by : (b : Bool) → (if b then Blank else code_of bytes (number_of (slice_range bytes 1 10))) ≡ Valid n → iswc_text n ≡ bytes
-    by true h = absurd cc
-    by false h = code_spells bytes n (number_of (slice_range bytes 1 10)) len refl h
-
-never_blank : (bytes : List ℕ) (o : Option ℕ) → code_of bytes o ≡ Blank → ⊥
-never_blank bytes None e = cc
-never_blank bytes (Some m) e = by ((slice_index bytes 0 == 84) && (slice_index bytes 10 == 48 + check_digit m)) e
-  where
-    by : (b : Bool) → (if b then Valid m else Wrong) ≡ Blank → ⊥
-    by true h = cc
-    by false h = cc
-
--- blanks are the text of no code
-pub code_blank : (bytes : List ℕ) → length bytes ≡ 11 → iswc_of bytes ≡ Blank → code_text None ≡ bytes
-code_blank bytes len e = by (is_blank bytes) refl e
-  where
-    by : (b : Bool) → is_blank bytes ≡ b → (if b then Blank else code_of bytes (number_of (slice_range bytes 1 10))) ≡ Blank → code_text None ≡ bytes
-    by true is h = sym (all_blank 11 bytes len is)
-    by false is h = absurd (never_blank bytes (number_of (slice_range bytes 1 10)) h)
-
--- anything else is the text of nothing
-pub code_wrong : (bytes : List ℕ) (o : Option ℕ) → iswc_of bytes ≡ Wrong → FitsCode o → code_text o ≡ bytes → ⊥
-code_wrong bytes None e fits is =
-    let known : Blank ≡ Wrong = ap iswc_of is ∙ e in
-    cc
-code_wrong bytes (Some n) e fits is =
-    let known : Valid n ≡ Wrong = sym (iswc_of-iswc_text n fits) ∙ ap iswc_of is ∙ e in
-    cc
-
-abbrev code_in : Iswc → Option ℕ
-code_in Blank = None
-code_in (Valid n) = Some n
-code_in Wrong = None
-
-code_again : (o : Option ℕ) → FitsCode o → code_in (iswc_of (code_text o)) ≡ o
-code_again None fits = refl
-code_again (Some n) fits = ap code_in (iswc_of-iswc_text n fits)
-
--- one text, one value
-
-pub same_code : (o p : Option ℕ) → FitsCode o → FitsCode p → code_text o ≡ code_text p → o ≡ p
-same_code o p f g e = sym (code_again o f) ∙ ap (λ (xs : List ℕ). code_in (iswc_of xs)) e ∙ code_again p g
-
-pub same_number : (width a b : ℕ) → a < 10 ^ width → b < 10 ^ width → number_text width a ≡ number_text width b → a ≡ b
-same_number width a b p q e =
-    let known : Some a ≡ Some b = sym (number_of-number_text width a p) ∙ ap number_of e ∙ number_of-number_text width b q in
-    cc
+    by : (b : Bool) → bytes_eq bytes code ≡ b → false ≡ not b → (if bytes_eq field code then Some (Bytes code) else None) ≡ Some (Bytes code)
+    by true p q = rw (← is, p) refl
+    by false p q = absurd cc

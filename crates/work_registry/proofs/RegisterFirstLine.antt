@@ -1,19 +1,20 @@
 -- The first line of a register: its faults, and what follows where it has none.
 use Rattle.std.proofs.Common.{◌≡◌, ◌∙◌, ℕ, ◌+◌, ◌<◌, ◌≤◌, ◌^◌, Bool, true, false, List, [], ◌∷◌, ◌++◌, length, arith, ap, sym, subst, refl, append_assoc, inl, inr}
-use Rattle.std.specs.Prelude.{◌⊎◌, ◌||◌, ◌==◌, codes}
-use Rattle.cwr_field.specs.Number.{number_text}
+use Rattle.std.specs.Prelude.{◌⊎◌, ◌||◌, ◌==◌}
 use Rattle.std.proofs.lemmas.List.{length_push}
 use Rattle.cwr_record.specs.FaultOrder.{IsNoLater}
 use Rattle.work_registry.specs.EntryValue.{EntryValue}
 use Rattle.work_registry.specs.Register.{count_line}
 use Rattle.work_registry.specs.RegisterFaults.{lines, has_end, IsNoCount, HasFaultAfter, HasFault, IsLeastFault}
 use Rattle.work_registry.specs.RegisterReading.{IsReadTo}
-use Rattle.work_registry.proofs.RegisterFields.{same_number}
+use Rattle.cwr_record.specs.Lines.{line_of}
+use Rattle.cwr_record.proofs.lemmas.Spelled.{same_parts, same_number}
+use Rattle.work_registry.specs.RegisterLine.{entry_count}
 use Rattle.work_registry.proofs.RegisterLines.{count_stands}
 
 -- one line tells one number
 same_count : (line : List ℕ) (m n : ℕ) → m < 10 ^ 8 → n < 10 ^ 8 → line ++ 10 ∷ [] ≡ count_line m → line ++ 10 ∷ [] ≡ count_line n → m ≡ n
-same_count line m n p q a b = same_number 8 m n p q ((count_stands line m a).1.0 ∙ sym (count_stands line n b).1.0)
+same_count line m n p q a b = same_number m n (same_parts entry_count line m n (count_stands line m p a) (count_stands line n q b)).1.0
 
 -- faults of entries stand after the first line
 pub later : (count : ℕ) (entries : List EntryValue) (rest : List (List ℕ)) (k n : ℕ) → HasFaultAfter count entries rest k n → length entries + 2 ≤ k
@@ -32,7 +33,7 @@ has_last (x ∷ xs) = or_true (x == 10) (has_end (xs ++ 10 ∷ [])) (has_last xs
 -- a line without LF tells no number
 pub unended_count : (line : List ℕ) → has_end line ≡ false → IsNoCount line
 unended_count line none n small e =
-    let no : true ≡ false = sym (has_last (codes "REG" ++ number_text 8 n)) ∙ ap has_end (sym e) ∙ none in
+    let no : true ≡ false = sym (has_last (line_of entry_count n)) ∙ ap has_end (sym e) ∙ none in
     cc
 
 -- the least fault of a text, as that of its lines

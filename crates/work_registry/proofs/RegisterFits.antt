@@ -7,13 +7,15 @@ use Rattle.std.proofs.lemmas.Bool.Decides.{nat_tests}
 use Rattle.cwr_call.specs.declared.transaction_fault.Fault.{Fault}
 use Rattle.cwr_call.specs.CallValue.{CallValue}
 use Rattle.cwr_call.specs.Lawful.{is_lawful, is_clean, is_iswc, are_at_most, is_whole, is_fault, are_faults, rises}
-use Rattle.cwr_call.proofs.Tests.{parts}
+use Rattle.cwr_field.proofs.lemmas.Tests.{parts}
 use Rattle.work_registry.specs.declared.reply.Reply.{Reply}
 use Rattle.work_registry.specs.declared.reply.Reply.TheVariants.{Accepted, Duplicate, Conflict, Rejected}
 use Rattle.work_registry.specs.EntryValue.{EntryValue}
 use Rattle.work_registry.specs.Numbers.{IsNumbered}
-use Rattle.work_registry.specs.RegisterLine.{EntryLine, head_of, IsTyped}
-use Rattle.work_registry.specs.RegisterPieces.{FitsCode, FitsHead, FitsFault, IsWholeFault}
+use Rattle.cwr_record.specs.Lines.{Fits, FitsCode, IsWhole}
+use Rattle.cwr_record.proofs.lemmas.Spelled.{code_held}
+use Rattle.cwr_record.proofs.lemmas.Codes.{length-work_kind_code, length-status_text}
+use Rattle.work_registry.specs.RegisterLine.{EntryLine, IsEntryLine, head, fault, head_of, IsTyped}
 use Rattle.work_registry.specs.Register.{line_for, FitsEntry}
 
 le_of : (a b : ℕ) → leb a b ≡ true → a ≤ b
@@ -48,15 +50,15 @@ iswc_fits : (n : Option ℕ) → is_iswc n ≡ true → FitsCode n
 iswc_fits None h = tt
 iswc_fits (Some n) h = let le = le_of n 999999999 h in omega (arith, le)
 
-fault_fits : (f : Fault) → is_fault f ≡ true → FitsFault f
+fault_fits : (f : Fault) → is_fault f ≡ true → Fits fault f
 fault_fits f h =
     let a = parts _ (list_all is_ascii_uppercase f.rtype) h in
     let b = parts (leb f.sequence 99999999) (leb 1 f.number && leb f.number 15) a.0 in
     let sequence = le_of f.sequence 99999999 b.0 in
     let number = le_of f.number 15 (parts (leb 1 f.number) (leb f.number 15) b.1).1 in
-    record { sequence = omega (arith, sequence); number = omega (arith, number) }
+    (omega (arith, sequence), (omega (arith, number), tt))
 
-all_fit : (fs : List Fault) → list_all is_fault fs ≡ true → AllByRecursion FitsFault fs
+all_fit : (fs : List Fault) → list_all is_fault fs ≡ true → AllByRecursion (Fits fault) fs
 all_fit [] h = tt
 all_fit (f ∷ fs) h = let p = parts (is_fault f) (list_all is_fault fs) h in (fault_fits f p.0, all_fit fs p.1)
 
@@ -64,31 +66,48 @@ all_fit (f ∷ fs) h = let p = parts (is_fault f) (list_all is_fault fs) h in (f
 pub faults_few : (fs : List Fault) → are_faults fs ≡ true → length fs ≤ 999999999
 faults_few fs h = le_of (length fs) 999999999 (parts (leb (length fs) 999999999) (list_all is_fault fs) (parts _ (rises fs) h).0).0
 
-pub faults_fit : (fs : List Fault) → are_faults fs ≡ true → AllByRecursion FitsFault fs
+pub faults_fit : (fs : List Fault) → are_faults fs ≡ true → AllByRecursion (Fits fault) fs
 faults_fit fs h = all_fit fs (parts (leb (length fs) 999999999) (list_all is_fault fs) (parts _ (rises fs) h).0).1
 
-pub line_fits : (x : EntryLine) → x.index < 10 ^ 8 → x.work < 10 ^ 8 → x.version < 10 ^ 8 → IsTrue (is_lawful x.call) → FitsHead (head_of x)
+pub line_fits : (x : EntryLine) → x.index < 10 ^ 8 → x.work < 10 ^ 8 → x.version < 10 ^ 8 → IsTrue (is_lawful x.call) → Fits head (head_of x)
 line_fits x index work version lawful =
     let p = lawful_parts x.call lawful in
     let rights : (i : ℕ) → slice_index x.call.control i < 10 ^ 12 = λ i. let le = control_at 999999990000 x.call.control i p.control in omega (arith, le) in
     let few = faults_few x.call.faults p.faults in
-    record {
-      index = index;
-      iswc = iswc_fits x.call.iswc p.iswc;
-      performing = rights 0;
-      mechanical = rights 1;
-      synchronization = rights 2;
-      work = work;
-      version = version;
-      faults = omega (arith, few);
-    }
+    (tt, (index, (iswc_fits x.call.iswc p.iswc, (rights 0, (rights 1, (rights 2, (work, (version, (omega (arith, few), tt)))))))))
 
-pub head_fits : (index : ℕ) (e : EntryValue) → index < 10 ^ 8 → FitsEntry e → IsTrue (is_lawful e.call) → FitsHead (head_of (line_for index e.call e.reply))
+-- and so does all that a line says
+pub line_whole : (line : List ℕ) (x : EntryLine) → IsEntryLine line x → IsWhole head (head_of x)
+line_whole line x h =
+    let fits = line_fits x h.index h.work h.version h.lawful in (
+      (refl, refl),
+      (
+        fits.1.0,
+        (
+          h.submitter,
+          (
+            length-work_kind_code x.call.kind,
+            (
+              h.title,
+              (
+                h.number,
+                (
+                  code_held x.call.iswc fits.1.1.0,
+                  (fits.1.1.1.0, (fits.1.1.1.1.0, (fits.1.1.1.1.1.0, (length-status_text x.status, (fits.1.1.1.1.1.1.0, (fits.1.1.1.1.1.1.1.0, (fits.1.1.1.1.1.1.1.1.0, tt))))))),
+                ),
+              ),
+            ),
+          ),
+        ),
+      ),
+    )
+
+pub head_fits : (index : ℕ) (e : EntryValue) → index < 10 ^ 8 → FitsEntry e → IsTrue (is_lawful e.call) → Fits head (head_of (line_for index e.call e.reply))
 head_fits index e lt fits lawful = line_fits (line_for index e.call e.reply) lt fits.work fits.version lawful
 
-pub whole_faults : (fs : List Fault) → AllByRecursion FitsFault fs → AllByRecursion IsTyped fs → AllByRecursion IsWholeFault fs
+pub whole_faults : (fs : List Fault) → AllByRecursion (Fits fault) fs → AllByRecursion IsTyped fs → AllByRecursion (IsWhole fault) fs
 whole_faults [] fits typed = tt
-whole_faults (f ∷ fs) fits typed = (record { fits = fits.0; typed = typed.0 }, whole_faults fs fits.1 typed.1)
+whole_faults (f ∷ fs) fits typed = ((fits.0.0, (fits.0.1.0, (typed.0, tt))), whole_faults fs fits.1 typed.1)
 
 reply_fits : (e : EntryValue) (reply : Reply) → e.reply ≡ reply → IsNumbered reply → FitsEntry e
 reply_fits e (Accepted w v) is h = record { work = rw is (let b = h.0.1 in omega (arith, b)); version = rw is (let b = h.1.1 in omega (arith, b)) }

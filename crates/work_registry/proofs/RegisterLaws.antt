@@ -1,23 +1,23 @@
 -- A register that was written is read again as the same history, all of the opening.
 use Rattle.std.proofs.Common.{◌≡◌, ◌∙◌, ℕ, ◌+◌, ◌<◌, ◌≤◌, ◌^◌, true, List, [], ◌∷◌, ◌++◌, length, map, arith, ap, sym, subst, refl, append_assoc}
-use Rattle.std.specs.Prelude.{◌==◌, codes}
+use Rattle.std.specs.Prelude.{◌==◌}
 use Rattle.std.specs.List.{AllByRecursion}
 use Rattle.std.proofs.lemmas.List.{length_push, length-map, append-nil}
 use Rattle.std.proofs.lemmas.Bool.Decides.{nat_tests}
-use Rattle.cwr_field.specs.Number.{number_text}
-use Rattle.cwr_call.proofs.Tests.{parts}
+use Rattle.cwr_field.proofs.lemmas.Tests.{parts}
 use Rattle.std.specs.Result.{IsErrAnd, MatchResult}
 use Rattle.std.specs.declared.result.Result.{Result}
 use Rattle.std.specs.declared.result.Result.TheVariants.{Ok, Err}
 use Rattle.work_registry.specs.declared.register.refusal.RegisterRefusal.{RegisterRefusal}
 use Rattle.work_registry.specs.declared.register.refusal.RegisterRefusal.TheVariants.{Memory, Fault}
 use Rattle.work_registry.specs.declared.reply.Reply.{Reply}
-use Rattle.work_registry.specs.EntryValue.{EntryValue}
+use Rattle.work_registry.specs.EntryValue.{EntryValue, entry_of}
 use Rattle.work_registry.specs.History.{IsHistory}
 use Rattle.work_registry.specs.Rows.{Row, rows_of}
 use Rattle.work_registry.specs.Reply.{reply_to}
 use Rattle.work_registry.specs.Replay.{is_opening}
-use Rattle.work_registry.specs.RegisterLine.{IsEntryLine}
+use Rattle.work_registry.specs.RegisterLine.{entry_count, IsEntryLine}
+use Rattle.cwr_record.specs.Lines.{line_of}
 use Rattle.work_registry.specs.Told.{status_in}
 use Rattle.work_registry.specs.Register.{work_of, version_of, line_for, entry_lines, count_line, register_text, opened, IsWholeEntry}
 use Rattle.work_registry.specs.RegisterFaults.{lines, IsFault, IsRefusal}
@@ -50,7 +50,7 @@ entry_split index e es = append_assoc (front_of (line_for index e.call e.reply))
 entry_first : (index : ℕ) (e : EntryValue) (es : List EntryValue) → IsWholeEntry e
     → lines (entry_lines index (e ∷ es)) ≡ (front_of (line_for index e.call e.reply) ++ 10 ∷ []) ∷ lines (entry_lines (index + 1) es)
 entry_first index e es w =
-    ap lines (entry_split index e es) ∙ lines_first (front_of (line_for index e.call e.reply)) (entry_lines (index + 1) es) (front_has_none (line_for index e.call e.reply) w.lawful)
+    ap lines (entry_split index e es) ∙ lines_first (front_of (line_for index e.call e.reply)) (entry_lines (index + 1) es) (front_has_none (line_for index e.call e.reply) w.lawful w.submitter w.title w.number w.types)
 
 -- ---- no fault
 
@@ -69,7 +69,7 @@ all_entries limit count text (e ∷ es) h r len follows whole =
     let next = next_read limit count text (entry_lines (length h + 1) (e ∷ es)) (front_of x) (entry_lines (length h + 1 + 1) es) h x r
     (entry_split (length h + 1) e es) (entry_first (length h + 1) e es w) (omega (arith, len)) line (λ y other. one_reading (front_of x) y x other line) refl
     (record { status = ap status_in reply; work = ap work_of reply; version = ap version_of reply }) in
-    let P : Reply → Type 0 = λ a. IsReadTo limit text count (h ++ record { session = 0; call = e.call; reply = a } ∷ []) (entry_lines (length h + 1 + 1) es) in
+    let P : Reply → Type 0 = λ a. IsReadTo limit text count (h ++ entry_of 0 e.call a ∷ []) (entry_lines (length h + 1 + 1) es) in
     let then : IsReadTo limit text count (h ++ opened e ∷ []) (entry_lines (length h + 1 + 1) es) = subst P (sym reply) next in
     let grown = length_push h (opened e) in
     let place : length h + 1 + 1 ≡ length (h ++ opened e ∷ []) + 1 = omega (arith, grown) in
@@ -80,18 +80,15 @@ all_entries limit count text (e ∷ es) h r len follows whole =
     let S : List EntryValue → Type 0 = λ g. IsReadTo limit text count g [] in
     subst S (append_assoc h (opened e ∷ []) (map opened es)) more
 
-count_front : ℕ → List ℕ
-count_front n = codes "REG" ++ number_text 8 n
-
-count_split : (n : ℕ) (rest : List ℕ) → count_line n ++ rest ≡ (codes "REG" ++ number_text 8 n) ++ 10 ∷ rest
-count_split n rest = append_assoc (codes "REG" ++ number_text 8 n) (10 ∷ []) rest
+count_split : (n : ℕ) (rest : List ℕ) → count_line n ++ rest ≡ (line_of entry_count n) ++ 10 ∷ rest
+count_split n rest = append_assoc (line_of entry_count n) (10 ∷ []) rest
 
 count_first : (n : ℕ) (rest : List ℕ) → lines (count_line n ++ rest) ≡ count_line n ∷ lines rest
-count_first n rest = ap lines (count_split n rest) ∙ lines_first (codes "REG" ++ number_text 8 n) rest (number_has_none n)
+count_first n rest = ap lines (count_split n rest) ∙ lines_first (line_of entry_count n) rest (number_has_none n)
 
 pub no_fault : (limit : ℕ) (h : List EntryValue) (k n : ℕ) → IsHistory h → AllByRecursion IsWholeEntry h → length h ≤ limit → length h < 10 ^ 8 → IsFault limit (register_text h) k n → ⊥
 no_fault limit h k n is whole within small f =
-    let start = first_read limit (length h) (register_text h) (codes "REG" ++ number_text 8 (length h)) (entry_lines 1 h)
+    let start = first_read limit (length h) (register_text h) (line_of entry_count (length h)) (entry_lines 1 h)
     (count_split (length h) (entry_lines 1 h)) (count_first (length h) (entry_lines 1 h)) small refl within in
     let end = all_entries limit (length h) (register_text h) h [] start (omega arith) is whole in
     let after = (end.after k n f).2 in
@@ -134,7 +131,7 @@ opened_is [] is = refl
 opened_is (e ∷ h) is =
     let p = parts (e.session == 0) (is_opening h) is in
     let zero_session : e.session ≡ 0 = (let q = p.0 in grind (arith, nat_tests)) in
-    let one : opened e ≡ e = ap (λ (s : ℕ). record { session = s; call = e.call; reply = e.reply }) (sym zero_session) in
+    let one : opened e ≡ e = ap (λ (s : ℕ). entry_of s e.call e.reply) (sym zero_session) in
     rw (one, opened_is h p.1) refl
 
 -- ---- what a reader answers of a register that was written

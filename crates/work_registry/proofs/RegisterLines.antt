@@ -1,16 +1,19 @@
 -- The lines of a text, by the place of its first LF.
-use Rattle.std.proofs.Common.{◌≡◌, ◌∙◌, ℕ, ◌+◌, ◌<◌, ◌≤◌, ltb, Bool, true, false, cond, List, [], ◌∷◌, ◌++◌, length, take, drop, get_or, Some, None, arith, ap, sym, subst, refl, inl, inr}
-use Rattle.std.specs.Prelude.{◌||◌, ◌==◌, ◌⊎◌, codes, if◌then◌else◌}
+use Rattle.std.proofs.Common.{◌≡◌, ◌∙◌, ℕ, ◌+◌, ◌<◌, ◌≤◌, ◌^◌, ltb, Bool, true, false, cond, List, [], ◌∷◌, ◌++◌, length, take, drop, get_or, Some, None, arith, ap, sym, subst, refl, inl, inr}
+use Rattle.std.specs.Prelude.{◌||◌, ◌==◌, ◌⊎◌, if◌then◌else◌}
 use Rattle.std.specs.List.{position, position_or_len}
 use Rattle.std.proofs.lemmas.List.{take_all, drop_more, take-append-drop, get_or-take, length-take, append_cancel_right}
 use Rattle.std.proofs.lemmas.List.Folds.{list_any_none}
 use Rattle.std.proofs.lemmas.List.Elements.{All-from_get_or}
 use Rattle.std.proofs.lemmas.List.Sums.{fails_before_first, passes_at_first}
 use Rattle.std.proofs.lemmas.Bool.Decides.{nat_tests}
-use Rattle.work_registry.specs.RegisterLine.{Column, at, number, line_of, StandsFor}
+use Rattle.cwr_record.specs.Layout.{StandsFor}
+use Rattle.cwr_record.specs.Lines.{line_of}
+use Rattle.cwr_record.proofs.lemmas.RoundTrip.{stands}
+use Rattle.cwr_record.proofs.lemmas.Spelled.{spelled}
+use Rattle.work_registry.specs.RegisterLine.{entry_count}
 use Rattle.work_registry.specs.Register.{count_line}
 use Rattle.work_registry.specs.RegisterFaults.{in_front, lines, has_end}
-use Rattle.work_registry.proofs.RegisterTables.{spelled, stands}
 
 either : (a b : Bool) → (a || b) ≡ false → (a ≡ false) × (b ≡ false)
 either true b h = absurd cc
@@ -86,20 +89,17 @@ unended_lines (b ∷ text) e = inr (lines_last b text (unended (b ∷ text) e))
 
 -- ---- the first line of a register
 
-abbrev count_columns : List (Column ℕ)
-count_columns = at 1 3 (λ n. codes "REG") ∷ number 4 8 (λ n. n) ∷ []
-
-pub count_says : (line : List ℕ) (n : ℕ) → length line ≡ 11 → StandsFor count_columns line n → line ++ 10 ∷ [] ≡ count_line n
+pub count_says : (line : List ℕ) (n : ℕ) → length line ≡ 11 → StandsFor entry_count line n → line ++ 10 ∷ [] ≡ count_line n
 count_says line n len st =
-    ap (λ (xs : List ℕ). xs ++ 10 ∷ []) (sym (take_all 11 line (omega (arith, len))) ∙ sym (spelled count_columns line n 1 (omega arith) refl (omega (arith, len)) st))
+    ap (λ (xs : List ℕ). xs ++ 10 ∷ []) (sym (take_all 11 line (omega (arith, len))) ∙ sym (spelled entry_count line n 1 (omega arith) refl refl (omega (arith, len)) st))
 
-pub count_stands : (line : List ℕ) (n : ℕ) → line ++ 10 ∷ [] ≡ count_line n → StandsFor count_columns line n
-count_stands line n e =
-    let same : line ≡ line_of count_columns n = append_cancel_right line (line_of count_columns n) (10 ∷ []) e in
-    let P : List ℕ → Type 0 = λ xs. StandsFor count_columns xs n in
-    subst P (sym same) (stands count_columns n refl (refl, (refl, tt)))
+line_is : (line : List ℕ) (n : ℕ) → line ++ 10 ∷ [] ≡ count_line n → line ≡ line_of entry_count n
+line_is line n e = append_cancel_right line (line_of entry_count n) (10 ∷ []) e
+
+pub count_stands : (line : List ℕ) (n : ℕ) → n < 10 ^ 8 → line ++ 10 ∷ [] ≡ count_line n → StandsFor entry_count line n
+count_stands line n small e =
+    let P : List ℕ → Type 0 = λ xs. StandsFor entry_count xs n in
+    subst P (sym (line_is line n e)) (stands entry_count n refl ((refl, refl), (small, tt)))
 
 pub length-count : (line : List ℕ) (n : ℕ) → line ++ 10 ∷ [] ≡ count_line n → length line ≡ 11
-length-count line n e =
-    let same : line ≡ line_of count_columns n = append_cancel_right line (line_of count_columns n) (10 ∷ []) e in
-    ap length same
+length-count line n e = ap length (line_is line n e)

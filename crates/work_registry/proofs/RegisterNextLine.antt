@@ -6,20 +6,21 @@ use Rattle.std.specs.List.{flat_map, AllByRecursion}
 use Rattle.std.proofs.lemmas.List.{length_push, append-nil}
 use Rattle.std.proofs.lemmas.List.Folds.{list_all-append}
 use Rattle.cwr_record.specs.FaultOrder.{IsNoLater}
+use Rattle.cwr_record.specs.Lines.{line_of}
 use Rattle.cwr_record.specs.declared.status.Status.{Status}
 use Rattle.cwr_record.specs.declared.status.Status.TheVariants as status
 use Rattle.work_registry.specs.declared.reply.Reply.{Reply}
 use Rattle.work_registry.specs.declared.reply.Reply.TheVariants.{Accepted, Duplicate, Conflict, Rejected}
-use Rattle.work_registry.specs.EntryValue.{EntryValue}
+use Rattle.work_registry.specs.EntryValue.{EntryValue, entry_of}
 use Rattle.work_registry.specs.Rows.{rows_of}
 use Rattle.work_registry.specs.Reply.{reply_to}
 use Rattle.work_registry.specs.Replay.{is_opening}
-use Rattle.work_registry.specs.RegisterLine.{EntryLine, IsEntryLine, line_of, head, head_of, fault}
+use Rattle.work_registry.specs.RegisterLine.{EntryLine, IsEntryLine, head, head_of, fault}
 use Rattle.work_registry.specs.Told.{status_in}
 use Rattle.work_registry.specs.Register.{work_of, version_of, line_for, entry_line, entry_lines, count_line, register_text, IsWholeEntry}
 use Rattle.work_registry.specs.RegisterFaults.{in_front, lines, has_end, IsNoEntry, Tells, HasNumber, HasFaultAfter, IsFault, IsLeastFault}
 use Rattle.work_registry.specs.RegisterReading.{IsReadTo}
-use Rattle.cwr_call.proofs.Tests.{both}
+use Rattle.cwr_field.proofs.lemmas.Tests.{both}
 use Rattle.work_registry.proofs.RegisterFirstLine.{later, has_last}
 
 -- a line without LF says nothing
@@ -152,8 +153,8 @@ entry_again index a b e s =
     entry_is a.session b.session a.call b.call a.reply b.reply s call reply
   where
     entry_is : (s s' : ℕ) (c c' : CallValue) (r r' : Reply) → s ≡ s' → c ≡ c' → r ≡ r'
-        → let x : EntryValue = record { session = s; call = c; reply = r } in
-        let y : EntryValue = record { session = s'; call = c'; reply = r' } in x ≡ y
+        → let x : EntryValue = entry_of s c r in
+        let y : EntryValue = entry_of s' c' r' in x ≡ y
     entry_is s s' c c' r r' p q t = rw (p, q, t) refl
 
 told_line : (index : ℕ) (x : EntryLine) (r : Reply) → x.index ≡ index → Tells x r → line_for index x.call r ≡ x
@@ -208,9 +209,9 @@ one_more text start rest line more h e so_far split is =
 pub next_read : (limit count : ℕ) (text rest line more : List ℕ) (h : List EntryValue) (x : EntryLine) → IsReadTo limit text count h rest
     → rest ≡ line ++ 10 ∷ more → lines rest ≡ (line ++ 10 ∷ []) ∷ lines more → length h < count
     → IsEntryLine (line ++ 10 ∷ []) x → ((y : EntryLine) → IsEntryLine (line ++ 10 ∷ []) y → y ≡ x) → x.index ≡ length h + 1 → Tells x (reply_to (rows_of h) x.call)
-    → IsReadTo limit text count (h ++ record { session = 0; call = x.call; reply = reply_to (rows_of h) x.call } ∷ []) more
+    → IsReadTo limit text count (h ++ entry_of 0 x.call (reply_to (rows_of h) x.call) ∷ []) more
 next_read limit count text rest line more h x r split e counted says only place tells =
-    let d : EntryValue = record { session = 0; call = x.call; reply = reply_to (rows_of h) x.call } in
+    let d : EntryValue = entry_of 0 x.call (reply_to (rows_of h) x.call) in
     let same = told_line (length h + 1) x (reply_to (rows_of h) x.call) place tells in
     let P : EntryLine → Type 0 = λ y. IsEntryLine (line ++ 10 ∷ []) y in
     let is : IsEntryLine (line ++ 10 ∷ []) (line_for (length h + 1) x.call (reply_to (rows_of h) x.call)) = subst P (sym same) says in
@@ -224,10 +225,10 @@ next_read limit count text rest line more h x r split e counted says only place 
     }
   where
     by : (k n : ℕ) → line_for (length h + 1) x.call (reply_to (rows_of h) x.call) ≡ x → HasFaultAfter count h ((line ++ 10 ∷ []) ∷ lines more) k n
-        → HasFaultAfter count (h ++ record { session = 0; call = x.call; reply = reply_to (rows_of h) x.call } ∷ []) (lines more) k n
+        → HasFaultAfter count (h ++ entry_of 0 x.call (reply_to (rows_of h) x.call) ∷ []) (lines more) k n
     by k n same (inl f) = absurd (no_number count h (line ++ 10 ∷ []) x n counted says only place tells f.1)
     by k n same (inr f) =
-        let d : EntryValue = record { session = 0; call = x.call; reply = reply_to (rows_of h) x.call } in
+        let d : EntryValue = entry_of 0 x.call (reply_to (rows_of h) x.call) in
         let g = f.1.0 in
         let is = f.1.1 in
         let equal : g ≡ d = entry_again (length h + 1) g d (only (line_for (length h + 1) g.call g.reply) is.says ∙ sym same) is.session in
@@ -268,7 +269,7 @@ unlawful_line limit count number text rest line more h o x e first says is only 
 
 pub lawful_line : (limit count number : ℕ) (text rest line more : List ℕ) (h later : List EntryValue) (o : Option EntryLine) (x : EntryLine) → number ≡ length h + 2
     → rest ≡ line ++ 10 ∷ more → lines rest ≡ (line ++ 10 ∷ []) ∷ lines more → IsEntryLine (line ++ 10 ∷ []) x → o ≡ Some x → ((y : EntryLine) → IsEntryLine (line ++ 10 ∷ []) y → o ≡ Some y)
-    → x.index + 1 ≡ number → Tells x (reply_to (rows_of h) x.call) → later ≡ h ++ record { session = 0; call = x.call; reply = reply_to (rows_of h) x.call } ∷ []
+    → x.index + 1 ≡ number → Tells x (reply_to (rows_of h) x.call) → later ≡ h ++ entry_of 0 x.call (reply_to (rows_of h) x.call) ∷ []
     → length h < count → IsReadTo limit text count h rest → IsReadTo limit text count later more
 lawful_line limit count number text rest line more h later o x e split first says is only place tells grown counted r =
     let P : List EntryValue → Type 0 = λ es. IsReadTo limit text count es more in

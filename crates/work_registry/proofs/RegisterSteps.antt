@@ -4,8 +4,9 @@ use Rattle.std.specs.List.{flat_map, AllByRecursion}
 use Rattle.std.proofs.lemmas.List.{drop_more, take_more}
 use Rattle.cwr_call.specs.declared.transaction_fault.Fault.{Fault}
 use Rattle.work_registry.specs.declared.register.head.Head.{Head}
+use Rattle.cwr_record.specs.Lines.{line_of}
 use Rattle.work_registry.specs.EntryValue.{EntryValue}
-use Rattle.work_registry.specs.RegisterLine.{EntryLine, line_of, head, fault, head_of, line_text}
+use Rattle.work_registry.specs.RegisterLine.{EntryLine, head, fault, head_of, line_text}
 use Rattle.work_registry.specs.Register.{entry_line, entry_lines}
 
 -- what is written next is what the rest began with

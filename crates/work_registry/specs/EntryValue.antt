@@ -7,3 +7,6 @@ pub record EntryValue : Type 0 where
   pub session : ℕ
   pub call : CallValue
   pub reply : Reply
+
+abbrev pub entry_of : ℕ → CallValue → Reply → EntryValue
+entry_of session call reply = record { session = session; call = call; reply = reply }

@@ -11,7 +11,7 @@ pub mod History
 pub mod Replay
 pub mod Indexes
 pub mod RegisterLine
-pub mod RegisterPieces
+pub mod RegisterColumns
 pub mod Register
 pub mod RegisterFaults
 pub mod RegisterReading

@@ -1,11 +1,12 @@
 -- The numbers that a registry gives.
 use Rattle.std.specs.Prelude.{ℕ, ◌≤◌}
+use Rattle.cwr_field.specs.Number.{most_count}
 use Rattle.work_registry.specs.declared.reply.Reply.{Reply}
 use Rattle.work_registry.specs.declared.reply.Reply.TheVariants.{Accepted, Duplicate, Conflict, Rejected}
 
--- the most entries of a book
+-- the most entries of a book: as many as eight digits tell
 abbrev pub most_entries : ℕ
-most_entries = 99999999
+most_entries = most_count
 
 -- from 1 to 99,999,999, so that eight digits tell it
 abbrev pub IsNumber : ℕ → Type 0

@@ -1,16 +1,16 @@
 -- The text of a register: a line with the number of entries, and a line for each entry. An LF ends each line.
-use Rattle.std.specs.Prelude.{◌≡◌, ℕ, ◌+◌, ◌≤◌, ◌<◌, ◌^◌, List, [], ◌∷◌, ◌++◌, length, codes, IsTrue, unwrap_or}
+use Rattle.std.specs.Prelude.{◌≡◌, ℕ, ◌+◌, ◌≤◌, ◌<◌, ◌^◌, List, [], ◌∷◌, ◌++◌, length, IsTrue, unwrap_or}
 use Rattle.std.specs.List.{AllByRecursion}
-use Rattle.cwr_field.specs.Number.{number_text}
+use Rattle.cwr_record.specs.Lines.{line_of}
 use Rattle.cwr_call.specs.CallValue.{CallValue}
 use Rattle.cwr_call.specs.Lawful.{is_lawful}
 use Rattle.work_registry.specs.declared.reply.Reply.{Reply}
-use Rattle.work_registry.specs.EntryValue.{EntryValue}
+use Rattle.work_registry.specs.EntryValue.{EntryValue, entry_of}
 use Rattle.work_registry.specs.History.{IsHistory}
 use Rattle.work_registry.specs.Numbers.{most_entries}
 use Rattle.work_registry.specs.Replay.{is_opening}
 use Rattle.work_registry.specs.Told.{status_in, work_in, version_in}
-use Rattle.work_registry.specs.RegisterLine.{EntryLine, line_text, IsTyped}
+use Rattle.work_registry.specs.RegisterLine.{EntryLine, entry_count, line_text, IsTyped}
 
 -- the work that a reply names, or 0 where there is none
 abbrev pub work_of : Reply → ℕ
@@ -40,7 +40,7 @@ entry_lines index (e ∷ es) = entry_line index e.call e.reply ++ entry_lines (i
 
 -- the first line, with the number of entries
 abbrev pub count_line : ℕ → List ℕ
-count_line count = codes "REG" ++ number_text 8 count ++ 10 ∷ []
+count_line entries = line_of entry_count entries ++ 10 ∷ []
 
 abbrev pub register_text : List EntryValue → List ℕ
 register_text entries = count_line (length entries) ++ entry_lines 1 entries
@@ -52,7 +52,7 @@ pub record FitsEntry (e : EntryValue) : Type 0 where
 
 -- the entry as one of the opening
 abbrev pub opened : EntryValue → EntryValue
-opened e = record { session = 0; call = e.call; reply = e.reply }
+opened e = entry_of 0 e.call e.reply
 
 -- What two histories with one text need to be one, but for their sessions: each entry can be told, and is of a call.
 -- The widths of texts are those that the entries of a program have by their types.

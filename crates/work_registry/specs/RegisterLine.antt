@@ -1,68 +1,49 @@
--- The line of an entry in a register: its layout, and what it spells. Positions are counted in bytes, from 1.
-use Rattle.std.specs.Prelude.{◌≡◌, ℕ, ◌<◌, ◌^◌, IsTrue, List, [], ◌∷◌, ◌++◌, length, codes, slice_index, Option, Some, None}
+-- The lines of a register: their layouts, in the words of the layouts of records, and what the line of an entry says.
+use Rattle.std.specs.Prelude.{◌≡◌, ℕ, ◌<◌, ◌^◌, IsTrue, List, [], ◌∷◌, ◌++◌, length, codes, slice_index}
 use Rattle.std.specs.List.{flat_map, AllByRecursion}
-use Rattle.cwr_field.specs.Layout.{field}
-use Rattle.cwr_field.specs.Number.{number_text}
-use Rattle.cwr_field.specs.Iswc.{iswc_text}
-use Rattle.cwr_record.specs.Kinds.{work_kind_code}
+use Rattle.cwr_record.specs.Layout.{Part}
+use Rattle.cwr_record.specs.Lines.{line_of}
+use Rattle.cwr_record.specs.Parts.{named, number, text, code}
+use Rattle.cwr_record.specs.Kinds.{work_kind_code, status_text}
 use Rattle.cwr_record.specs.declared.status.Status.{Status}
 use Rattle.cwr_call.specs.declared.transaction_fault.Fault.{Fault}
-use Rattle.cwr_record.specs.Kinds.{status_text}
 use Rattle.cwr_call.specs.CallValue.{CallValue}
 use Rattle.cwr_call.specs.Lawful.{is_lawful}
 use Rattle.work_registry.specs.declared.register.head.Head.{Head}
+use Rattle.work_registry.specs.RegisterColumns as column
 
--- a field of a line that stands for a value: where it starts, its width, and its text
-pub record Column (X : Type 0) : Type 0 where
-  pub start : ℕ
-  pub width : ℕ
-  pub text : X → List ℕ
-
-abbrev pub at : {X : Type 0} → ℕ → ℕ → (X → List ℕ) → Column X
-at start width text = record { start = start; width = width; text = text }
-
--- digits that fill the field
-abbrev pub number : {X : Type 0} → ℕ → ℕ → (X → ℕ) → Column X
-number start width part = at start width (λ x. number_text width (part x))
-
--- the bytes of a line: the texts of its fields, one after another
-abbrev pub line_of : {X : Type 0} → List (Column X) → X → List ℕ
-line_of columns x = flat_map (λ c. c.text x) columns
-
--- each field of the line has the text of the value
-abbrev pub StandsFor : {X : Type 0} → List (Column X) → List ℕ → X → Type 0
-StandsFor columns line x = AllByRecursion (λ c. c.text x ≡ field line c.start c.width) columns
-
--- the International Standard Musical Work Code, or blanks where there is none
-abbrev pub code_text : Option ℕ → List ℕ
-code_text None = codes "           "
-code_text (Some n) = iswc_text n
-
--- the fields of fixed place
-abbrev pub head : List (Column Head)
-head =
-    at 1 3 (λ x. codes "ENT")
-    ∷ number 4 8 (λ x. x.index)
-    ∷ at 12 11 (λ x. x.submitter)
-    ∷ at 23 3 (λ x. work_kind_code x.kind)
-    ∷ at 26 60 (λ x. x.title)
-    ∷ at 86 14 (λ x. x.number)
-    ∷ at 100 11 (λ x. code_text x.iswc)
-    ∷ number 111 12 (λ x. slice_index x.control 0)  -- performing right
-    ∷ number 123 12 (λ x. slice_index x.control 1)  -- mechanical right
-    ∷ number 135 12 (λ x. slice_index x.control 2)  -- synchronization right
-    ∷ at 147 2 (λ x. status_text x.status)
-    ∷ number 149 8 (λ x. x.work)
-    ∷ number 157 8 (λ x. x.version)
-    ∷ number 165 9 (λ x. x.faults)  -- how many faults follow
+-- the first line, with the number of entries
+abbrev pub entry_count : List (Part ℕ)
+entry_count =
+    named column.mark (codes "REG")
+    ∷ number column.count (λ n. n)
     ∷ []
 
--- a fault, in the 13 bytes that it takes
-abbrev pub fault : List (Column Fault)
+-- the fields of fixed place in the line of an entry
+abbrev pub head : List (Part Head)
+head =
+    named column.mark (codes "ENT")
+    ∷ number column.index (λ x. x.index)
+    ∷ text column.submitter (λ x. x.submitter)
+    ∷ text column.kind (λ x. work_kind_code x.kind)
+    ∷ text column.title (λ x. x.title)
+    ∷ text column.number (λ x. x.number)
+    ∷ code column.iswc (λ x. x.iswc)
+    ∷ number column.performing_control (λ x. slice_index x.control 0)
+    ∷ number column.mechanical_control (λ x. slice_index x.control 1)
+    ∷ number column.synchronization_control (λ x. slice_index x.control 2)
+    ∷ text column.status (λ x. status_text x.status)
+    ∷ number column.work (λ x. x.work)
+    ∷ number column.version (λ x. x.version)
+    ∷ number column.faults (λ x. x.faults)
+    ∷ []
+
+-- a fault
+abbrev pub fault : List (Part Fault)
 fault =
-    number 1 8 (λ x. x.sequence)
-    ∷ number 9 2 (λ x. x.number)
-    ∷ at 11 3 (λ x. x.rtype)
+    number column.fault_sequence (λ x. x.sequence)
+    ∷ number column.fault_number (λ x. x.number)
+    ∷ text column.fault_record_type (λ x. x.rtype)
     ∷ []
 
 -- what a line says of an entry

@@ -2,13 +2,13 @@
 use Rattle.std.specs.Prelude.{ℕ, ◌==◌, Bool, List, [], ◌∷◌, ◌++◌, map, filter}
 use Rattle.std.specs.List.{list_all}
 use Rattle.cwr_call.specs.CallValue.{CallValue}
-use Rattle.work_registry.specs.EntryValue.{EntryValue}
+use Rattle.work_registry.specs.EntryValue.{EntryValue, entry_of}
 use Rattle.work_registry.specs.Rows.{rows_of}
 use Rattle.work_registry.specs.Reply.{reply_to}
 
 -- the entry of a call that a session hands in after a history
 abbrev pub entry_for : ℕ → List EntryValue → CallValue → EntryValue
-entry_for session history call = record { session = session; call = call; reply = reply_to (rows_of history) call }
+entry_for session history call = entry_of session call (reply_to (rows_of history) call)
 
 -- one entry per call, in order, each with the reply to the entries before it
 abbrev pub replay : ℕ → List EntryValue → List CallValue → List EntryValue

@@ -6,6 +6,7 @@
 --      under other keys and the call's are together more than the whole: conflict of that work.
 --   5. Accepted for that work, one version more.
 use Rattle.std.specs.Prelude.{ℕ, ◌+◌, ◌==◌, ◌||◌, Bool, false, not, List, [], ◌∷◌, if◌then◌else◌, Option, Some, None, nat_lt, unwrap_or, slice_index}
+use Rattle.cwr_field.specs.Share.{most_whole}
 use Rattle.cwr_call.specs.declared.transaction_fault.Fault.{Fault}
 use Rattle.cwr_record.specs.declared.works.WorkKind.{WorkKind}
 use Rattle.cwr_record.specs.declared.works.WorkKind.TheVariants.{Nwr, Rev}
@@ -19,7 +20,7 @@ use Rattle.work_registry.specs.Claims.{versions_of}
 
 -- the whole of a right, in hundredths of one per cent, with a tolerance of 0.06 per cent
 abbrev pub most_control : ℕ
-most_control = 10006
+most_control = most_whole
 
 -- there is one, and it is another
 abbrev pub differs : ℕ → Option ℕ → Bool

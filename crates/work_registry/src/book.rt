@@ -1,5 +1,6 @@
 ghost use Rattle.std.specs.Prelude.{◌≡◌, ◌==◌, ◌&&◌, ◌≤◌, ◌<◌, ◌↔◌, ◌∷◌, [], ◌++◌, true, length, vec_len, vec_capacity, IfOk, IfErr, OnOk, OnErr};
 ghost use Rattle.std.specs.List.{AllByRecursion};
+ghost use Rattle.work_registry.specs.EntryValue.{entry_of};
 ghost use Rattle.work_registry.specs.Rows.{rows_of};
 ghost use Rattle.work_registry.specs.Works.{work_of_iswc, control_of};
 ghost use Rattle.work_registry.specs.Claims.{claim_of};
@@ -81,7 +82,7 @@ impl<A: Allocator + Copy + Drop> Book<A> {
     pub fn apply(&mut self, session: u32, call: Call<A>) -> Result<Reply, Refused<A>>
         requires { session ≤ 63 }
         ensures reply { IfOk result (λ r. r ≡ reply_to (rows_of self.old.history) call) }
-        ensures entry { IfOk result (λ r. self.new.history ≡ self.old.history ++ record { session = session; call = call; reply = r } ∷ []) }
+        ensures entry { IfOk result (λ r. self.new.history ≡ self.old.history ++ entry_of session call r ∷ []) }
         ensures limit { self.new.limit ≡ self.old.limit }
         ensures unchanged { OnErr result (self.new ≡ self.old) }
         ensures given_back { IfErr result (λ e. e.call ≡ call) }
@@ -103,7 +104,7 @@ impl<A: Allocator + Copy + Drop> Book<A> {
     fn append(&mut self, session: u32, call: Call<A>, decision: Decision) -> Result<(), Refused<A>>
         requires decided { decision ≡ decision_on (rows_of self.old.history) call }
         requires not_full { length self.old.history < self.old.limit }
-        ensures entry { OnOk result (self.new.history ≡ self.old.history ++ record { session = session; call = call; reply = decision.reply } ∷ []) }
+        ensures entry { OnOk result (self.new.history ≡ self.old.history ++ entry_of session call decision.reply ∷ []) }
         ensures limit { self.new.limit ≡ self.old.limit }
         ensures unchanged { OnErr result (self.new ≡ self.old) }
         ensures given_back { IfErr result (λ e. e ≡ record { call = call; why = Memory }) }

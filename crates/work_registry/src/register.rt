@@ -14,25 +14,22 @@ ghost use Rattle.work_registry.specs.declared.register.refusal.RegisterRefusal.T
 ghost use Rattle.std.specs.List.{AllByRecursion};
 ghost use Rattle.work_registry.specs.RegisterFaults.{IsRefusal};
 
+mod columns;
 mod entry_line;
 mod faults;
 mod fields;
 mod head;
 mod lines;
-mod pieces;
 mod reading;
 mod refusal;
 mod writing;
 
 use crate::book::Book;
-use cwr_field::Memory;
+use cwr_field::{MOST_COUNT, Memory};
 use reading::book_from;
 pub use refusal::RegisterRefusal;
 use std::alloc::Allocator;
 use writing::register_of;
-
-/// The most entries that a register can have: as many as eight digits tell.
-const MOST_ENTRIES: u32 = 99999999;
 
 impl<A: Allocator + Copy + Drop> Book<A> {
     /// The register of this book: the text of its history.
@@ -82,6 +79,6 @@ pub fn audit<A: Allocator + Copy + Drop>(alloc: A, bytes: &[u8]) -> Result<u64, 
     ensures entries { IfOk result (IsAudited bytes.now) }
     ensures fault { IfErr result (IsRefusal most_entries bytes.now) }
 {
-    let book = read_register(alloc, bytes, MOST_ENTRIES)?;
+    let book = read_register(alloc, bytes, MOST_COUNT)?;
     Ok(book.len() as u64)
 }

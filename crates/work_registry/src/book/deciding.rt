@@ -12,10 +12,8 @@ use crate::indexes::{Change, Decision, KeptWork};
 use crate::key::Key;
 use crate::reply::Reply;
 use cwr_call::{Call, WorkKind};
+use cwr_field::MOST_WHOLE;
 use std::alloc::Allocator;
-
-/// The whole of a right, in hundredths of one per cent, with a tolerance of 0.06 per cent.
-const MOST_CONTROL: u64 = 10_006;
 
 impl<A: Allocator + Copy + Drop> Book<A> {
     /// What is decided on a call, by what the book keeps of its history.
@@ -216,9 +214,9 @@ fn are_over_whole(others: [u64; 3], control: [u64; 3]) -> bool
     requires synchronization { slice_index others 2 ≤ most_control }
     ensures { result ≡ (nat_lt most_control (slice_index others 0 + slice_index control 0) || (nat_lt most_control (slice_index others 1 + slice_index control 1) || nat_lt most_control (slice_index others 2 + slice_index control 2))) }
 {
-    control[0] > MOST_CONTROL - others[0]
-        || control[1] > MOST_CONTROL - others[1]
-        || control[2] > MOST_CONTROL - others[2]
+    control[0] > MOST_WHOLE - others[0]
+        || control[1] > MOST_WHOLE - others[1]
+        || control[2] > MOST_WHOLE - others[2]
 }
 
 /// The ISWC of a call, else the one that its work had.

@@ -1,14 +1,14 @@
 //! The fields of fixed place in the line of an entry.
 
-ghost use Rattle.std.specs.Prelude.{◌≡◌, ◌<◌, ◌^◌, length, slice_index, IfSome, IfNone};
-ghost use Rattle.cwr_field.specs.Layout.{field};
-ghost use Rattle.cwr_field.specs.Number.{number_text};
-ghost use Rattle.work_registry.specs.RegisterLine.{StandsFor, head};
-ghost use Rattle.work_registry.specs.RegisterPieces.{FitsCode, FitsHead};
+ghost use Rattle.std.specs.Prelude.{◌≡◌, length, IfSome, IfNone};
+ghost use Rattle.cwr_record.specs.Layout.{StandsFor};
+ghost use Rattle.cwr_record.specs.Lines.{Fits};
+ghost use Rattle.work_registry.specs.RegisterLine.{head};
 ghost use Rattle.work_registry.specs.declared.register.head.Head.{Head};
 
-use super::fields::{code_at, kind_at, number_at, status_at, text_at};
-use cwr_record::{Status, WorkKind};
+use super::columns;
+use super::fields::code_at;
+use cwr_record::{Status, WorkKind, digits_at, field_at};
 
 /// What the fields of fixed place spell.
 #[derive(Clone, Copy)]
@@ -33,28 +33,28 @@ pub(crate) struct Head {
 /// What a line has in its fields of fixed place, bytes 1 to 173.
 pub(super) fn read_head(line: &[u8]) -> Option<Head>
     ensures some { IfSome result (StandsFor head line.now) }
-    ensures fits { IfSome result FitsHead }
+    ensures fits { IfSome result (Fits head) }
     ensures rights { IfSome result (λ x. length x.control ≡ 3) }
-    ensures none { IfNone result ((x : Head) → FitsCode x.iswc → StandsFor head line.now x → ⊥) }
+    ensures none { IfNone result ((x : Head) → StandsFor head line.now x → ⊥) }
 {
-    if text_at::<3>(line, 1) != *b"ENT" {
+    if field_at(line, columns::MARK).bytes() != *b"ENT" {
         return None;
     }
     Some(Head {
-        index: number_at(line, 4, 8)? as u32,
-        submitter: text_at(line, 12),
-        kind: kind_at(line, 23)?,
-        title: text_at(line, 26),
-        number: text_at(line, 86),
-        iswc: code_at(line, 100)?,
+        index: digits_at(line, columns::INDEX)? as u32,
+        submitter: field_at(line, columns::SUBMITTER).bytes(),
+        kind: WorkKind::named(&field_at(line, columns::KIND).bytes())?,
+        title: field_at(line, columns::TITLE).bytes(),
+        number: field_at(line, columns::NUMBER).bytes(),
+        iswc: code_at(line, columns::ISWC)?,
         control: [
-            number_at(line, 111, 12)?,
-            number_at(line, 123, 12)?,
-            number_at(line, 135, 12)?,
+            digits_at(line, columns::PERFORMING_CONTROL)?,
+            digits_at(line, columns::MECHANICAL_CONTROL)?,
+            digits_at(line, columns::SYNCHRONIZATION_CONTROL)?,
         ],
-        status: status_at(line, 147)?,
-        work: number_at(line, 149, 8)? as u32,
-        version: number_at(line, 157, 8)? as u32,
-        faults: number_at(line, 165, 9)? as u32,
+        status: Status::named(&field_at(line, columns::STATUS).bytes())?,
+        work: digits_at(line, columns::WORK)? as u32,
+        version: digits_at(line, columns::VERSION)? as u32,
+        faults: digits_at(line, columns::FAULTS)? as u32,
     })
 }

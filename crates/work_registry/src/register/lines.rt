@@ -5,7 +5,8 @@ ghost use Rattle.std.specs.List.{position};
 ghost use Rattle.work_registry.specs.Register.{count_line};
 ghost use Rattle.work_registry.specs.RegisterFaults.{lines, has_end};
 
-use super::fields::{number_at, text_at};
+use super::columns;
+use cwr_record::{digits_at, field_at};
 
 /// The index of the first LF.
 fn first_end(text: &[u8]) -> Option<usize>
@@ -29,13 +30,13 @@ pub(super) fn cut_line(text: &[u8]) -> Option<(&[u8], &[u8])>
 pub(super) fn count_in(line: &[u8]) -> Option<u32>
     ensures some { IfSome result (λ count. line.now ++ 10 ∷ [] ≡ count_line count) }
     ensures fits { IfSome result (λ count. count < 10 ^ 8) }
-    ensures none { IfNone result ((count : ℕ) → line.now ++ 10 ∷ [] ≡ count_line count → ⊥) }
+    ensures none { IfNone result ((count : ℕ) → count < 10 ^ 8 → line.now ++ 10 ∷ [] ≡ count_line count → ⊥) }
 {
     if line.len() != 11 {
         return None;
     }
-    if text_at::<3>(line, 1) != *b"REG" {
+    if field_at(line, columns::MARK).bytes() != *b"REG" {
         return None;
     }
-    Some(number_at(line, 4, 8)? as u32)
+    Some(digits_at(line, columns::COUNT)? as u32)
 }

@@ -1,7 +1,7 @@
 //! A register is read line by line into a book, which decides on each call anew.
 
 ghost use Rattle.std.specs.Prelude.{◌≡◌, ◌≤◌, ◌<◌, ◌^◌, ◌∷◌, ◌++◌, [], ℕ, List, true, length, IsTrue, ◌↔◌, ◌+◌, OnOk, IfOk, IfErr};
-ghost use Rattle.work_registry.specs.EntryValue.{EntryValue};
+ghost use Rattle.work_registry.specs.EntryValue.{EntryValue, entry_of};
 ghost use Rattle.work_registry.specs.Rows.{rows_of};
 ghost use Rattle.work_registry.specs.Reply.{reply_to};
 ghost use Rattle.work_registry.specs.RegisterLine.{EntryLine};
@@ -66,7 +66,7 @@ fn is_answered<A: Allocator + Copy + Drop>(
 ) -> Result<bool, Memory>
     requires { length book.old.history < book.old.limit }
     ensures told { IfOk result (λ b. IsTrue b ↔ Tells entry (reply_to (rows_of book.old.history) entry.call)) }
-    ensures entry { OnOk result (book.new.history ≡ book.old.history ++ record { session = 0; call = entry.call; reply = reply_to (rows_of book.old.history) entry.call } ∷ []) }
+    ensures entry { OnOk result (book.new.history ≡ book.old.history ++ entry_of 0 entry.call (reply_to (rows_of book.old.history) entry.call) ∷ []) }
     ensures limit { book.new.limit ≡ book.old.limit }
 {
     let ReadEntry {

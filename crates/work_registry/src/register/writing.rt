@@ -3,15 +3,16 @@
 ghost use Rattle.std.specs.Prelude.{◌≡◌, ◌++◌, ◌∷◌, [], ◌<◌, ◌≤◌, ◌^◌, ◌*◌, ◌+◌, OnOk, IfOk, IsTrue, length, sum_by, codes};
 ghost use Rattle.std.specs.List.{flat_map, AllByRecursion};
 ghost use Rattle.cwr_call.specs.Lawful.{is_lawful};
-ghost use Rattle.work_registry.specs.RegisterLine.{line_of, head, fault, head_of, IsTyped};
-ghost use Rattle.work_registry.specs.RegisterPieces.{FitsHead, FitsFault};
+ghost use Rattle.cwr_record.specs.Lines.{Fits, line_of};
+ghost use Rattle.work_registry.specs.RegisterLine.{head, fault, head_of, IsTyped};
 ghost use Rattle.work_registry.specs.Register.{line_for, entry_line, entry_lines, count_line, register_text, FitsEntry, IsWholeEntry};
 
+use super::columns;
 use super::head::Head;
-use super::pieces::{Piece, put_pieces};
 use crate::entry::Entry;
 use cwr_call::Fault;
 use cwr_field::Memory;
+use cwr_record::{Piece, put_line};
 use std::alloc::Allocator;
 
 fn head_for<A: Allocator>(index: u32, entry: &Entry<A>) -> Head
@@ -40,47 +41,47 @@ fn head_for<A: Allocator>(index: u32, entry: &Entry<A>) -> Head
 
 /// Appends the fields of fixed place.
 fn put_head<A: Allocator>(out: &mut Vec<u8, A>, x: &Head) -> Result<(), Memory>
-    requires { FitsHead x.now }
+    requires { Fits head x.now }
     ensures { OnOk result (out.new.items ≡ out.old.items ++ line_of head x.now) }
 {
-    put_pieces(
+    put_line(
         out,
         &[
-            Piece::Text(b"ENT"),
-            Piece::Digits(x.index as u64, 8),
-            Piece::Text(&x.submitter),
-            Piece::Text(x.kind.code()),
-            Piece::Text(&x.title),
-            Piece::Text(&x.number),
+            Piece::Text(b"ENT", columns::MARK),
+            Piece::Digits(x.index as u64, columns::INDEX),
+            Piece::Text(&x.submitter, columns::SUBMITTER),
+            Piece::Text(x.kind.code(), columns::KIND),
+            Piece::Text(&x.title, columns::TITLE),
+            Piece::Text(&x.number, columns::NUMBER),
             Piece::Code(x.iswc),
-            Piece::Digits(x.control[0], 12),
-            Piece::Digits(x.control[1], 12),
-            Piece::Digits(x.control[2], 12),
-            Piece::Text(x.status.code()),
-            Piece::Digits(x.work as u64, 8),
-            Piece::Digits(x.version as u64, 8),
-            Piece::Digits(x.faults as u64, 9),
+            Piece::Digits(x.control[0], columns::PERFORMING_CONTROL),
+            Piece::Digits(x.control[1], columns::MECHANICAL_CONTROL),
+            Piece::Digits(x.control[2], columns::SYNCHRONIZATION_CONTROL),
+            Piece::Text(x.status.code(), columns::STATUS),
+            Piece::Digits(x.work as u64, columns::WORK),
+            Piece::Digits(x.version as u64, columns::VERSION),
+            Piece::Digits(x.faults as u64, columns::FAULTS),
         ],
     )
 }
 
 fn put_fault<A: Allocator>(out: &mut Vec<u8, A>, x: &Fault) -> Result<(), Memory>
-    requires { FitsFault x.now }
+    requires { Fits fault x.now }
     ensures text { OnOk result (out.new.items ≡ out.old.items ++ line_of fault x.now) }
     ensures typed { IsTyped x.now }
 {
-    put_pieces(
+    put_line(
         out,
         &[
-            Piece::Digits(x.sequence as u64, 8),
-            Piece::Digits(x.number as u64, 2),
-            Piece::Text(&x.rtype),
+            Piece::Digits(x.sequence as u64, columns::FAULT_SEQUENCE),
+            Piece::Digits(x.number as u64, columns::FAULT_NUMBER),
+            Piece::Text(&x.rtype, columns::FAULT_RECORD_TYPE),
         ],
     )
 }
 
 fn put_faults<A: Allocator>(out: &mut Vec<u8, A>, faults: &[Fault]) -> Result<(), Memory>
-    requires { AllByRecursion FitsFault faults.now }
+    requires { AllByRecursion (Fits fault) faults.now }
     ensures text { OnOk result (out.new.items ≡ out.old.items ++ flat_map (line_of fault) faults.now) }
     ensures typed { OnOk result (AllByRecursion IsTyped faults.now) }
 {
@@ -118,14 +119,15 @@ fn put_count<A: Allocator>(out: &mut Vec<u8, A>, count: usize) -> Result<(), Mem
     requires { count < 10 ^ 8 }
     ensures { OnOk result (out.new.items ≡ out.old.items ++ count_line count) }
 {
-    put_pieces(
+    put_line(
         out,
         &[
-            Piece::Text(b"REG"),
-            Piece::Digits(count as u64, 8),
-            Piece::Text(b"\n"),
+            Piece::Text(b"REG", columns::MARK),
+            Piece::Digits(count as u64, columns::COUNT),
         ],
-    )
+    )?;
+    out.push(b'\n')?;
+    Ok(())
 }
 
 /// The length of the text. Its first line has 12 bytes; a line has 174 and 13 for each fault.

@@ -16,7 +16,8 @@ loop-index-init g c =
       left = is;
       all = let e = ap length is in omega (arith, e);
       placed = subst (AllByRecursion IsPlaced) (sym is) c.requires.placed;
-      answered = answered_none _ _ _ _ _ _ c.requires.none;
+      answered = answered_none _ _ _ _ _ c.requires.none;
+      mark = refl;
       fit = subst (AllByRecursion FitsItem) (sym c.requires.none) tt;
       count = ap length c.requires.none;
       room = c.requires.room;
@@ -38,7 +39,8 @@ loop-index-preserved g c =
       left = drop_next c.loop-index.index c.args.file.now.transactions c.next.new.self t at;
       all = let e = ap length step in omega (arith, e, i.all);
       placed = (subst (AllByRecursion IsPlaced) step i.placed).1;
-      answered = answered_next _ _ _ c.args.file.now.transactions c.next.new.self t c.loop-index.index _ _ _ _ _ _ _ _ _ i.session at i.count items i.answered now;
+      answered = answered_next _ _ _ c.args.file.now.transactions c.next.new.self t c.loop-index.index _ _ _ _ _ _ i.session at i.count items i.answered now;
+      mark = rw c.in-Ok.is at c.decide-next.ensures.unmarked ∙ i.mark;
       fit = fit_next _ _ _ items i.fit now.fits;
       count = grind (arith, common_steps);
       room = grind (arith, common_steps);

@@ -13,8 +13,8 @@ invariant-loop-index g l = record {
   left : l.transaction-iterator ≡ drop l.index l.file.transactions;
   all : l.index + length l.transaction-iterator ≡ length l.file.transactions;
   placed : AllByRecursion IsPlaced l.transaction-iterator;
-  answered : AreAnswered (g.H.Window.session l.fn.window) l.file.header.sender l.file.transactions (g.H.Window.list l.fn.window) (g.H.Window.list l.window)
-      (g.H.Window.whole l.fn.window) (g.H.Window.whole l.window) l.items.items;
+  answered : AreAnswered (g.H.Window.session l.fn.window) l.file.header.sender l.file.transactions l.items.items (g.H.Window.entries l.fn.window) (g.H.Window.entries l.window);
+  mark : g.H.Window.mark l.window ≡ g.H.Window.mark l.fn.window;
   fit : AllByRecursion FitsItem l.items.items;
   count : length l.items.items ≡ l.index;
   room : length l.file.transactions ≤ vec_capacity l.items;

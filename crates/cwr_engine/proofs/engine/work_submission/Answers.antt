@@ -3,7 +3,7 @@ use Rattle.cwr_engine.proofs.Accounts.{few_transactions, few_items, few_told, no
 use Rattle.cwr_engine.proofs.engine.work_submission.Goals as goal
 
 pub returns-in_default-clause-worked : goal.returns-in_default-clause-worked
-returns-in_default-clause-worked g c = λ left input read_failed given read. rw c.stopped.ensures (not_begun _ _ _ left _ _ _)
+returns-in_default-clause-worked g c = λ ends input given read_on few_reads read. rw c.stopped.ensures (not_begun _ _ _ _ (Appends-nil _) read_on few_reads)
 
 pub hand_in_all-window-requires-clause-few : goal.hand_in_all-window-requires-clause-few
 hand_in_all-window-requires-clause-few g c = let few = few_transactions _ _ c.requires.bounds in omega (arith, few)
@@ -20,33 +20,33 @@ hand_in_all-window-requires-clause-placed g c = c.requires.bounds.placed
 pub overflow_cast-handed : goal.overflow_cast-handed
 overflow_cast-handed g c =
     let few = few_transactions _ _ c.requires.bounds in
-    let items = few_items _ _ _ _ _ _ _ _ c.hand_in_all-window.ensures.answered in
+    let items = few_items _ _ _ _ _ _ c.hand_in_all-window.ensures.answered in
     omega (arith, few, items, c.len-handed.ensures, c.hand_in_all-window.new.items.ok.0)
 
 pub returns-in-Err-clause-worked : goal.returns-in-Err-clause-worked
 returns-in-Err-clause-worked g c =
     let items = c.hand_in_all-window.new.items in
     let count : c.len-handed.result ≡ length items.items = omega (arith, items.ok.0, c.len-handed.ensures) in
-    λ left input read_failed given read. rw c.stopped-in-Err.ensures (handed_some _ _ _ left _ _ _ _ _ _ input _ _ items.items given read
+    λ ends input given read_on few_reads read. rw c.stopped-in-Err.ensures (handed_some _ _ _ _ _ input _ _ items.items given read_on few_reads read
     c.hand_in_all-window.ensures.answered c.len-handed.result count c.in-Err.why (Appends-nil _)
     (rw c.in-Err.is at c.hand_in_all-window.ensures.some) (rw c.in-Err.is at c.hand_in_all-window.ensures.why))
 
 pub ack_file-requires-clause-few : goal.ack_file-requires-clause-few
 ack_file-requires-clause-few g c =
-    rw c.deref.ensures.value (few_told _ _ _ _ _ _ _ _ c.requires.bounds c.hand_in_all-window.ensures.answered)
+    rw c.deref.ensures.value (few_told _ _ _ _ _ _ c.requires.bounds c.hand_in_all-window.ensures.answered)
 
 pub returns-in_default-ack_file-clause-worked : goal.returns-in_default-ack_file-clause-worked
 returns-in_default-ack_file-clause-worked g c =
     let items = c.hand_in_all-window.new.items in
     let count : c.len-handed.result ≡ length items.items = omega (arith, items.ok.0, c.len-handed.ensures) in
-    λ left input read_failed given read. rw c.stopped-in_default-ack_file.ensures (no_text _ _ _ left _ _ _ _ _ _ input _ _ items.items given read
+    λ ends input given read_on few_reads read. rw c.stopped-in_default-ack_file.ensures (no_text _ _ _ _ _ input _ _ items.items given read_on few_reads read
     c.hand_in_all-window.ensures.answered c.len-handed.result count (Appends-nil _))
 
 pub returns-in-Ok-write_out-clause-worked : goal.returns-in-Ok-write_out-clause-worked
 returns-in-Ok-write_out-clause-worked g c =
     let items = c.hand_in_all-window.new.items in
     let count : c.len-handed.result ≡ length items.items = omega (arith, items.ok.0, c.len-handed.ensures) in
-    λ left input read_failed given read. rw c.acked.ensures (acked _ _ _ left _ _ _ _ _ _ input _ _ items.items given read
+    λ ends input given read_on few_reads read. rw c.acked.ensures (acked _ _ _ _ _ input _ _ items.items given read_on few_reads read
     c.hand_in_all-window.ensures.answered c.len-handed.result count c.in-Ok-ack_file.answer.items
     (rw c.in_default-done.is at c.hand_in_all-window.ensures.all) (rw c.deref.ensures.value at c.in-Ok-ack_file.ensures)
     (rw c.deref-2.ensures.value at c.in-Ok-write_out.ensures.all))
@@ -56,7 +56,7 @@ returns-clause-worked g c =
     let items = c.hand_in_all-window.new.items in
     let count : c.len-handed.result ≡ length items.items = omega (arith, items.ok.0, c.len-handed.ensures) in
     let cut = c.in-Err-write_out.ensures in
-    λ left input read_failed given read. rw c.stopped-in-Err-write_out.ensures (cut_off _ _ _ left _ _ _ _ _ _ input _ _ items.items given read
+    λ ends input given read_on few_reads read. rw c.stopped-in-Err-write_out.ensures (cut_off _ _ _ _ _ input _ _ items.items given read_on few_reads read
     c.hand_in_all-window.ensures.answered c.len-handed.result count c.in-Ok-ack_file.answer.items
     (rw c.in_default-done.is at c.hand_in_all-window.ensures.all) (rw c.deref.ensures.value at c.in-Ok-ack_file.ensures)
     c.in-Err-write_out.cut.sent (rw c.deref-2.ensures.value at cut.first) (rw c.deref-2.ensures.value at cut.fewer) cut.failed)

@@ -1,5 +1,5 @@
 use Rattle.std.proofs.Common.{arith, rules}
-use Rattle.cwr_field.proofs.DigitSteps.{spells_more, below_power}
+use Rattle.cwr_field.proofs.lemmas.DigitSteps.{spells_more, below_power}
 use Rattle.cwr_field.proofs.number.number_in.Goals as goal
 
 pub overflow_mul-number : goal.overflow_mul-number

@@ -1,5 +1,5 @@
 use Rattle.std.proofs.Common.{refl, ap, Ok}
-use Rattle.cwr_record.proofs.RoundTrip.{read_again, no_fault_again}
+use Rattle.cwr_record.proofs.lemmas.RoundTrip.{read_again, no_fault_again}
 use Rattle.cwr_record.proofs.SameRecords.{same_ack}
 use Rattle.cwr_record.specs.Acknowledgement as table
 use Rattle.cwr_record.proofs.acknowledgement.read_ack.Goals as goal

@@ -1,4 +1,4 @@
-use Rattle.cwr_record.proofs.LineParts.{work_is}
+use Rattle.cwr_record.proofs.lemmas.LineParts.{work_is}
 use Rattle.cwr_record.proofs.laws.heads_are_named.Goals as goal
 
 pub returns : goal.returns

@@ -1,4 +1,4 @@
-use Rattle.cwr_record.proofs.LineParts.{link_is}
+use Rattle.cwr_record.proofs.lemmas.LineParts.{link_is}
 use Rattle.cwr_record.proofs.laws.links_are_read.Goals as goal
 
 pub returns : goal.returns

@@ -1,4 +1,4 @@
-use Rattle.cwr_record.proofs.LineParts.{publisher_territory_is, writer_territory_is}
+use Rattle.cwr_record.proofs.lemmas.LineParts.{publisher_territory_is, writer_territory_is}
 use Rattle.cwr_record.proofs.laws.territories_are_read.Goals as goal
 
 pub returns-clause-publisher : goal.returns-clause-publisher

@@ -1,6 +1,6 @@
 use Rattle.std.proofs.Common.{refl, ap, Ok}
 use Rattle.std.proofs.lemmas.Result.{err_from_is_err_and}
-use Rattle.cwr_record.proofs.RoundTrip.{read_again, no_fault_again}
+use Rattle.cwr_record.proofs.lemmas.RoundTrip.{read_again, no_fault_again}
 use Rattle.cwr_record.proofs.SameRecords.{same_publisher}
 use Rattle.cwr_record.specs.Publishers as table
 use Rattle.cwr_record.proofs.publishers.read_publisher.Goals as goal

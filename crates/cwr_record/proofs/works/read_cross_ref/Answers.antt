@@ -1,5 +1,5 @@
 use Rattle.std.proofs.Common.{refl, ap, Ok}
-use Rattle.cwr_record.proofs.RoundTrip.{read_again, no_fault_again}
+use Rattle.cwr_record.proofs.lemmas.RoundTrip.{read_again, no_fault_again}
 use Rattle.cwr_record.proofs.SameRecords.{same_cross_ref}
 use Rattle.cwr_record.specs.Works as table
 use Rattle.cwr_record.proofs.works.read_cross_ref.Goals as goal

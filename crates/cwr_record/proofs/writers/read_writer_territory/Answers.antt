@@ -1,5 +1,5 @@
 use Rattle.std.proofs.Common.{refl, ap, Ok}
-use Rattle.cwr_record.proofs.RoundTrip.{read_again, no_fault_again}
+use Rattle.cwr_record.proofs.lemmas.RoundTrip.{read_again, no_fault_again}
 use Rattle.cwr_record.proofs.SameRecords.{same_writer_territory}
 use Rattle.cwr_record.specs.Writers as table
 use Rattle.cwr_record.proofs.writers.read_writer_territory.Goals as goal

@@ -2,7 +2,7 @@ use Rattle.std.proofs.Common.{◌≡◌, false, arith}
 use Rattle.std.proofs.lemmas.Grind.{common_steps}
 use Rattle.std.proofs.lemmas.List.Elements.{All-push}
 use Rattle.purvilgo_command.specs.declared.files.InputFile.{InputFile}
-use Rattle.purvilgo_command.specs.declared.files.OutputFile.{OutputFile}
+use Rattle.purvilgo_command.specs.declared.output.OutputFile.{OutputFile}
 use Rattle.cwr_engine.specs.declared.jobs.Job.{Job}
 use Rattle.purvilgo_command.proofs.running.jobs_of.Goals as goal
 

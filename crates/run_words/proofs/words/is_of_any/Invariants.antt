@@ -7,5 +7,5 @@ use Rattle.run_words.proofs.words.is_of_any.Given as goal
 -- none so far
 abbrev pub invariant-loop-file : goal.invariant-loop-file
 invariant-loop-file l =
-    list_any (is_of_file l.word) (map (λ file. file.now) (drop l.file-index l.files))
-    ≡ list_any (is_of_file l.word) (map (λ file. file.now) l.files)
+    list_any (is_of_file l.register) (map (λ file. file.now) (drop l.file-index l.files))
+    ≡ list_any (is_of_file l.register) (map (λ file. file.now) l.files)

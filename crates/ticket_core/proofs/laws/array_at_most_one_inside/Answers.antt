@@ -1,5 +1,5 @@
-use Rattle.ticket_core.proofs.ArrayRuns.{array_all_lawful, array_lawful_one_inside}
-use Rattle.ticket_core.proofs.ArrayStates.{new_array_lawful}
+use Rattle.ticket_core.proofs.lemmas.ArrayRuns.{array_all_lawful, array_lawful_one_inside}
+use Rattle.ticket_core.proofs.lemmas.ArrayStates.{new_array_lawful}
 use Rattle.ticket_core.specs.ArraySteps.{new_array_lock, array_after_all}
 use Rattle.ticket_core.proofs.laws.array_at_most_one_inside.Goals as goal
 

@@ -1,4 +1,4 @@
-use Rattle.ticket_core.proofs.ArrayRuns.{array_entries_in_order}
+use Rattle.ticket_core.proofs.lemmas.ArrayRuns.{array_entries_in_order}
 use Rattle.ticket_core.proofs.laws.array_enters_in_ticket_order.Goals as goal
 
 pub returns : goal.returns

@@ -1,4 +1,4 @@
-use Rattle.ticket_core.proofs.ArrayRuns.{reads_as_ticket_run, new_reads_as_ticket_run}
+use Rattle.ticket_core.proofs.lemmas.ArrayRuns.{reads_as_ticket_run, new_reads_as_ticket_run}
 use Rattle.ticket_core.proofs.laws.array_run_is_a_ticket_run.Goals as goal
 
 pub returns-clause-lawful : goal.returns-clause-lawful

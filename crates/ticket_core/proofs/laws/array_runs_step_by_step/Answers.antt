@@ -1,4 +1,4 @@
-use Rattle.ticket_core.proofs.ArrayRuns.{array_after_all-append, array_answers-append}
+use Rattle.ticket_core.proofs.lemmas.ArrayRuns.{array_after_all-append, array_answers-append}
 use Rattle.ticket_core.proofs.laws.array_runs_step_by_step.Goals as goal
 
 pub returns-clause-state : goal.returns-clause-state

@@ -1,5 +1,5 @@
-use Rattle.ticket_core.proofs.ArrayRuns.{array_all_lawful}
-use Rattle.ticket_core.proofs.ArrayStates.{new_array_lawful}
+use Rattle.ticket_core.proofs.lemmas.ArrayRuns.{array_all_lawful}
+use Rattle.ticket_core.proofs.lemmas.ArrayStates.{new_array_lawful}
 use Rattle.ticket_core.specs.ArraySteps.{new_array_lock}
 use Rattle.ticket_core.proofs.laws.array_stays_lawful.Goals as goal
 

@@ -1,4 +1,4 @@
-use Rattle.ticket_core.proofs.TicketLawful.{new_lawful}
+use Rattle.ticket_core.proofs.lemmas.TicketLawful.{new_lawful}
 use Rattle.ticket_core.proofs.TicketRuns.{all_lawful, lawful_one_inside}
 use Rattle.ticket_core.specs.TicketSteps.{new_lock, after_all}
 use Rattle.ticket_core.proofs.laws.at_most_one_inside.Goals as goal

@@ -1,4 +1,4 @@
-use Rattle.ticket_core.proofs.TicketLawful.{new_lawful}
+use Rattle.ticket_core.proofs.lemmas.TicketLawful.{new_lawful}
 use Rattle.ticket_core.proofs.TicketRuns.{all_lawful}
 use Rattle.ticket_core.specs.TicketSteps.{new_lock}
 use Rattle.ticket_core.proofs.laws.stays_lawful.Goals as goal

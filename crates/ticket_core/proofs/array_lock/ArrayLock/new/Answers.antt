@@ -1,7 +1,7 @@
 use Rattle.std.proofs.Common.{sym, subst, arith}
 use Rattle.std.specs.Prelude.{slice_set, replicate, true, false}
 use Rattle.ticket_core.specs.ArrayLock.{IsLawfulArrayState}
-use Rattle.ticket_core.proofs.ArrayStates.{new_array_lawful}
+use Rattle.ticket_core.proofs.lemmas.ArrayStates.{new_array_lawful}
 use Rattle.ticket_core.proofs.array_lock.ArrayLock.new.Goals as goal
 
 pub invariant_of-result : goal.invariant_of-result

@@ -1,6 +1,6 @@
 use Rattle.std.proofs.Common.{arith}
 use Rattle.std.proofs.lemmas.Grind.{common_steps}
-use Rattle.ticket_core.proofs.ArrayStates.{leaving_below_next, state_passes}
+use Rattle.ticket_core.proofs.lemmas.ArrayStates.{leaving_below_next, state_passes}
 use Rattle.ticket_core.proofs.array_lock.ArrayLock.pass.Goals as goal
 
 pub overflow_add-ticket : goal.overflow_add-ticket

@@ -1,6 +1,6 @@
 use Rattle.std.proofs.Common.{arith}
 use Rattle.std.proofs.lemmas.Grind.{common_steps}
-use Rattle.ticket_core.proofs.TicketLawful.{enters}
+use Rattle.ticket_core.proofs.lemmas.TicketLawful.{enters}
 use Rattle.ticket_core.proofs.ticket_lock.Lock.look.Goals as goal
 
 pub invariant_of-self : goal.invariant_of-self

@@ -1,6 +1,6 @@
 use Rattle.std.proofs.Common.{sym, subst}
 use Rattle.ticket_core.specs.TicketLock.{IsLawful}
-use Rattle.ticket_core.proofs.TicketLawful.{new_lawful}
+use Rattle.ticket_core.proofs.lemmas.TicketLawful.{new_lawful}
 use Rattle.ticket_core.proofs.ticket_lock.Lock.new.Goals as goal
 
 pub invariant_of-result : goal.invariant_of-result

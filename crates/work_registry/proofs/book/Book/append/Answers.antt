@@ -1,7 +1,7 @@
 use Rattle.std.proofs.Common.{◌≡◌, ◌<◌, ◌∙◌, ◌++◌, ◌∷◌, [], ap, sym, length, nat_eq}
 use Rattle.std.specs.Prelude.{◌==◌, ◌&&◌}
 use Rattle.indexmap.specs.IndexMap.{get}
-use Rattle.work_registry.specs.EntryValue.{EntryValue}
+use Rattle.work_registry.specs.EntryValue.{EntryValue, entry_of}
 use Rattle.work_registry.specs.Rows.{rows_of, rows_of_entry, same_key}
 use Rattle.work_registry.specs.Reply.{reply_to}
 use Rattle.work_registry.specs.Indexes.{AreIndexes, decision_on}
@@ -30,7 +30,7 @@ pub invariant_of-self-2 : goal.invariant_of-self-2
 invariant_of-self-2 g c =
     let h = c.self.inside.history.items in
     let reply = c.args.decision.reply in
-    let e : EntryValue = record { session = c.args.session; call = c.args.call; reply = reply } in
+    let e : EntryValue = entry_of c.args.session c.args.call reply in
     let grown : c.store_entry.new.history.items ≡ h ++ e ∷ [] = c.store_entry.ensures ∙ ap (λ l. l ++ e ∷ []) c.reserve.ensures.items in
     let decided : c.args.decision ≡ decision_on (rows_of h) c.args.call = rw (← c.self.view_is) at c.requires.decided in
     let room_left : length h < c.self.inside.limit = rw (← c.self.view_is) at c.requires.not_full in

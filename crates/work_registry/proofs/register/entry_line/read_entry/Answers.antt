@@ -6,7 +6,7 @@ returns-in_default-clause-only g c = λ x line. absurd (headless c.args.line.now
 
 pub returns-then-rest-head-clause-only : goal.returns-then-rest-head-clause-only
 returns-then-rest-head-clause-only g c = λ x line.
-    absurd (miscounted c.args.line.now c.in-Some.head x (rw c.split_at.ensures.front at c.in-Some.ensures.some) c.in-Some.ensures.fits c.in-Some.ensures.rights (rw c.split_at.ensures.back at c.if-rest-head.true) line)
+    absurd (miscounted c.args.line.now c.in-Some.head x (rw c.split_at.ensures.front at c.in-Some.ensures.some) c.in-Some.ensures.rights (rw c.split_at.ensures.back at c.if-rest-head.true) line)
 
 pub returns-in_default-2-clause-only : goal.returns-in_default-2-clause-only
 returns-in_default-2-clause-only g c = λ x line.
@@ -19,5 +19,5 @@ returns-clause-says g c =
 
 pub returns-clause-only : goal.returns-clause-only
 returns-clause-only g c =
-    only_read c.args.line.now c.in-Some.head c.in-Some-2.faults c.in_ok-faults.field-0 c.entry_from.result (rw c.split_at.ensures.front at c.in-Some.ensures.some) c.in-Some.ensures.fits c.in-Some.ensures.rights
+    only_read c.args.line.now c.in-Some.head c.in-Some-2.faults c.in_ok-faults.field-0 c.entry_from.result (rw c.split_at.ensures.front at c.in-Some.ensures.some) c.in-Some.ensures.rights
     c.in-Some-2.is (rw c.split_at.ensures.back at c.in_ok-faults.ensures.only) c.entry_from.ensures.when c.entry_from.ensures.value

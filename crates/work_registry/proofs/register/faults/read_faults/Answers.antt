@@ -17,7 +17,7 @@ returns-in_default-clause-only g c =
 pub loop-rest-preserved : goal.loop-rest-preserved
 loop-rest-preserved g c =
     let split = split_is c.loop-rest.rest.now c.split_at.result.0.now c.split_at.result.1.now 13 c.split_at.ensures.front c.split_at.ensures.back in
-    read_more _ _ _ _ _ _ _ c.loop-rest.invariant split c.split_at.ensures.front_len c.in-Some.ensures.some c.in-Some.ensures.fits c.in-Some.ensures.typed c.in_ok-push.ensures.items
+    read_more _ _ _ _ _ _ _ c.loop-rest.invariant split c.split_at.ensures.front_len c.in-Some.ensures.some c.in-Some.ensures.typed c.in_ok-push.ensures.items
 
 pub returns-clause-only : goal.returns-clause-only
 returns-clause-only g c =

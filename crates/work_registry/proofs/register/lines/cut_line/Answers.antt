@@ -1,7 +1,7 @@
 use Rattle.std.proofs.Common.{◌+◌, refl}
 use Rattle.std.proofs.lemmas.List.{take_rest}
 use Rattle.work_registry.proofs.RegisterLines.{cut_lines, unended, unended_lines}
-use Rattle.work_registry.proofs.RegisterTables.{if_none}
+use Rattle.work_registry.proofs.HandedOn.{if_none}
 use Rattle.work_registry.proofs.register.lines.cut_line.Goals as goal
 
 pub returns-in_err-end-clause-none : goal.returns-in_err-end-clause-none

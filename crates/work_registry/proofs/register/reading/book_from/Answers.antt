@@ -1,7 +1,7 @@
 use Rattle.std.proofs.Common.{rules, ◌≡◌, ◌<◌, ◌+◌, ℕ, ◌∙◌, length, arith, refl, ap}
 use Rattle.std.proofs.lemmas.Bool.Decides.{nat_tests}
 use Rattle.work_registry.specs.RegisterFaults.{IsRefusal}
-use Rattle.work_registry.proofs.RegisterTables.{handed_on}
+use Rattle.work_registry.proofs.HandedOn.{handed_on}
 use Rattle.work_registry.proofs.RegisterNextLine.{tail_line, all_read}
 use Rattle.work_registry.proofs.register.reading.book_from.Goals as goal
 

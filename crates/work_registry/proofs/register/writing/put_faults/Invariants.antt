@@ -1,6 +1,7 @@
 use Rattle.std.proofs.Common.{◌≡◌, ◌++◌, take}
 use Rattle.std.specs.List.{flat_map, AllByRecursion}
-use Rattle.work_registry.specs.RegisterLine.{line_of, fault, IsTyped}
+use Rattle.cwr_record.specs.Lines.{line_of}
+use Rattle.work_registry.specs.RegisterLine.{fault, IsTyped}
 use Rattle.work_registry.proofs.register.writing.put_faults.Given as goal
 
 -- the faults so far stand at the end, and their types are three bytes

@@ -1,0 +1,6 @@
+pub mod SameFronts
+pub mod DigitSteps
+pub mod DigitText
+pub mod CodeText
+pub mod Spelling
+pub mod Tests

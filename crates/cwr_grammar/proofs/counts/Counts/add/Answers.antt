@@ -1,5 +1,0 @@
-use Rattle.std.proofs.Common.{rules}
-use Rattle.cwr_grammar.proofs.counts.Counts.add.Goals as goal
-
-pub returns-in-GroupHeader : goal.returns-in-GroupHeader
-returns-in-GroupHeader c = search rules

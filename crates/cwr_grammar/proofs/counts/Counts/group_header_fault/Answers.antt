@@ -1,5 +1,0 @@
-use Rattle.std.proofs.Common.{rules}
-use Rattle.cwr_grammar.proofs.counts.Counts.group_header_fault.Goals as goal
-
-pub returns-then-not-is_number : goal.returns-then-not-is_number
-returns-then-not-is_number c = search rules

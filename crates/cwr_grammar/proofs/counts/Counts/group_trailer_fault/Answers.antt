@@ -1,5 +1,0 @@
-use Rattle.std.proofs.Common.{rules}
-use Rattle.cwr_grammar.proofs.counts.Counts.group_trailer_fault.Goals as goal
-
-pub returns-then-not-is_number-3 : goal.returns-then-not-is_number-3
-returns-then-not-is_number-3 c = search rules

@@ -1,0 +1,46 @@
+-- The spans of transactions in the bytes of a file.
+use Rattle.std.specs.Prelude.{ℕ, ◌≤◌, List, [], ◌∷◌, length, map, Option, Some, None}
+use Rattle.std.specs.List.{slice_range}
+use Rattle.std.specs.Str.Lines.{lines}
+use Rattle.cwr_grammar.specs.declared.role.Role.{Role}
+use Rattle.cwr_grammar.specs.declared.role.Role.TheVariants.{TransactionHeader, Detail}
+use Rattle.cwr_grammar.specs.declared.span.Span.{Span}
+use Rattle.cwr_grammar.specs.declared.span.Open.{Open}
+use Rattle.cwr_grammar.specs.RawParts.{RawParts, IsTransactionText}
+
+-- the lines at a place
+abbrev pub lines_at : List ℕ → Span → List (List ℕ)
+lines_at text p = lines (slice_range text p.start p.end)
+
+-- the transaction at a place
+abbrev pub raw_at : List ℕ → Span → RawParts
+raw_at text p = record { group = p.group; sequence = p.sequence; kind = p.kind; lines = lines_at text p }
+
+abbrev pub raws_at : List ℕ → List Span → List RawParts
+raws_at text spans = map (raw_at text) spans
+
+-- the place lies in the text
+pub record IsInside (text : List ℕ) (p : Span) : Type 0 where
+  pub forward : p.start ≤ p.end
+  pub within : p.end ≤ length text
+
+-- a transaction of a well-formed file stands there
+pub record IsSpan (text : List ℕ) (p : Span) : Type 0 where
+  pub inside : IsInside text p
+  pub whole : IsTransactionText (lines_at text p)
+
+-- the open transaction, which ends at a position
+abbrev pub closed : ℕ → Option Open → List Span
+closed at None = []
+closed at (Some o) = record { start = o.start; end = at; group = o.group; sequence = o.sequence; kind = o.kind } ∷ []
+
+-- what a line closes: a detail goes on with the open transaction, and any other line ends it
+abbrev pub closed_by : Role → ℕ → Option Open → List Span
+closed_by (Detail transaction place) at current = []
+closed_by _ at current = closed at current
+
+-- the open transaction after a line at a position, where a header opens the transaction t of group g
+abbrev pub opened_by : Role → ℕ → ℕ → ℕ → Option Open → Option Open
+opened_by (Detail transaction place) at g t current = current
+opened_by (TransactionHeader (Some kind) transaction place) at g t current = Some (record { start = at; group = g; sequence = t; kind = kind })
+opened_by _ at g t current = None

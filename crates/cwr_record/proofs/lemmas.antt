@@ -1,0 +1,4 @@
+pub mod Codes
+pub mod LineParts
+pub mod RoundTrip
+pub mod Spelled

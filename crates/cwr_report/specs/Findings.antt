@@ -1,0 +1,93 @@
+-- The findings of a file: each fault of each of its transactions, with where it stands and what was expected there.
+use Rattle.std.specs.Prelude.{ℕ, ◌+◌, ◌*◌, ◌==◌, List, [], ◌∷◌, ◌++◌, length, map, Option, Some, None, if◌then◌else◌}
+use Rattle.cwr_field.specs.Iswc.{check_digit}
+use Rattle.cwr_field.specs.Number.{number_of}
+use Rattle.cwr_record.specs.Columns.{field_at, work_head_iswc}
+use Rattle.cwr_record.specs.RecordTypes.{type_of}
+use Rattle.cwr_record.specs.declared.columns.Column.{Column}
+use Rattle.cwr_record.specs.declared.record_type.RecordType.{RecordType}
+use Rattle.cwr_record.specs.declared.record_type.RecordType.TheVariants.{Spt}
+use Rattle.cwr_grammar.specs.RawParts.{RawParts}
+use Rattle.cwr_call.specs.declared.transaction_fault.Fault.{Fault}
+use Rattle.cwr_rules.specs.declared.added.AddedShares.{AddedShares}
+use Rattle.cwr_rules.specs.declared.added.Over.{Over}
+use Rattle.cwr_rules.specs.Added.{details_of, first_over}
+use Rattle.cwr_rules.specs.Totals.{ownership}
+use Rattle.cwr_check.specs.CheckText.{faults_in}
+use Rattle.cwr_report.specs.declared.latest.Latest.{Latest}
+use Rattle.cwr_report.specs.declared.finding.Finding.{Finding}
+use Rattle.cwr_report.specs.declared.finding.Expected.{Expected}
+use Rattle.cwr_report.specs.declared.finding.Expected.TheVariants.{Rule, FollowerOf, CheckDigit, Party, Ownership, Collection}
+use Rattle.cwr_report.specs.Fields.{fields_of}
+use Rattle.cwr_report.specs.Latest.{latest_of}
+use Rattle.cwr_report.specs.Walks.{line_at, lines_before}
+
+-- what the shares of a transaction add up to
+abbrev pub added_in : RawParts → AddedShares
+added_in t = record { ownership = ownership (details_of t); over = first_over (details_of t) }
+
+-- the nine digits of a work code, behind its T
+abbrev pub iswc_digits : Column
+iswc_digits = record { start = work_head_iswc.start + 1; width = 9 }
+
+abbrev pub digit_expected : Option ℕ → Expected
+digit_expected None = Rule
+digit_expected (Some digits) = CheckDigit (check_digit digits)
+
+-- the party of the last SPU for an SPT, and that of the last SWR for an SWT
+abbrev pub party_expected : RecordType → Latest → Expected
+party_expected Spt latest = Party latest.publisher
+party_expected _ latest = Party latest.writer
+
+abbrev pub collection_expected : Option Over → Expected
+collection_expected None = Rule
+collection_expected (Some over) = Collection over
+
+-- what the rule with this number asks for in a line, after what stood before, in a transaction that adds up to this
+abbrev pub expected_of : ℕ → List ℕ → Latest → AddedShares → Expected
+expected_of number line latest added =
+    if number == 1 then FollowerOf latest.leading
+    else if number == 4 then digit_expected (number_of (field_at line iswc_digits))
+    else if number == 8 then party_expected (type_of line) latest
+    else if number == 11 then Ownership added.ownership.performing
+    else if number == 12 then Ownership added.ownership.mechanical
+    else if number == 13 then Ownership added.ownership.synchronization
+    else if number == 15 then collection_expected added.over
+    else Rule
+
+-- of a fault in this line, of a transaction that begins in the line `first` of the file
+abbrev pub finding_at : ℕ → ℕ → ℕ → Fault → List ℕ → Latest → AddedShares → Finding
+finding_at group transaction first fault line latest added = record {
+  group = group;
+  transaction = transaction;
+  fault = fault;
+  line = first + fault.sequence;
+  fields = fields_of fault.number line;
+  expected = expected_of fault.number line latest added;
+}
+
+-- of a fault of a transaction that begins in the line `first` of the file
+abbrev pub finding_of : ℕ → RawParts → Fault → Finding
+finding_of first t fault =
+    finding_at
+    t.group
+    t.sequence
+    first
+    fault
+    (line_at t.lines fault.sequence)
+    (latest_of (lines_before t.lines fault.sequence))
+    (added_in t)
+
+-- The line of the file where a transaction begins, after so many lines of transactions: HDR, a GRH for its group and a
+-- GRH and a GRT for each group before stand before it too.
+abbrev pub first_line : ℕ → RawParts → ℕ
+first_line n t = 2 * t.group + n + 1
+
+-- of each fault of a transaction, in order
+abbrev pub findings_in : List ℕ → ℕ → RawParts → List Finding
+findings_in submitter first t = map (finding_of first t) (faults_in submitter t)
+
+-- of each fault of each transaction, in order, after so many lines of transactions
+abbrev pub findings_after : List ℕ → ℕ → List RawParts → List Finding
+findings_after submitter n [] = []
+findings_after submitter n (t ∷ ts) = findings_in submitter (first_line n t) t ++ findings_after submitter (n + length t.lines) ts

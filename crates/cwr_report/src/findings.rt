@@ -1,0 +1,118 @@
+ghost use Rattle.std.specs.Prelude.{◌≡◌, ◌+◌, ◌*◌, ◌<◌, ◌^◌, ◌++◌, length, map, IsTrue, IfOk, OnOk};
+ghost use Rattle.std.specs.List.{AllByRecursion};
+ghost use Rattle.cwr_call.specs.Lawful.{is_clean};
+ghost use Rattle.cwr_grammar.specs.RawParts.{IsPlaced, lines_in};
+ghost use Rattle.cwr_check.specs.CheckText.{has_faults, faulty_count};
+ghost use Rattle.cwr_report.specs.Findings.{added_in, findings_in, findings_after, first_line, finding_of};
+ghost use Rattle.cwr_report.specs.Walks.{IsWalk};
+
+use crate::expected::expected_of;
+use crate::fields::fields_of;
+use crate::finding::Finding;
+use crate::walk::Walk;
+use cwr_call::Fault;
+use cwr_field::Memory;
+use cwr_grammar::{Lines, RawTransaction, Transactions};
+use cwr_rules::{AddedShares, added_shares, judge};
+use std::alloc::Allocator;
+
+/// Appends the findings of the transactions of a file, in order. Answers how many of the transactions have faults.
+pub(crate) fn push_findings<A: Allocator + Copy>(
+    alloc: A,
+    findings: &mut Vec<Finding, A>,
+    submitter: [u8; 11],
+    transactions: &Transactions<A>,
+) -> Result<u64, Memory>
+    requires clean { IsTrue (is_clean submitter) }
+    requires placed { AllByRecursion IsPlaced transactions.now }
+    requires few { lines_in transactions.now < 2 ^ 62 }
+    ensures findings { OnOk result (findings.new.items ≡ findings.old.items ++ findings_after submitter 0 transactions.now) }
+    ensures faulty { IfOk result (λ faulty. faulty ≡ faulty_count submitter transactions.now) }
+{
+    let mut faulty = 0;
+    let mut lines = 0;
+    for transaction in transactions {
+        if push_findings_in(alloc, findings, submitter, &transaction, lines)? {
+            faulty += 1;
+        }
+        lines += line_count(transaction.lines());
+    }
+    Ok(faulty)
+}
+
+/// How many lines there are.
+fn line_count(lines: Lines) -> u64
+    requires { length lines < 2 ^ 62 }
+    ensures { result ≡ length lines.entry }
+{
+    lines.count() as u64
+}
+
+/// Appends the findings of a transaction, in order, and answers whether it has any. So many lines of transactions stand
+/// before it.
+fn push_findings_in<A: Allocator + Copy>(
+    alloc: A,
+    findings: &mut Vec<Finding, A>,
+    submitter: [u8; 11],
+    transaction: &RawTransaction,
+    lines: u64,
+) -> Result<bool, Memory>
+    requires clean { IsTrue (is_clean submitter) }
+    requires placed { IsPlaced transaction.now }
+    requires few { lines < 2 ^ 62 }
+    ensures findings { OnOk result (findings.new.items ≡ findings.old.items ++ findings_in submitter (first_line lines transaction.now) transaction.now) }
+    ensures faulty { IfOk result (λ faulty. faulty ≡ has_faults submitter transaction.now) }
+{
+    let call = judge(alloc, transaction, submitter)?;
+    if call.faults().is_empty() {
+        return Ok(false);
+    }
+    let first = 2 * transaction.group() as u64 + lines + 1;
+    let added = added_shares(alloc, transaction)?;
+    push_findings_of(findings, call.faults(), transaction, first, &added)?;
+    Ok(true)
+}
+
+/// Appends the findings of faults of a transaction.
+fn push_findings_of<A: Allocator>(
+    findings: &mut Vec<Finding, A>,
+    faults: &[Fault],
+    transaction: &RawTransaction,
+    first: u64,
+    added: &AddedShares,
+) -> Result<(), Memory>
+    requires added { added.now ≡ added_in transaction.now }
+    requires few { first < 2 ^ 63 }
+    ensures { OnOk result (findings.new.items ≡ findings.old.items ++ map (finding_of first transaction.now) faults.now) }
+{
+    let mut walk = Walk::new(transaction.lines());
+    for fault in faults {
+        walk.go_to(transaction.lines(), fault.sequence as u64);
+        findings.push(finding_at(transaction, first, fault, &walk, added))?;
+    }
+    Ok(())
+}
+
+/// The finding of a fault, where the walk has gone to its line.
+fn finding_at(
+    transaction: &RawTransaction,
+    first: u64,
+    fault: &Fault,
+    walk: &Walk,
+    added: &AddedShares,
+) -> Finding
+    requires walk { IsWalk walk.now transaction.now.lines fault.now.sequence }
+    requires added { added.now ≡ added_in transaction.now }
+    requires few { first < 2 ^ 63 }
+    ensures { result ≡ finding_of first transaction.now fault.now }
+{
+    let line = walk.line();
+    Finding {
+        group: transaction.group(),
+        transaction: transaction.sequence(),
+        fault: *fault,
+        line: first + fault.sequence as u64,
+        fields: fields_of(fault.number, line),
+        expected: expected_of(fault.number, line, &walk.latest, added),
+    }
+}

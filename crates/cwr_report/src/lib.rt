@@ -1,0 +1,24 @@
+//! What a check of a submission file tells a person: where each fault stands, what stands there, and what was expected.
+#![tactic(auto)]
+
+mod expected;
+mod fields;
+mod file_finding;
+mod finding;
+mod findings;
+mod latest;
+mod long_lines;
+mod reporting;
+mod telling;
+mod walk;
+mod words;
+
+pub use cwr_call::Fault;
+pub use cwr_check::Checked;
+pub use cwr_field::Memory;
+pub use cwr_record::Column;
+pub use cwr_rules::{Over, Totals};
+pub use file_finding::FileFinding;
+pub use finding::{Expected, FieldName, Finding, Spot};
+pub use reporting::{Report, report_on};
+pub use telling::{check_long, long_text};

@@ -1,0 +1,248 @@
+ghost use Rattle.std.specs.Prelude.{◌≡◌, ◌++◌, map, OnOk};
+ghost use Rattle.std.specs.Fmt.{decimal};
+ghost use Rattle.cwr_report.specs.LongText.{shown, stands_at, spot_text, spots_text, percent_text, after_text, digit_text, party_text, ownership_text, collection_text, collected_text, wanted_text, expected_text, record_text, transaction_text, message_of, broken_text, told_of};
+
+use crate::finding::{Expected, Finding, Spot};
+use crate::words::{followers_text, name_text, rule_text};
+use cwr_acknowledgement::message_text;
+use cwr_field::{Memory, put_digits};
+use cwr_record::Column;
+use cwr_rules::{Over, Totals};
+use itoa::Buffer;
+use std::alloc::Allocator;
+
+/// Appends what is told of a fault in a line.
+pub(crate) fn put_finding<A: Allocator>(
+    out: &mut Vec<u8, A>,
+    line: &[u8],
+    finding: &Finding,
+) -> Result<(), Memory>
+    ensures { OnOk result (out.new.items ≡ out.old.items ++ told_of line.now finding.now) }
+{
+    put_record(out, finding)?;
+    put_transaction(out, finding)?;
+    put_broken(out, finding.fault.number)?;
+    put_spots(out, line, &finding.fields)?;
+    put_expected(out, finding.fault.number, &finding.expected)?;
+    Ok(())
+}
+
+/// Appends the line and the record in which the fault is.
+fn put_record<A: Allocator>(out: &mut Vec<u8, A>, finding: &Finding) -> Result<(), Memory>
+    ensures { OnOk result (out.new.items ≡ out.old.items ++ record_text finding.now) }
+{
+    out.extend_from_slice(b"line ")?;
+    put_decimal(out, finding.line)?;
+    out.extend_from_slice(b": ")?;
+    out.extend_from_slice(&finding.fault.rtype)?;
+    out.extend_from_slice(b" ")?;
+    put_decimal(out, finding.fault.sequence as u64)?;
+    Ok(())
+}
+
+/// Appends its transaction.
+fn put_transaction<A: Allocator>(out: &mut Vec<u8, A>, finding: &Finding) -> Result<(), Memory>
+    ensures { OnOk result (out.new.items ≡ out.old.items ++ transaction_text finding.now) }
+{
+    out.extend_from_slice(b" of transaction ")?;
+    put_decimal(out, finding.transaction as u64)?;
+    out.extend_from_slice(b" in group ")?;
+    put_decimal(out, finding.group as u64)?;
+    Ok(())
+}
+
+/// Appends the rule's number and text.
+fn put_broken<A: Allocator>(out: &mut Vec<u8, A>, number: u8) -> Result<(), Memory>
+    ensures { OnOk result (out.new.items ≡ out.old.items ++ broken_text number) }
+{
+    out.extend_from_slice(b": J")?;
+    put_decimal(out, number as u64)?;
+    out.extend_from_slice(b" ")?;
+    out.extend_from_slice(message_of(number))?;
+    out.extend_from_slice(b"\n")?;
+    Ok(())
+}
+
+fn message_of(number: u8) -> &'static [u8]
+    ensures { result.now ≡ message_of number }
+{
+    if 1 <= number && number <= 15 {
+        message_text(number)
+    } else {
+        b""
+    }
+}
+
+fn put_spots<A: Allocator>(
+    out: &mut Vec<u8, A>,
+    line: &[u8],
+    spots: &[Option<Spot>],
+) -> Result<(), Memory>
+    ensures { OnOk result (out.new.items ≡ out.old.items ++ spots_text line.now spots.now) }
+{
+    for spot in spots {
+        put_spot(out, line, spot)?;
+    }
+    Ok(())
+}
+
+/// Appends a field: its name, where it stands, and what stands there.
+fn put_spot<A: Allocator>(
+    out: &mut Vec<u8, A>,
+    line: &[u8],
+    spot: &Option<Spot>,
+) -> Result<(), Memory>
+    ensures { OnOk result (out.new.items ≡ out.old.items ++ spot_text line.now spot.now) }
+{
+    let Some(spot) = *spot else {
+        return Ok(());
+    };
+    out.extend_from_slice(b"  ")?;
+    out.extend_from_slice(name_text(spot.name))?;
+    out.extend_from_slice(b", start ")?;
+    put_decimal(out, spot.column.start as u64)?;
+    out.extend_from_slice(b", length ")?;
+    put_decimal(out, spot.column.width as u64)?;
+    out.extend_from_slice(b": \"")?;
+    put_shown(out, stands_at(line, spot.column))?;
+    out.extend_from_slice(b"\"\n")?;
+    Ok(())
+}
+
+/// The bytes that a line has in a column.
+fn stands_at(line: &[u8], column: Column) -> &[u8]
+    ensures { result.now ≡ stands_at line.now column }
+{
+    let rest = line.get(column.start.saturating_sub(1)..).unwrap_or(&[]);
+    rest.get(..column.width).unwrap_or(rest)
+}
+
+/// Appends bytes, with a question mark for each below 32 and each 127.
+fn put_shown<A: Allocator>(out: &mut Vec<u8, A>, bytes: &[u8]) -> Result<(), Memory>
+    ensures { OnOk result (out.new.items ≡ out.old.items ++ map shown bytes.now) }
+{
+    for byte in bytes {
+        out.push(shown(*byte))?;
+    }
+    Ok(())
+}
+
+fn shown(byte: u8) -> u8
+    ensures { result ≡ shown byte }
+{
+    if byte < 32 || byte == 127 { b'?' } else { byte }
+}
+
+/// Appends what the rule with this number asked for.
+fn put_expected<A: Allocator>(
+    out: &mut Vec<u8, A>,
+    number: u8,
+    expected: &Expected,
+) -> Result<(), Memory>
+    ensures { OnOk result (out.new.items ≡ out.old.items ++ expected_text number expected.now) }
+{
+    out.extend_from_slice(b"  expected: ")?;
+    put_wanted(out, number, expected)?;
+    out.extend_from_slice(b"\n")?;
+    Ok(())
+}
+
+fn put_wanted<A: Allocator>(
+    out: &mut Vec<u8, A>,
+    number: u8,
+    expected: &Expected,
+) -> Result<(), Memory>
+    ensures { OnOk result (out.new.items ≡ out.old.items ++ wanted_text number expected.now) }
+{
+    match *expected {
+        Expected::Rule => put_text(out, rule_text(number)),
+        Expected::FollowerOf(leading) => put_followers(out, leading),
+        Expected::CheckDigit(digit) => put_digit(out, digit),
+        Expected::Party(party) => put_party(out, party),
+        Expected::Ownership(total) => put_ownership(out, total),
+        Expected::Collection(over) => put_collection(out, over),
+    }
+}
+
+fn put_text<A: Allocator>(out: &mut Vec<u8, A>, text: &[u8]) -> Result<(), Memory>
+    ensures { OnOk result (out.new.items ≡ out.old.items ++ text.now) }
+{
+    out.extend_from_slice(text)?;
+    Ok(())
+}
+
+fn put_followers<A: Allocator>(out: &mut Vec<u8, A>, leading: [u8; 3]) -> Result<(), Memory>
+    ensures { OnOk result (out.new.items ≡ out.old.items ++ after_text leading) }
+{
+    out.extend_from_slice(b"after ")?;
+    out.extend_from_slice(&leading)?;
+    out.extend_from_slice(b": ")?;
+    out.extend_from_slice(followers_text(leading))?;
+    Ok(())
+}
+
+fn put_digit<A: Allocator>(out: &mut Vec<u8, A>, digit: u8) -> Result<(), Memory>
+    ensures { OnOk result (out.new.items ≡ out.old.items ++ digit_text digit) }
+{
+    out.extend_from_slice(b"T, these nine digits and their check digit ")?;
+    put_decimal(out, digit as u64)?;
+    Ok(())
+}
+
+fn put_party<A: Allocator>(out: &mut Vec<u8, A>, party: [u8; 9]) -> Result<(), Memory>
+    ensures { OnOk result (out.new.items ≡ out.old.items ++ party_text party) }
+{
+    out.extend_from_slice(b"\"")?;
+    out.extend_from_slice(&party)?;
+    out.extend_from_slice(b"\"")?;
+    Ok(())
+}
+
+fn put_ownership<A: Allocator>(out: &mut Vec<u8, A>, total: u64) -> Result<(), Memory>
+    ensures { OnOk result (out.new.items ≡ out.old.items ++ ownership_text total) }
+{
+    out.extend_from_slice(b"0, or from 99.94 to 100.06 per cent; the shares add up to ")?;
+    put_percent(out, total)?;
+    Ok(())
+}
+
+fn put_collection<A: Allocator>(out: &mut Vec<u8, A>, over: Over) -> Result<(), Memory>
+    ensures { OnOk result (out.new.items ≡ out.old.items ++ collection_text over) }
+{
+    out.extend_from_slice(b"at most 100.06 per cent; in territory ")?;
+    put_decimal(out, over.territory as u64)?;
+    out.extend_from_slice(b" the shares add up to ")?;
+    put_collected(out, over.totals)?;
+    Ok(())
+}
+
+fn put_collected<A: Allocator>(out: &mut Vec<u8, A>, totals: Totals) -> Result<(), Memory>
+    ensures { OnOk result (out.new.items ≡ out.old.items ++ collected_text totals) }
+{
+    out.extend_from_slice(b"PR ")?;
+    put_percent(out, totals.performing)?;
+    out.extend_from_slice(b", MR ")?;
+    put_percent(out, totals.mechanical)?;
+    out.extend_from_slice(b", SR ")?;
+    put_percent(out, totals.synchronization)?;
+    Ok(())
+}
+
+/// Appends hundredths of one per cent in per cent, with two places.
+fn put_percent<A: Allocator>(out: &mut Vec<u8, A>, hundredths: u64) -> Result<(), Memory>
+    ensures { OnOk result (out.new.items ≡ out.old.items ++ percent_text hundredths) }
+{
+    put_decimal(out, hundredths / 100)?;
+    out.extend_from_slice(b".")?;
+    put_digits(out, hundredths % 100, 2)?;
+    Ok(())
+}
+
+/// Appends a number without leading zeros.
+pub(crate) fn put_decimal<A: Allocator>(out: &mut Vec<u8, A>, number: u64) -> Result<(), Memory>
+    ensures { OnOk result (out.new.items ≡ out.old.items ++ decimal number) }
+{
+    let mut digits = Buffer::new();
+    out.extend_from_slice(digits.format(number).as_bytes())?;
+    Ok(())
+}

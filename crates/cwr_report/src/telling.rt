@@ -1,0 +1,126 @@
+ghost use Rattle.std.specs.Prelude.{◌≡◌, ◌-◌, ◌++◌, IfOk, OnOk};
+ghost use Rattle.std.specs.List.{flat_map};
+ghost use Rattle.std.specs.Str.Lines.{lines};
+ghost use Rattle.cwr_check.specs.CheckText.{total_line};
+ghost use Rattle.cwr_report.specs.FileFindings.{file_text};
+ghost use Rattle.cwr_report.specs.LongText.{finding_text, long_text};
+ghost use Rattle.cwr_report.specs.Report.{report_text, IsLongCheck};
+ghost use Rattle.cwr_report.specs.Walks.{IsWalk};
+
+use crate::file_finding::FileFinding;
+use crate::finding::Finding;
+use crate::long_lines::{put_decimal, put_finding};
+use crate::reporting::{Report, report_on};
+use crate::walk::Walk;
+use cwr_check::Checked;
+use cwr_field::Memory;
+use cwr_grammar::Lines;
+use std::alloc::Allocator;
+
+/// Checks a file as `cwr_check::check_text` does, and tells a person what is wrong, where, and what was expected.
+///
+/// It is clean where `check_text` finds it so. Where memory is refused nothing is told.
+pub fn check_long<A: Allocator + Copy>(alloc: A, bytes: &[u8]) -> Result<Checked<A>, Memory>
+    ensures { IfOk result (λ checked. IsLongCheck (lines bytes.now) checked.text.items checked.clean) }
+{
+    let report = report_on(alloc, bytes)?;
+    let text = long_text(alloc, bytes, &report)?;
+    Ok(Checked {
+        text,
+        clean: report.refused.is_none() && report.faulty == 0,
+    })
+}
+
+/// What is told of a report to a person, with what stands in the file that it is a report on.
+///
+/// Each fault has a line with its place and its rule, a line for each field that breaks the rule, and a line with what
+/// was expected; a last line tells how many transactions have faults. Each line has LF at its end. Where memory is
+/// refused nothing is told.
+pub fn long_text<A: Allocator + Copy>(
+    alloc: A,
+    bytes: &[u8],
+    report: &Report<A>,
+) -> Result<Vec<u8, A>, Memory>
+    ensures { IfOk result (λ text. text.items ≡ report_text (lines bytes.now) report.now.findings.items report.now.transactions report.now.faulty report.now.refused) }
+{
+    let mut text = Vec::new(alloc);
+    match &report.refused {
+        Some(refused) => put_refused(&mut text, bytes, refused)?,
+        None => put_report(&mut text, bytes, report)?,
+    }
+    Ok(text)
+}
+
+/// Appends what is told of a file that is refused.
+fn put_refused<A: Allocator>(
+    out: &mut Vec<u8, A>,
+    bytes: &[u8],
+    refused: &FileFinding,
+) -> Result<(), Memory>
+    ensures { OnOk result (out.new.items ≡ out.old.items ++ file_text (lines bytes.now) refused.now) }
+{
+    out.extend_from_slice(b"refused F")?;
+    put_decimal(out, refused.number as u64)?;
+    out.extend_from_slice(b" at line ")?;
+    put_decimal(out, refused.line)?;
+    out.extend_from_slice(b"\n")?;
+    Ok(())
+}
+
+/// Appends what is told of a well-formed file.
+fn put_report<A: Allocator>(
+    out: &mut Vec<u8, A>,
+    bytes: &[u8],
+    report: &Report<A>,
+) -> Result<(), Memory>
+    ensures { OnOk result (out.new.items ≡ out.old.items ++ long_text (lines bytes.now) report.now.findings.items report.now.transactions report.now.faulty) }
+{
+    put_findings(out, bytes, &report.findings)?;
+    put_total(out, report.transactions, report.faulty)?;
+    Ok(())
+}
+
+/// Appends what is told of each fault. The lines of the file are gone over once where the faults are in their order.
+fn put_findings<A: Allocator>(
+    out: &mut Vec<u8, A>,
+    bytes: &[u8],
+    findings: &[Finding],
+) -> Result<(), Memory>
+    ensures { OnOk result (out.new.items ≡ out.old.items ++ flat_map (finding_text (lines bytes.now)) findings.now) }
+{
+    let mut walk = Walk::new(Lines::of(bytes));
+    for finding in findings {
+        walk.go_to(Lines::of(bytes), finding.line.saturating_sub(1));
+        put_finding_at(out, bytes, &walk, finding)?;
+    }
+    Ok(())
+}
+
+/// Appends what is told of a fault, where the walk has gone to its line.
+fn put_finding_at<A: Allocator>(
+    out: &mut Vec<u8, A>,
+    bytes: &[u8],
+    walk: &Walk,
+    finding: &Finding,
+) -> Result<(), Memory>
+    requires { IsWalk walk.now (lines bytes.now) (finding.now.line - 1) }
+    ensures { OnOk result (out.new.items ≡ out.old.items ++ finding_text (lines bytes.now) finding.now) }
+{
+    put_finding(out, walk.line(), finding)?;
+    Ok(())
+}
+
+/// Appends how many transactions a file has, and how many of them have faults.
+fn put_total<A: Allocator>(
+    out: &mut Vec<u8, A>,
+    transactions: u64,
+    faulty: u64,
+) -> Result<(), Memory>
+    ensures { OnOk result (out.new.items ≡ out.old.items ++ total_line transactions faulty) }
+{
+    put_decimal(out, transactions)?;
+    out.extend_from_slice(b" transactions, ")?;
+    put_decimal(out, faulty)?;
+    out.extend_from_slice(b" with faults\n")?;
+    Ok(())
+}

@@ -1,0 +1,79 @@
+ghost use Rattle.std.specs.Prelude.{◌≡◌, IfOk, nat_eq};
+ghost use Rattle.std.specs.HashMap.{get};
+ghost use Rattle.cwr_rules.specs.Added.{details_of, first_over};
+ghost use Rattle.cwr_rules.specs.Collected.{IsCollected};
+ghost use Rattle.cwr_rules.specs.Totals.{included, ownership};
+
+use crate::collected::Collected;
+use crate::reading::{parts, read_records};
+use crate::record::Record;
+use crate::summary::summary_of;
+use crate::totals::Totals;
+use cwr_field::Memory;
+use cwr_grammar::RawTransaction;
+use std::alloc::Allocator;
+
+/// What the shares of a transaction add up to, which the rules J11, J12, J13 and J15 look at.
+#[derive(Clone, Copy, Debug, PartialEq, Eq)]
+pub struct AddedShares {
+    /// The ownership shares of SPU, OPU, SWR and OWR.
+    pub ownership: Totals,
+    /// The first territory, in the order of the records, whose collection shares are in some right above 10006.
+    pub over: Option<Over>,
+}
+
+/// A territory in which more than the whole is collected.
+#[derive(Clone, Copy, Debug, PartialEq, Eq)]
+pub struct Over {
+    /// Its TIS code.
+    pub territory: u16,
+    /// The collection shares there, of the SPT and SWT with the indicator `I`.
+    pub totals: Totals,
+}
+
+/// What the shares of a transaction add up to.
+///
+/// Memory is asked for its records in short form, the parties of its publishers and the totals of its territories;
+/// where it is refused nothing is left.
+pub fn added_shares<A: Allocator + Copy>(
+    alloc: A,
+    transaction: &RawTransaction,
+) -> Result<AddedShares, Memory>
+    ensures ownership { IfOk result (λ added. added.ownership ≡ ownership (details_of transaction.now)) }
+    ensures over { IfOk result (λ added. added.over ≡ first_over (details_of transaction.now)) }
+{
+    let (_, details) = parts(transaction);
+    let records = read_records(alloc, details)?;
+    let summary = summary_of(alloc, &records)?;
+    Ok(AddedShares {
+        ownership: summary.sums.ownership,
+        over: first_over(&summary.collected, &records),
+    })
+}
+
+/// The first territory in which more than the whole is collected.
+fn first_over<A: Allocator + Copy>(collected: &Collected<A>, records: &[Record]) -> Option<Over>
+    requires { IsCollected (get nat_eq collected.now.by_code) collected.now.is_over records.now }
+    ensures { result ≡ first_over records.now }
+{
+    for detail in records {
+        let Some(territory) = included(detail) else {
+            continue;
+        };
+        let totals = collected.at(territory);
+        if totals.is_over() {
+            return Some(Over { territory, totals });
+        }
+    }
+    None
+}
+
+/// The TIS code of a territory that a record includes.
+fn included(detail: &Record) -> Option<u16>
+    ensures { result ≡ included detail.now }
+{
+    match *detail {
+        Record::Spt(_, _, territory) | Record::Swt(_, _, territory) => territory.included(),
+        _ => None,
+    }
+}

@@ -1,0 +1,3 @@
+pub mod Drafting
+pub mod Followers
+pub mod Slots

@@ -1,0 +1,13 @@
+use Rattle.std.proofs.Common.{rules}
+use Rattle.byte_streams.proofs.Sending.{rest_from}
+use Rattle.kept_file.proofs.Drafting.{Becomes-more}
+use Rattle.kept_file.proofs.keeping.write_draft.Goals as goal
+
+pub loop-sent-preserved : goal.loop-sent-preserved
+loop-sent-preserved g c = record {
+  within = search rules;
+  works = search rules;
+  went_out = Becomes-more _ _ _ _ _ _ c.loop-sent.invariant.went_out (rw rest_from at c.in-Ok.ensures.wrote);
+  any_moment = search rules;
+  after = search rules;
+}

@@ -1,0 +1,4 @@
+pub mod Names
+pub mod Looking
+pub mod Keeping
+pub mod Memory

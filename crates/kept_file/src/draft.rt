@@ -1,0 +1,130 @@
+//! Drafts in the file system.
+
+use crate::FileNames;
+use std::fs::{File, Metadata, OpenFile, OpenOptions};
+use std::io::ErrorKind;
+use std::os::unix::fs::{MetadataExt, OpenOptionsExt, chown};
+use std::rt::Files;
+use std::{fs, io};
+
+/// Who may read and write a draft until it has the permissions of the file that it is to replace: its owner.
+const OWNER_ALONE: u32 = 0o600;
+
+/// Whether a file is replaced by a draft: it is a regular file, or it is not there yet.
+///
+/// What is something else, as a device or a pipe, is written where it is.
+pub fn takes_draft<R: Files>(rt: &R, names: &FileNames) -> bool {
+    match fs::metadata(rt, names.name()) {
+        Ok(found) => found.is_file(),
+        Err(_) => true,
+    }
+}
+
+/// Opens what is to be written for a file: its draft, which is made anew; or the file itself, emptied, where that takes
+/// no draft.
+///
+/// A draft that is there already, as after a crash, is taken away first. The new one gets the permissions of the file
+/// that it is to replace, and its owner where the system lets it. A file that is there and may not be written is an
+/// error, although a draft could be made beside it.
+pub fn open_draft<R: Files>(rt: &R, names: &FileNames) -> io::Result<R::File> {
+    let Ok(old) = fs::metadata(rt, names.name()) else {
+        return new_draft(rt, names, File::options().write(true));
+    };
+    if !old.is_file() {
+        return fs::create(rt, names.name());
+    }
+    let _writable = File::options().write(true).open(rt, names.name())?;
+    let draft = new_draft(rt, names, File::options().write(true).mode(OWNER_ALONE))?;
+    take_owner(rt, names, &old);
+    take_permissions(&draft, &old)?;
+    Ok(draft)
+}
+
+/// Makes the draft anew. What a crash left under its name is taken away.
+fn new_draft<R: Files>(
+    rt: &R,
+    names: &FileNames,
+    options: &mut OpenOptions,
+) -> io::Result<R::File> {
+    remove_draft(rt, names);
+    options.create_new(true).open(rt, names.draft())
+}
+
+/// Gives the draft the owner of the old file, where that is another and the system lets it.
+fn take_owner<R: Files>(rt: &R, names: &FileNames, old: &Metadata) {
+    if let Ok(draft) = fs::metadata(rt, names.draft()) {
+        if draft.uid() != old.uid() || draft.gid() != old.gid() {
+            let _ = chown(rt, names.draft(), Some(old.uid()), Some(old.gid()));
+        }
+    }
+}
+
+/// Gives the draft the permissions of the old file, where the system knows of any.
+fn take_permissions<F: OpenFile>(draft: &F, old: &Metadata) -> io::Result<()> {
+    match draft.set_permissions(old.permissions()) {
+        Err(error) if error.kind() != ErrorKind::Unsupported => Err(error),
+        Ok(()) | Err(_) => Ok(()),
+    }
+}
+
+/// Takes the draft of a file away, where there is one and it can be taken away. A file that takes no draft has none.
+pub fn remove_draft<R: Files>(rt: &R, names: &FileNames) {
+    let _ = fs::remove_file(rt, names.draft());
+}
+
+/// Gives the draft of a file the file's name, in place of what lies there.
+pub fn name_draft<R: Files>(rt: &R, names: &FileNames) -> io::Result<()> {
+    fs::rename(rt, names.draft(), names.name())
+}
+
+/// Gives the draft of a file the file's name, where no file lies there; else it is an error.
+///
+/// Where the system has no second names for a file, an empty file holds the name until the draft has it.
+pub fn name_new_draft<R: Files>(rt: &R, names: &FileNames) -> io::Result<()> {
+    match fs::hard_link(rt, names.draft(), names.name()) {
+        Ok(()) => {
+            remove_draft(rt, names);
+            Ok(())
+        }
+        Err(error) if has_no_links(&error) => {
+            let _held = File::create_new(rt, names.name())?;
+            name_draft(rt, names)
+        }
+        Err(error) => Err(error),
+    }
+}
+
+/// Whether the system refuses any second name.
+fn has_no_links(error: &io::Error) -> bool {
+    matches!(
+        error.kind(),
+        ErrorKind::Unsupported | ErrorKind::PermissionDenied
+    )
+}
+
+/// Puts what an open file has on the disk, where it lies on one.
+pub fn sync_file<F: OpenFile>(file: &F) -> io::Result<()> {
+    match file.sync_all() {
+        Err(error) if !is_on_no_disk(&error) => Err(error),
+        Ok(()) | Err(_) => Ok(()),
+    }
+}
+
+/// Puts the names of a directory on the disk, where the system lets a directory be opened and put there.
+pub fn sync_directory<R: Files>(rt: &R, directory: &str) -> io::Result<()> {
+    match fs::open(rt, directory) {
+        Ok(opened) => sync_file(&opened),
+        Err(error) if error.kind() == ErrorKind::PermissionDenied || is_on_no_disk(&error) => Ok(
+            (),
+        ),
+        Err(error) => Err(error),
+    }
+}
+
+/// Whether the system says that this is nothing that it puts on a disk.
+fn is_on_no_disk(error: &io::Error) -> bool {
+    matches!(
+        error.kind(),
+        ErrorKind::InvalidInput | ErrorKind::Unsupported | ErrorKind::IsADirectory
+    )
+}

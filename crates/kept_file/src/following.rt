@@ -1,0 +1,37 @@
+//! The files that follow.
+
+ghost use Rattle.std.specs.Prelude.{◌≡◌, length, IfSome};
+ghost use Rattle.kept_file.specs.Names.{Names};
+ghost use Rattle.kept_file.specs.Looking.{Becomes, Stays, GoesOn};
+ghost use Rattle.kept_file.specs.Keeping.{SinceThen, Leads, MayFollow, AreFollowing};
+
+use crate::Place;
+
+/// Puts each follower in place. The file stays as it is.
+///
+/// A follower that could not be put in place is refused, which [`Place::is_refused`] tells; the others are in place, to
+/// stay.
+pub fn put_followers<P: Place>(place: &mut P)
+    // Whoever looks, and whenever, finds the file as it was, and each follower as it was or as its whole draft.
+    ensures any_moment { IfSome (P.told place.old) (λ s. SinceThen (P.found place.old) (P.found place.new) (λ c. (d : Names) × P.may_find place.old d × MayFollow s d c)) }
+    ensures after { IfSome (P.told place.old) (λ s. (c : Names) → P.may_find place.new c → (d : Names) × P.may_find place.old d × MayFollow s d c) }
+    // Each is in place, or it is told that it is not.
+    ensures each { Leads (λ s t. AreFollowing (length s.waiting) s t) (P.told place.old) (P.told place.new) }
+    ensures same { P.has_failed place.new ≡ P.has_failed place.old }
+{
+    for at in 0..place.followers() {
+        let _ = place.put_follower(at);
+    }
+}
+
+/// Takes the draft of each follower away, where there is one and it can be taken away.
+pub fn drop_followers<P: Place>(place: &mut P)
+    ensures told { Becomes (λ s. s) (P.told place.old) (P.told place.new) }
+    ensures now { Stays (P.may_find place.old) (P.may_find place.new) }
+    ensures time { SinceThen (P.found place.old) (P.found place.new) (P.may_find place.old) }
+    ensures same { P.has_failed place.new ≡ P.has_failed place.old }
+{
+    for at in 0..place.followers() {
+        place.drop_follower(at);
+    }
+}

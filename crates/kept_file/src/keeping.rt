@@ -1,0 +1,121 @@
+//! A text takes the place of a file, and then the drafts of the followers take theirs.
+
+ghost use Rattle.std.specs.Prelude.{◌≡◌, ◌≤◌, ◌⊎◌, Some, true, false, length, take, IfSome, IfErr, IsErr, OnOk};
+ghost use Rattle.kept_file.specs.Names.{Names, with_file, placing};
+ghost use Rattle.kept_file.specs.Looking.{Only, Becomes, MayBecome};
+ghost use Rattle.kept_file.specs.Keeping.{OldOrNew, FileFirst, SinceThen, Leads, MayFollow, AreFollowing};
+
+use crate::following::{drop_followers, put_followers};
+use crate::{CallFailed, NotKept, Place};
+
+/// Replaces the file under the name by this text, and then puts each follower in place.
+///
+/// At every moment, and after a crash at any moment, whoever looks under the names finds the old file or the whole
+/// text, and a new follower only where the text is. Where the text is not kept, the followers stay as they are, and
+/// their drafts are taken away.
+pub fn keep<P: Place>(place: &mut P, text: &[u8]) -> Result<(), NotKept>
+    requires works { P.has_failed place.old ≡ false }
+    // What lies under the names is on the disk.
+    requires settled { IfSome (P.told place.old) (λ s. Only s.names (P.may_find place.old)) }
+    // Whoever looks, and whenever, finds all as it was, or the whole text and each follower as it was or whole.
+    ensures any_moment { IfSome (P.told place.old) (λ s. SinceThen (P.found place.old) (P.found place.new) (FileFirst s.names text.now)) }
+    ensures whole { IfSome (P.told place.old) (λ s. SinceThen (P.found place.old) (P.found place.new) (λ c. (c ≡ s.names) ⊎ MayFollow s (with_file text.now s.names) c)) }
+    // At `Ok` the text is there, and no crash takes it away.
+    ensures kept { OnOk result (Leads (λ s t. t.names.file ≡ Some text.now) (P.told place.old) (P.told place.new)) }
+    ensures stays { OnOk result (IfSome (P.told place.old) (λ s. (c : Names) → P.may_find place.new c → c.file ≡ Some text.now)) }
+    // At `Ok` each follower is in place, or it is told that it is not; else none is.
+    ensures each { OnOk result (Leads (λ s t. AreFollowing (length s.waiting) (record s { names = with_file text.now s.names; draft = text.now }) t) (P.told place.old) (P.told place.new)) }
+    ensures withheld { IsErr result → IfSome (P.told place.old) (λ s. SinceThen (P.found place.old) (P.found place.new) (λ c. c.followers ≡ s.names.followers)) }
+    // Of a text that was not kept, just so many bytes went into the draft. It does not give up by itself.
+    ensures few { IfErr result (λ e. e.sent ≤ length text.now) }
+    ensures sent { IfErr result (λ e. Leads (λ s t. t.draft ≡ take e.sent text.now) (P.told place.old) (P.told place.new)) }
+    ensures failed { IsErr result → P.has_failed place.new ≡ true }
+{
+    match replace(place, text) {
+        Ok(()) => {
+            put_followers(place);
+            Ok(())
+        }
+        Err(stopped) => {
+            drop_followers(place);
+            Err(stopped)
+        }
+    }
+}
+
+/// Replaces the file under the name by this text. The followers stay as they are.
+///
+/// At every moment, and after a crash at any moment, whoever looks under the name finds the old file or the whole text.
+pub fn replace<P: Place>(place: &mut P, text: &[u8]) -> Result<(), NotKept>
+    requires works { P.has_failed place.old ≡ false }
+    // What lies under the names is on the disk.
+    requires settled { IfSome (P.told place.old) (λ s. Only s.names (P.may_find place.old)) }
+    // Whoever looks, and whenever, finds the old file or the new one, each whole.
+    ensures any_moment { IfSome (P.told place.old) (λ s. SinceThen (P.found place.old) (P.found place.new) (OldOrNew s.names text.now)) }
+    ensures after { IfSome (P.told place.old) (λ s. (c : Names) → P.may_find place.new c → OldOrNew s.names text.now c) }
+    // At `Ok` the new one is there, and no crash takes it away.
+    ensures kept { OnOk result (Leads (λ s t. t ≡ record s { names = with_file text.now s.names; draft = text.now }) (P.told place.old) (P.told place.new)) }
+    ensures stays { OnOk result (IfSome (P.told place.old) (λ s. (c : Names) → P.may_find place.new c → c.file ≡ Some text.now)) }
+    ensures went_on { OnOk result (P.has_failed place.new ≡ false) }
+    // Of a text that was not kept, just so many bytes went into the draft. It does not give up by itself.
+    ensures few { IfErr result (λ e. e.sent ≤ length text.now) }
+    ensures sent { IfErr result (λ e. Leads (λ s t. t.draft ≡ take e.sent text.now) (P.told place.old) (P.told place.new)) }
+    ensures failed { IsErr result → P.has_failed place.new ≡ true }
+{
+    if let Err(stopped) = write_draft(place, text) {
+        place.drop_draft();
+        return Err(stopped);
+    }
+    match place_draft(place, text) {
+        Ok(()) => Ok(()),
+        Err(CallFailed) => {
+            place.drop_draft();
+            Err(NotKept {
+                sent: text.len() as u64,
+            })
+        }
+    }
+}
+
+/// Makes the draft anew, of this text.
+fn write_draft<P: Place>(place: &mut P, text: &[u8]) -> Result<(), NotKept>
+    requires works { P.has_failed place.old ≡ false }
+    requires settled { IfSome (P.told place.old) (λ s. Only s.names (P.may_find place.old)) }
+    ensures any_moment { IfSome (P.told place.old) (λ s. SinceThen (P.found place.old) (P.found place.new) (λ c. c ≡ s.names)) }
+    ensures after { IfSome (P.told place.old) (λ s. Only s.names (P.may_find place.new)) }
+    ensures whole { OnOk result (Becomes (λ s. record s { draft = text.now }) (P.told place.old) (P.told place.new)) }
+    ensures went_on { OnOk result (P.has_failed place.new ≡ false) }
+    ensures few { IfErr result (λ e. e.sent ≤ length text.now) }
+    ensures sent { IfErr result (λ e. Becomes (λ s. record s { draft = take e.sent text.now }) (P.told place.old) (P.told place.new)) }
+    ensures failed { IsErr result → P.has_failed place.new ≡ true }
+{
+    if let Err(CallFailed) = place.begin_draft() {
+        return Err(NotKept { sent: 0 });
+    }
+    let mut sent = 0;
+    while sent < text.len() {
+        match place.write_some(&text[sent..]) {
+            Ok(0) | Err(_) => return Err(NotKept { sent: sent as u64 }),
+            Ok(n) => sent += n,
+        }
+    }
+    Ok(())
+}
+
+/// Puts a whole draft in the place of the file. A draft that is not on the disk gets no name.
+fn place_draft<P: Place>(place: &mut P, text: &[u8]) -> Result<(), CallFailed>
+    requires draft { IfSome (P.told place.old) (λ s. s.draft ≡ text.now) }
+    requires works { P.has_failed place.old ≡ false }
+    requires settled { IfSome (P.told place.old) (λ s. Only s.names (P.may_find place.old)) }
+    ensures any_moment { IfSome (P.told place.old) (λ s. SinceThen (P.found place.old) (P.found place.new) (OldOrNew s.names text.now)) }
+    ensures after { IfSome (P.told place.old) (λ s. (c : Names) → P.may_find place.new c → OldOrNew s.names text.now c) }
+    ensures told { MayBecome placing (P.told place.old) (P.told place.new) }
+    ensures kept { OnOk result (Becomes placing (P.told place.old) (P.told place.new)) }
+    ensures stays { OnOk result (IfSome (P.told place.old) (λ s. (c : Names) → P.may_find place.new c → c.file ≡ Some text.now)) }
+    ensures went_on { OnOk result (P.has_failed place.new ≡ false) }
+    ensures failed { IsErr result → P.has_failed place.new ≡ true }
+{
+    place.sync_draft()?;
+    place.put_in_place()?;
+    place.sync_name()
+}

@@ -1,0 +1,356 @@
+ghost use Rattle.std.specs.Prelude.{◌<◌, slice_set, ◌≡◌, ◌⊎◌, ◌↔◌, is_err, ◌++◌, ◌∷◌, [], Some, None, true, false, map, length, get_or, IfSome, MatchOption, IsTrue};
+ghost use Rattle.kept_file.specs.Names.{Names, State, with_file};
+ghost use Rattle.kept_file.specs.Looking.{Only};
+ghost use Rattle.kept_file.specs.Keeping.{follower};
+ghost use Rattle.kept_file.specs.Memory.{lying, lies, draft_of, names_of, state_of, may_be, had_been};
+
+use crate::{CallFailed, Place};
+use std::alloc::{Allocator, Global};
+use std::mem;
+use std::snapshot::Snapshot;
+
+/// A name in memory: the file under it, and a draft.
+#[derive(Drop)]
+pub struct MemoryFile<A: Allocator = Global> {
+    /// What lies under the name until the draft has it.
+    earlier: Option<Vec<u8, A>>,
+    /// The bytes of the draft, also after it has the name, and after it was taken away.
+    draft: Vec<u8, A>,
+    has_draft: bool,
+    /// Whether the draft has the name.
+    is_placed: bool,
+    /// Whether the draft could not be put in place.
+    is_refused: bool,
+}
+
+impl<A: Allocator> MemoryFile<A> {
+    /// A name with this file under it, or none, and a draft of these bytes.
+    pub fn new(file: Option<Vec<u8, A>>, draft: Vec<u8, A>) -> MemoryFile<A>
+        ensures file { lies result ≡ lying file }
+        ensures draft { draft_of result ≡ draft.items }
+        ensures waits { result.is_refused ≡ false }
+    {
+        MemoryFile {
+            earlier: file,
+            draft,
+            has_draft: true,
+            is_placed: false,
+            is_refused: false,
+        }
+    }
+
+    /// The file under the name.
+    fn bytes(&self) -> Option<&[u8]>
+        ensures { MatchOption result (lies self.now ≡ None) (λ bytes. lies self.now ≡ Some bytes.now) }
+    {
+        if self.is_placed {
+            return Some(self.draft.as_slice());
+        }
+        match &self.earlier {
+            Some(earlier) => Some(earlier.as_slice()),
+            None => None,
+        }
+    }
+
+    /// Makes the draft anew, with no byte in it.
+    fn begin(&mut self, alloc: A)
+        ensures file { lies self.new ≡ lies self.old }
+        ensures kept { lying self.new.earlier ≡ lies self.old }
+        ensures draft { self.new.draft.items ≡ [] }
+        ensures free { self.new.is_placed ≡ false }
+    {
+        let draft = mem::replace(&mut self.draft, Vec::new(alloc));
+        if self.is_placed {
+            self.earlier = Some(draft);
+            self.is_placed = false;
+        }
+        self.has_draft = true;
+    }
+}
+
+/// What can be found: a file, and those that follow it.
+#[derive(Drop)]
+struct Shelf<A: Allocator> {
+    file: MemoryFile<A>,
+    followers: Vec<MemoryFile<A>, A>,
+    /// Whether the file's name is on the disk.
+    is_settled: bool,
+}
+
+impl<A: Allocator> Shelf<A> {
+    /// Gives the draft of the file its name.
+    fn place_file(&mut self)
+        ensures names { names_of self.new ≡ with_file self.old.file.draft.items (names_of self.old) }
+        ensures now { (c : Names) → may_be self.new c → may_be self.old c ⊎ (c ≡ with_file self.old.file.draft.items (names_of self.old)) }
+        ensures draft { self.new.file.draft ≡ self.old.file.draft }
+        ensures followers { self.new.followers ≡ self.old.followers }
+    {
+        if !self.file.is_placed {
+            self.file.is_placed = true;
+            self.is_settled = false;
+        }
+        self.file.has_draft = false;
+    }
+
+    /// Gives the draft of a follower its name.
+    fn place_follower(&mut self, at: usize)
+        requires { at < length self.old.followers.items }
+        ensures names { map lies self.new.followers.items ≡ slice_set (map lies self.old.followers.items) at (Some (get_or (map draft_of self.old.followers.items) at [])) }
+        ensures drafts { map draft_of self.new.followers.items ≡ map draft_of self.old.followers.items }
+        ensures refused { map (λ follower. follower.is_refused) self.new.followers.items ≡ map (λ follower. follower.is_refused) self.old.followers.items }
+        ensures same { self.new ≡ record self.old { followers = self.new.followers } }
+    {
+        let slot = &mut self.followers[at];
+        slot.is_placed = true;
+        slot.has_draft = false;
+    }
+
+    /// Keeps in mind that the draft of a follower could not be put in place.
+    fn refuse_follower(&mut self, at: usize)
+        requires { at < length self.old.followers.items }
+        ensures names { map lies self.new.followers.items ≡ map lies self.old.followers.items }
+        ensures drafts { map draft_of self.new.followers.items ≡ map draft_of self.old.followers.items }
+        ensures refused { map (λ follower. follower.is_refused) self.new.followers.items ≡ slice_set (map (λ follower. follower.is_refused) self.old.followers.items) at true }
+        ensures same { self.new ≡ record self.old { followers = self.new.followers } }
+    {
+        self.followers[at].is_refused = true;
+    }
+
+    /// Takes the draft of a follower away.
+    fn drop_follower(&mut self, at: usize)
+        requires { at < length self.old.followers.items }
+        ensures names { map lies self.new.followers.items ≡ map lies self.old.followers.items }
+        ensures drafts { map draft_of self.new.followers.items ≡ map draft_of self.old.followers.items }
+        ensures refused { map (λ follower. follower.is_refused) self.new.followers.items ≡ map (λ follower. follower.is_refused) self.old.followers.items }
+        ensures same { self.new ≡ record self.old { followers = self.new.followers } }
+    {
+        self.followers[at].has_draft = false;
+    }
+}
+
+/// What could be found at earlier moments, for contracts alone.
+#[derive(Drop)]
+enum Past<A: Allocator> {
+    Begun,
+    After(Snapshot<Shelf<A>>, Snapshot<Past<A>>),
+}
+
+/// A place in memory, which tells its bytes. It fails at one of its calls, where that is asked for.
+///
+/// A crash undoes a name that is not on the disk; all else it leaves as it is.
+#[derive(Drop)]
+pub struct MemoryPlace<A: Allocator + Copy = Global> {
+    alloc: A,
+    shelf: Shelf<A>,
+    /// Whether the draft is on the disk.
+    is_synced: bool,
+    /// How many bytes a write takes at most.
+    piece: usize,
+    /// How many calls succeed before one fails.
+    good_calls: Option<u64>,
+    failed: bool,
+    past: Past<A>,
+}
+
+impl<A: Allocator + Copy> MemoryPlace<A> {
+    /// A place with this file, or none, and these followers. A write takes at most `piece` bytes; after `good_calls`
+    /// calls one fails, or none for `None`.
+    pub fn new(
+        alloc: A,
+        file: Option<Vec<u8, A>>,
+        followers: Vec<MemoryFile<A>, A>,
+        piece: usize,
+        good_calls: Option<u64>,
+    ) -> MemoryPlace<A>
+        ensures told { ⟦<MemoryPlace<A> as Place>⟧.told result ≡ Some (record {
+          names = record { file = lying file; followers = map lies followers.items };
+          draft = [];
+          waiting = map draft_of followers.items;
+          refused = map (λ follower. follower.is_refused) followers.items;
+        }) }
+        ensures settled { Only (record { file = lying file; followers = map lies followers.items }) (⟦<MemoryPlace<A> as Place>⟧.may_find result) }
+        ensures begun { Only (record { file = lying file; followers = map lies followers.items }) (⟦<MemoryPlace<A> as Place>⟧.found result) }
+        ensures works { ⟦<MemoryPlace<A> as Place>⟧.has_failed result ≡ false }
+    {
+        let mut file = MemoryFile::new(file, Vec::new(alloc));
+        file.has_draft = false;
+        MemoryPlace {
+            alloc,
+            shelf: Shelf {
+                file,
+                followers,
+                is_settled: true,
+            },
+            is_synced: false,
+            piece,
+            good_calls,
+            failed: false,
+            past: Past::Begun,
+        }
+    }
+
+    /// What a crash leaves: a name that is not on the disk is undone.
+    pub fn crash(&mut self)
+        ensures fails { ⟦<MemoryPlace<A> as Place>⟧.has_failed self.new ≡ ⟦<MemoryPlace<A> as Place>⟧.has_failed self.old }
+        ensures left { IfSome (⟦<MemoryPlace<A> as Place>⟧.told self.new) (λ s. ⟦<MemoryPlace<A> as Place>⟧.may_find self.old s.names) }
+        ensures stays { IfSome (⟦<MemoryPlace<A> as Place>⟧.told self.new) (λ s. Only s.names (⟦<MemoryPlace<A> as Place>⟧.may_find self.new)) }
+    {
+        self.remember();
+        if !self.shelf.is_settled {
+            self.shelf.file.is_placed = false;
+            self.shelf.is_settled = true;
+        }
+    }
+
+    /// The file under the name.
+    pub fn file(&self) -> Option<&[u8]>
+        ensures { IfSome (⟦<MemoryPlace<A> as Place>⟧.told self.now) (λ s. MatchOption result (s.names.file ≡ None) (λ bytes. s.names.file ≡ Some bytes.now)) }
+    {
+        self.shelf.file.bytes()
+    }
+
+    /// The file under the name of that follower.
+    pub fn follower(&self, at: usize) -> Option<&[u8]>
+        ensures { IfSome (⟦<MemoryPlace<A> as Place>⟧.told self.now) (λ s. MatchOption result (follower at s.names ≡ None) (λ bytes. follower at s.names ≡ Some bytes.now)) }
+    {
+        self.shelf.followers.get(at)?.bytes()
+    }
+
+    /// Whether a draft lies beside the file or beside a follower.
+    pub fn has_drafts(&self) -> bool {
+        self.shelf.file.has_draft || self.shelf.followers.iter().any(|slot| slot.has_draft)
+    }
+
+    /// Keeps in mind what can be found now.
+    fn remember(&mut self)
+        ensures same { self.new ≡ record self.old { past = self.new.past } }
+        ensures past { (c : Names) → had_been self.new.past c ↔ (may_be self.old.shelf c ⊎ had_been self.old.past c) }
+    {
+        self.past = Past::After(Snapshot::of(&self.shelf), Snapshot::of(&self.past));
+    }
+
+    /// Begins a call, and answers whether it is the one that fails.
+    fn fails(&mut self) -> bool
+        ensures same { self.new ≡ record self.old { good_calls = self.new.good_calls } }
+        ensures fails { IsTrue result ↔ (self.old.good_calls ≡ Some 0) }
+    {
+        match self.good_calls {
+            None => false,
+            Some(0) => {
+                self.good_calls = None;
+                true
+            }
+            Some(calls) => {
+                self.good_calls = Some(calls - 1);
+                false
+            }
+        }
+    }
+
+    /// A call that fails where it is its turn, and otherwise does nothing.
+    fn try_call(&mut self) -> Result<(), CallFailed>
+        ensures same { self.new ≡ record self.old { good_calls = self.new.good_calls; failed = self.new.failed } }
+        ensures fails { self.new.failed ≡ is_err result }
+    {
+        self.failed = self.fails();
+        if self.failed { Err(CallFailed) } else { Ok(()) }
+    }
+}
+
+impl<A: Allocator + Copy> Place for MemoryPlace<A> {
+    ghost told = { λ m. Some (state_of m.shelf) };
+
+    ghost may_find = { λ m c. may_be m.shelf c };
+
+    ghost found = { λ m c. may_be m.shelf c ⊎ had_been m.past c };
+
+    // A draft that was not synced may be anything.
+    ghost may_have = { λ m text. m.is_synced ≡ true → text ≡ m.shelf.file.draft.items };
+
+    ghost has_failed = { λ m. m.failed };
+
+    fn begin_draft(&mut self) -> Result<(), CallFailed> {
+        self.remember();
+        self.is_synced = false;
+        self.shelf.file.begin(self.alloc);
+        self.try_call()
+    }
+
+    fn write_some(&mut self, bytes: &[u8]) -> Result<usize, CallFailed> {
+        self.remember();
+        self.is_synced = false;
+        let n = bytes.len().min(self.piece);
+        if self.fails()
+            || self.shelf.file.is_placed
+            || self
+                .shelf
+                .file
+                .draft
+                .extend_from_slice(&bytes[..n])
+                .is_err()
+        {
+            self.failed = true;
+            return Err(CallFailed);
+        }
+        self.failed = n == 0 && !bytes.is_empty();
+        Ok(n)
+    }
+
+    fn sync_draft(&mut self) -> Result<(), CallFailed> {
+        self.remember();
+        self.try_call()?;
+        self.is_synced = true;
+        Ok(())
+    }
+
+    fn put_in_place(&mut self) -> Result<(), CallFailed> {
+        self.remember();
+        self.try_call()?;
+        self.shelf.place_file();
+        Ok(())
+    }
+
+    fn sync_name(&mut self) -> Result<(), CallFailed> {
+        self.remember();
+        self.try_call()?;
+        self.shelf.is_settled = true;
+        Ok(())
+    }
+
+    fn drop_draft(&mut self) {
+        self.remember();
+        self.shelf.file.has_draft = false;
+    }
+
+    fn followers(&self) -> usize {
+        self.shelf.followers.len()
+    }
+
+    fn is_refused(&self, at: usize) -> bool {
+        match self.shelf.followers.get(at) {
+            Some(slot) => slot.is_refused,
+            None => false,
+        }
+    }
+
+    fn put_follower(&mut self, at: usize) -> Result<(), CallFailed> {
+        self.remember();
+        let fails = self.fails();
+        if at >= self.shelf.followers.len() {
+            return Err(CallFailed);
+        }
+        if fails {
+            self.shelf.refuse_follower(at);
+            return Err(CallFailed);
+        }
+        self.shelf.place_follower(at);
+        Ok(())
+    }
+
+    fn drop_follower(&mut self, at: usize) {
+        self.remember();
+        if at < self.shelf.followers.len() {
+            self.shelf.drop_follower(at);
+        }
+    }
+}

@@ -1,0 +1,95 @@
+//! The names of a file that is replaced by a draft.
+
+use cwr_field::Memory;
+use std::io::ErrorKind;
+use std::path::{Path, PathBuf};
+use std::rt::Files;
+use std::{fs, io};
+
+/// How many links are followed to a file that is not there yet.
+const MOST_LINKS: u32 = 40;
+
+/// What a directory without a name is called.
+const HERE: &str = ".";
+
+/// A file that is replaced by a draft, and the names beside it.
+///
+/// The names are of the file that a word leads to, by way of whatever links: so a link stays one.
+#[derive(Debug, Drop)]
+pub struct FileNames {
+    word: String,
+    name: String,
+    draft: String,
+    lock: String,
+    directory: String,
+}
+
+impl FileNames {
+    /// The names of the file that a word leads to. Of a file that the system does not tell, the word is the name.
+    pub fn of_word<R: AllocGlobal + Files>(rt: &R, word: &str) -> Result<FileNames, Memory> {
+        let path = file_of(rt, word)?;
+        let name = path.as_path().as_os_str();
+        let directory = match path.as_path().parent() {
+            Some(parent) if !parent.as_os_str().is_empty() => parent.as_os_str(),
+            Some(_) | None => HERE,
+        };
+        let alloc = rt.alloc();
+        Ok(FileNames {
+            word: String::from_str(alloc, word)?,
+            name: String::from_str(alloc, name)?,
+            draft: format!(in alloc; "{name}.new")?,
+            lock: format!(in alloc; "{name}.lock")?,
+            directory: String::from_str(alloc, directory)?,
+        })
+    }
+
+    /// The word that leads to the file.
+    pub fn word(&self) -> &str {
+        self.word.as_str()
+    }
+
+    /// The file itself.
+    pub fn name(&self) -> &str {
+        self.name.as_str()
+    }
+
+    /// The draft: the file's name and `.new`.
+    pub fn draft(&self) -> &str {
+        self.draft.as_str()
+    }
+
+    /// The file that a run locks while it may replace this one: the file's name and `.lock`.
+    pub fn lock(&self) -> &str {
+        self.lock.as_str()
+    }
+
+    /// The directory in which all of them lie.
+    pub fn directory(&self) -> &str {
+        self.directory.as_str()
+    }
+}
+
+/// The file that a word leads to, which need not be there.
+fn file_of<R: AllocGlobal + Files>(rt: &R, word: &str) -> Result<PathBuf, Memory> {
+    if let Some(path) = told(fs::canonicalize(rt, word))? {
+        return Ok(path);
+    }
+    let mut path = PathBuf::from_str(rt.alloc(), word)?;
+    for _ in 0..MOST_LINKS {
+        let Some(target) = told(fs::read_link(rt, path.as_path()))? else {
+            return Ok(path);
+        };
+        path.pop();
+        path.push(target.as_path())?;
+    }
+    Ok(path)
+}
+
+/// What the system told, where it told something and there was memory for it.
+fn told(answer: io::Result<PathBuf>) -> Result<Option<PathBuf>, Memory> {
+    match answer {
+        Ok(path) => Ok(Some(path)),
+        Err(error) if error.kind() == ErrorKind::OutOfMemory => Err(Memory),
+        Err(_) => Ok(None),
+    }
+}

@@ -1,0 +1,112 @@
+ghost use Rattle.std.specs.Prelude.{◌≡◌, ◌≤◌, ◌⊎◌, ℕ, Bool, List, Option, Some, false, is_err, length, take, get_or, IfSome, IfOk, OnOk, OnErr};
+ghost use Rattle.byte_streams.specs.Bytes.{stalls};
+ghost use Rattle.kept_file.specs.Names.{Names, State, HasEach, with_file, with_follower, waiting_text, beginning, drafting, placing, placing_follower, refusing_follower};
+ghost use Rattle.kept_file.specs.Looking.{Only, GoesOn, Stays, Renames, Becomes, MayBecome};
+
+use crate::CallFailed;
+
+/// A name with a file under it or none, a draft of another file beside it, and files that follow it: each of these has
+/// a name too, and a draft that is written.
+///
+/// A draft takes its name at once: whoever looks there finds the old file or the whole draft. What a crash leaves is
+/// on the disk only once it was synced. Once a call failed that speaks of the file or its draft, the place has failed,
+/// and its draft can only be dropped.
+pub trait Place {
+    // What lies under the names, and in the drafts, where the type tells it.
+    ghost told: { Self → Option State };
+
+    // What somebody may find under the names at this moment, and what a crash at this moment may leave there.
+    ghost may_find: { Self → Names → Type 0 };
+
+    // What somebody may have found there at some moment so far, after a crash too.
+    ghost found: { Self → Names → Type 0 };
+
+    // What the disk may have of the draft.
+    ghost may_have: { Self → List ℕ → Type 0 };
+
+    // A call that speaks of the file or its draft failed.
+    ghost has_failed: { Self → Bool };
+
+    /// Makes the draft anew, with no byte in it. One that is there already is replaced.
+    fn begin_draft(&mut self) -> Result<(), CallFailed>
+        requires { has_failed self.old ≡ false }
+        ensures fails { has_failed self.new ≡ is_err result }
+        ensures told { Becomes beginning (told self.old) (told self.new) }
+        ensures now { Stays (may_find self.old) (may_find self.new) }
+        ensures time { GoesOn (found self.old) (found self.new) (may_find self.new) };
+
+    /// Writes the first of the bytes at the end of the draft, and answers how many.
+    ///
+    /// A write that answers [`CallFailed`] wrote no byte.
+    fn write_some(&mut self, bytes: &[u8]) -> Result<usize, CallFailed>
+        requires { has_failed self.old ≡ false }
+        ensures bound { IfOk result (λ n. n ≤ length bytes.now) }
+        ensures fails { has_failed self.new ≡ stalls result bytes.now }
+        ensures wrote { IfOk result (λ n. Becomes (drafting (take n bytes.now)) (told self.old) (told self.new)) }
+        ensures none { OnErr result (Becomes (λ s. s) (told self.old) (told self.new)) }
+        ensures now { Stays (may_find self.old) (may_find self.new) }
+        ensures time { GoesOn (found self.old) (found self.new) (may_find self.new) };
+
+    /// Puts the draft on the disk.
+    fn sync_draft(&mut self) -> Result<(), CallFailed>
+        requires { has_failed self.old ≡ false }
+        ensures fails { has_failed self.new ≡ is_err result }
+        ensures durable { OnOk result (IfSome (told self.old) (λ s. Only s.draft (may_have self.new))) }
+        ensures told { Becomes (λ s. s) (told self.old) (told self.new) }
+        ensures now { Stays (may_find self.old) (may_find self.new) }
+        ensures time { GoesOn (found self.old) (found self.new) (may_find self.new) };
+
+    /// Gives the draft the file's name. Until the name is on the disk, a crash may undo it.
+    fn put_in_place(&mut self) -> Result<(), CallFailed>
+        requires { has_failed self.old ≡ false }
+        ensures fails { has_failed self.new ≡ is_err result }
+        ensures placed { OnOk result (Becomes placing (told self.old) (told self.new)) }
+        ensures told { MayBecome placing (told self.old) (told self.new) }
+        ensures now { Renames with_file (may_find self.old) (may_have self.old) (may_find self.new) }
+        ensures time { GoesOn (found self.old) (found self.new) (may_find self.new) };
+
+    /// Puts the file's name on the disk.
+    fn sync_name(&mut self) -> Result<(), CallFailed>
+        requires { has_failed self.old ≡ false }
+        ensures fails { has_failed self.new ≡ is_err result }
+        ensures durable { OnOk result (IfSome (told self.old) (λ s. (c : Names) → may_find self.new c → c.file ≡ s.names.file)) }
+        ensures told { Becomes (λ s. s) (told self.old) (told self.new) }
+        ensures now { Stays (may_find self.old) (may_find self.new) }
+        ensures time { GoesOn (found self.old) (found self.new) (may_find self.new) };
+
+    /// Takes the draft away, where there is one and it can be taken away.
+    fn drop_draft(&mut self)
+        ensures fails { has_failed self.new ≡ has_failed self.old }
+        ensures told { Becomes (λ s. s) (told self.old) (told self.new) }
+        ensures now { Stays (may_find self.old) (may_find self.new) }
+        ensures time { GoesOn (found self.old) (found self.new) (may_find self.new) };
+
+    /// How many files follow.
+    fn followers(&self) -> usize
+        ensures number { IfSome (told self.now) (λ s. result ≡ length s.waiting) }
+        ensures each { IfSome (told self.now) HasEach };
+
+    /// Whether that follower could not be put in place.
+    fn is_refused(&self, at: usize) -> bool
+        ensures { IfSome (told self.now) (λ s. result ≡ get_or s.refused at false) };
+
+    /// Puts the draft of a follower on the disk, gives it the follower's name, and puts the name on the disk.
+    ///
+    /// A follower that could not be put in place is refused. It has its name all the same where only the last of the
+    /// three failed.
+    fn put_follower(&mut self, at: usize) -> Result<(), CallFailed>
+        ensures fails { has_failed self.new ≡ has_failed self.old }
+        ensures placed { OnOk result (Becomes (placing_follower at) (told self.old) (told self.new)) }
+        ensures refused { OnErr result (IfSome (told self.old) (λ s.
+            (told self.new ≡ Some (refusing_follower at s))
+            ⊎ (told self.new ≡ Some (refusing_follower at (placing_follower at s))))) }
+        ensures now { IfSome (told self.old) (λ s. Renames (with_follower at) (may_find self.old) (λ text. text ≡ waiting_text at s) (may_find self.new)) }
+        ensures time { GoesOn (found self.old) (found self.new) (may_find self.new) };
+
+    /// Takes the draft of a follower away, where there is one and it can be taken away.
+    fn drop_follower(&mut self, at: usize)
+        ensures fails { has_failed self.new ≡ has_failed self.old }
+        ensures told { Becomes (λ s. s) (told self.old) (told self.new) }
+        ensures now { Stays (may_find self.old) (may_find self.new) }
+        ensures time { GoesOn (found self.old) (found self.new) (may_find self.new) };
+}

@@ -1,0 +1,128 @@
+//! Each call that fails in turn. A text of eight bytes in writes of three is kept by nine calls: the draft is begun,
+//! written three times and synced; it takes its name, which is synced; and each of two followers is put in place.
+
+use crate::places::{AS_IT_WAS, IN_PLACE, Lies, TEXT, expect, place};
+use cwr_sheets::same;
+use kept_file::{MemoryPlace, NotKept, Place, drop_followers, keep, put_followers, replace};
+use std::alloc::Global;
+use std::test::Fail;
+
+/// Where the call after so many fails, the text is not kept: so many bytes went into the draft, and this lies there.
+fn expect_not_kept(
+    alloc: Global,
+    good_calls: u64,
+    sent: u64,
+    wanted: &Lies<'_>,
+) -> Result<(), Fail> {
+    let mut place = place(alloc, Some(good_calls))?;
+    same("the text", &keep(&mut place, TEXT), &Err(NotKept { sent }))?;
+    expect(&place, wanted)?;
+    place.crash();
+    expect(&place, &AS_IT_WAS)
+}
+
+/// Where the call after so many fails, or none, the text is kept, and this lies there; after a crash too.
+fn expect_kept(alloc: Global, good_calls: Option<u64>, wanted: &Lies<'_>) -> Result<(), Fail> {
+    let mut place = place(alloc, good_calls)?;
+    same("the text", &keep(&mut place, TEXT), &Ok(()))?;
+    expect(&place, wanted)?;
+    place.crash();
+    expect(&place, wanted)
+}
+
+#[test]
+fn a_draft_that_is_not_begun_or_written(rt: HostRuntime) -> Result<(), Fail> {
+    let alloc = rt.alloc();
+    expect_not_kept(alloc, 0, 0, &AS_IT_WAS)?;
+    expect_not_kept(alloc, 1, 0, &AS_IT_WAS)?;
+    expect_not_kept(alloc, 2, 3, &AS_IT_WAS)?;
+    expect_not_kept(alloc, 3, 6, &AS_IT_WAS)
+}
+
+#[test]
+fn a_draft_that_is_not_synced_or_named(rt: HostRuntime) -> Result<(), Fail> {
+    let alloc = rt.alloc();
+    expect_not_kept(alloc, 4, 8, &AS_IT_WAS)?;
+    expect_not_kept(alloc, 5, 8, &AS_IT_WAS)?;
+    // The name is there, and a crash undoes it.
+    let named = Lies {
+        file: Some(TEXT),
+        ..AS_IT_WAS
+    };
+    expect_not_kept(alloc, 6, 8, &named)
+}
+
+#[test]
+fn followers_that_are_refused(rt: HostRuntime) -> Result<(), Fail> {
+    let alloc = rt.alloc();
+    let without_first = Lies {
+        followers: [None, Some(b"ACK 2")],
+        refused: [true, false],
+        has_drafts: true,
+        ..IN_PLACE
+    };
+    expect_kept(alloc, Some(7), &without_first)?;
+    let without_second = Lies {
+        followers: [Some(b"ACK 1"), Some(b"ACK 0")],
+        refused: [false, true],
+        has_drafts: true,
+        ..IN_PLACE
+    };
+    expect_kept(alloc, Some(8), &without_second)
+}
+
+#[test]
+fn all_is_kept(rt: HostRuntime) -> Result<(), Fail> {
+    let alloc = rt.alloc();
+    expect_kept(alloc, Some(9), &IN_PLACE)?;
+    expect_kept(alloc, None, &IN_PLACE)
+}
+
+#[test]
+fn a_file_without_its_followers(rt: HostRuntime) -> Result<(), Fail> {
+    let mut place = place(rt.alloc(), None)?;
+    same("the text", &replace(&mut place, TEXT), &Ok(()))?;
+    let waiting = Lies {
+        file: Some(TEXT),
+        has_drafts: true,
+        ..AS_IT_WAS
+    };
+    expect(&place, &waiting)?;
+    drop_followers(&mut place);
+    let dropped = Lies {
+        has_drafts: false,
+        ..waiting
+    };
+    expect(&place, &dropped)
+}
+
+#[test]
+fn followers_without_a_new_file(rt: HostRuntime) -> Result<(), Fail> {
+    let mut place = place(rt.alloc(), None)?;
+    put_followers(&mut place);
+    let followed = Lies {
+        file: Some(b"OLD"),
+        ..IN_PLACE
+    };
+    expect(&place, &followed)
+}
+
+#[test]
+fn writes_that_take_nothing(rt: HostRuntime) -> Result<(), Fail> {
+    let alloc = rt.alloc();
+    let mut full = MemoryPlace::new(alloc, None, Vec::new(alloc), 0, None);
+    same(
+        "the text",
+        &keep(&mut full, TEXT),
+        &Err(NotKept { sent: 0 }),
+    )?;
+    same("the file", &full.file(), &None)
+}
+
+#[test]
+fn a_text_without_bytes(rt: HostRuntime) -> Result<(), Fail> {
+    let alloc = rt.alloc();
+    let mut place = MemoryPlace::new(alloc, None, Vec::new(alloc), 0, None);
+    same("the text", &keep(&mut place, b""), &Ok(()))?;
+    same("the file", &place.file(), &Some(b"".as_slice()))
+}

@@ -1,0 +1,95 @@
+//! All seats of a desk at work at once.
+ghost use Rattle.std.specs.Prelude.{true};
+
+use cwr_desk::{Book, FileOutcome, Gate, Shut, audit};
+use cwr_sheets::{many_works, same};
+use desk_runs::{MemoryRun, expect_ends, run_at_desk, with_room};
+use std::alloc::Global;
+use std::sync::Wait;
+use std::sync::atomic::{AtomicU64, Ordering};
+use std::test::Fail;
+use std::thread::{Threads, yield_now};
+
+/// How many works each file has.
+const WORKS: u32 = 40;
+
+/// Holds each worker at its first transaction until all 63 have come, so that all are at the desk at once. It gives up
+/// after some time.
+#[derive(Drop)]
+struct AllCome {
+    come: AtomicU64,
+}
+
+impl Gate for AllCome {
+    ghost may_shut = { λ _. true };
+
+    fn before(&self, _worker: u32, index: u32) -> Result<(), Shut> {
+        if index == 0 {
+            self.come.fetch_add(1, Ordering::SeqCst);
+        }
+        for _ in 0..1_000_000 {
+            if self.come.load(Ordering::SeqCst) == 63 {
+                return Ok(());
+            }
+            yield_now();
+        }
+        Err(Shut)
+    }
+
+    fn after(&self, _worker: u32, _index: u32) {}
+}
+
+/// The files of 40 works each, of the submitters 1 to 63.
+fn files(alloc: Global) -> Result<Vec<Vec<u8>>, Fail> {
+    let mut files = Vec::new(alloc);
+    for submitter in 1..64u32 {
+        let sender = format!(in alloc; "{submitter:09}")?;
+        files.push(many_works(alloc, &sender, WORKS)?)?;
+    }
+    Ok(files)
+}
+
+/// Works all files at once, at an empty book with room for all.
+fn serve_all<'a, T: Threads + Wait + Sync>(
+    rt: &T,
+    alloc: Global,
+    files: &'a [Vec<u8>],
+) -> Result<MemoryRun<'a>, Fail> {
+    let mut inputs = Vec::new(alloc);
+    for file in files {
+        inputs.push(with_room(file, 100_000))?;
+    }
+    let gate = AllCome {
+        come: AtomicU64::new(0),
+    };
+    run_at_desk(rt, alloc, Book::new(alloc, 2520), &inputs, &gate)
+}
+
+/// All works of each file have their entries, half of which are works, and an audit finds the register right.
+fn expect_all(alloc: Global, run: &MemoryRun) -> Result<(), Fail> {
+    let whole = FileOutcome::Acked {
+        transactions: WORKS,
+    };
+    expect_ends(run, &[whole; 63])?;
+    let mut turns = [0u32; 64];
+    for entry in run.book.history() {
+        let turn = turns.get_mut(entry.session() as usize).ok_or("a session")?;
+        *turn = turn.saturating_add(1);
+    }
+    let mut wanted = [WORKS; 64];
+    wanted[0] = 0;
+    same("entries of each session", &turns, &wanted)?;
+    let register = run.book.write_register(alloc)?;
+    same(
+        "what an audit tells",
+        &audit(alloc, &register).ok(),
+        &Some(2520),
+    )
+}
+
+#[test]
+fn sixty_three_workers_at_once(rt: HostRuntime) -> Result<(), Fail> {
+    let files = files(rt.alloc())?;
+    let run = serve_all(&rt, rt.alloc(), &files)?;
+    expect_all(rt.alloc(), &run)
+}

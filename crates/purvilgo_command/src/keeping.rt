@@ -1,0 +1,131 @@
+//! What a run leaves: the register, and then the acknowledgements.
+
+use crate::output::OutputFile;
+use crate::run_command::RunWords;
+use crate::telling::tell_reason;
+use cwr_desk::Job;
+use cwr_field::Memory;
+use kept_file::{FileNames, Follower, Listener, Place, SystemPlace, put_followers};
+use kept_register::{RegisterNotKept, keep_register};
+use std::alloc::Global;
+use std::io;
+use std::rt::Files;
+use work_registry::Book;
+
+/// Acknowledgements that wait for their names.
+#[derive(Drop)]
+pub(crate) struct Waiting<'a> {
+    names: Vec<&'a FileNames>,
+    followers: Vec<Follower<'a>>,
+}
+
+impl<'a> Waiting<'a> {
+    /// Room for so many, of which there is none yet. No later call takes memory.
+    pub(crate) fn room_for(alloc: Global, number: usize) -> Result<Waiting<'a>, Memory> {
+        Ok(Waiting {
+            names: Vec::with_capacity(alloc, number)?,
+            followers: Vec::with_capacity(alloc, number)?,
+        })
+    }
+
+    /// One more, which takes the place of one that is there if it `replaces` one.
+    fn add(&mut self, names: &'a FileNames, replaces: bool) -> Result<(), Memory> {
+        self.names.push(names)?;
+        self.followers.push(Follower::new(names, replaces))?;
+        Ok(())
+    }
+}
+
+/// Tells on standard error what is written, and why a call of the system failed, where that is asked for.
+#[derive(Drop)]
+struct Telling<'a, R> {
+    rt: &'a R,
+    verbose: bool,
+}
+
+impl<R: AllocGlobal + Eprint> Listener for Telling<'_, R> {
+    fn wrote(&self, names: &FileNames, bytes: usize) {
+        if self.verbose {
+            let _ = eprintln!(self.rt; "{}: written, {bytes} bytes", names.word());
+        }
+    }
+
+    fn failed(&self, names: &FileNames, error: &io::Error) {
+        if self.verbose {
+            tell_reason(self.rt, names.word(), error);
+        }
+    }
+}
+
+/// Keeps the register of a book, where one is asked for, and then gives the acknowledgements their names. Answers whether
+/// all of it is in place. What is not is told on standard error.
+///
+/// Where the register cannot be kept, the acknowledgements are taken away, and those of before are as they were.
+pub(crate) fn keep_run<'a, I: Drop, R: AllocGlobal + Eprint + Files>(
+    rt: &'a R,
+    book: &Book,
+    jobs: Vec<Job<I, OutputFile<'a, R>>>,
+    mut waiting: Waiting<'a>,
+    register: Option<&'a FileNames>,
+    words: &RunWords,
+) -> bool {
+    let mut placed = true;
+    for job in jobs {
+        let Job { reader: _, writer } = job;
+        if let Some(names) = writer.into_waiting() {
+            if waiting.add(names, !words.no_clobber).is_err() {
+                placed = tell_out_of_place(rt, names);
+            }
+        }
+    }
+    let Waiting { names, followers } = waiting;
+    let telling = Telling {
+        rt,
+        verbose: words.verbose,
+    };
+    let mut place = SystemPlace::new(rt, register, followers, telling);
+    let kept = match register {
+        Some(register) => {
+            let kept = keep_register(&mut place, rt.alloc(), book);
+            tell_kept(rt, kept, register, book.len(), words.verbose)
+        }
+        None => {
+            put_followers(&mut place);
+            true
+        }
+    };
+    for (at, names) in names.iter().enumerate() {
+        if place.is_refused(at) {
+            placed = tell_out_of_place(rt, names);
+        }
+    }
+    kept && placed
+}
+
+/// Tells on standard error whether a register of so many entries was kept, and answers it.
+fn tell_kept<R: Eprint>(
+    rt: &R,
+    kept: Result<(), RegisterNotKept>,
+    register: &FileNames,
+    entries: usize,
+    verbose: bool,
+) -> bool {
+    match kept {
+        Ok(()) => {
+            if verbose {
+                let _ = eprintln!(rt; "{}: register kept, {entries} entries", register.word());
+            }
+            true
+        }
+        Err(reason) => {
+            let _ = eprintln!(rt; "register: stopped: {reason}");
+            false
+        }
+    }
+}
+
+/// Tells on standard error that an acknowledgement is not in place, and answers that.
+fn tell_out_of_place<R: Eprint>(rt: &R, names: &FileNames) -> bool {
+    let _ = eprintln!(rt; "{}: not in place", names.word());
+    false
+}

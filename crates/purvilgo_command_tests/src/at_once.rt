@@ -1,0 +1,77 @@
+//! Files that are worked at once, each on a thread of its own.
+
+use crate::fake::Fake;
+use crate::fake_files::FakeFile;
+use crate::meeting::Meeting;
+use crate::runs::run_with;
+use cwr_sheets::{miscounted, same, same_text};
+use purvilgo_command::run_program;
+use std::process::ExitCode;
+use std::sync::Wait;
+use std::test::Fail;
+use std::thread::Threads;
+
+/// Runs files, of which each must be refused: how many of their workers meet all others, of whom there are so many.
+fn expect_met<T: AllocGlobal + Threads + Wait + Sync>(
+    rt: &T,
+    words: &[&str],
+    files: &[(&str, FakeFile)],
+    all: u64,
+    met: u64,
+) -> Result<(), Fail> {
+    let fake = Fake::new(rt, words, b"").with_files(files, &[]);
+    let meeting = Meeting::new(fake, all);
+    let status = run_program(&meeting);
+    let (found, fake) = meeting.into_fake();
+    let (printed, complained) = fake.into_texts();
+    let ended = (found, status);
+    same(
+        "workers that met, and the status",
+        &ended,
+        &(met, ExitCode::FAILURE),
+    )?;
+    let mut wanted = Vec::new(rt.alloc());
+    for (name, _) in files {
+        wanted.extend_from_slice(name.as_bytes())?;
+        wanted.extend_from_slice(b": refused F9 at line 5\n")?;
+    }
+    same_text("what was complained of", &complained, "")?;
+    same("what was printed", &printed.as_slice(), &wanted.as_slice())
+}
+
+#[test]
+fn works_three_files_at_once(rt: HostRuntime) -> Result<(), Fail> {
+    let input = miscounted(rt.alloc())?;
+    let held = FakeFile::Holds(&input);
+    let files = [("a", held), ("b", held), ("c", held)];
+    let words = run_with(rt.alloc(), &["a", "b", "c"])?;
+    expect_met(&rt, &words, &files, 3, 3)
+}
+
+/// The first worker waits for the second in vain.
+#[test]
+fn works_two_files_in_turn(rt: HostRuntime) -> Result<(), Fail> {
+    let input = miscounted(rt.alloc())?;
+    let held = FakeFile::Holds(&input);
+    let files = [("a", held), ("b", held)];
+    let words = run_with(rt.alloc(), &["--in-turn", "a", "b"])?;
+    expect_met(&rt, &words, &files, 2, 1)
+}
+
+#[test]
+fn works_63_files_at_once(rt: HostRuntime) -> Result<(), Fail> {
+    let alloc = rt.alloc();
+    let input = miscounted(alloc)?;
+    let mut names = Vec::new(alloc);
+    for number in 1..64 {
+        names.push(format!(in alloc; "{number}.v22")?)?;
+    }
+    let mut more = Vec::new(alloc);
+    let mut files = Vec::new(alloc);
+    for name in &names {
+        more.push(name.as_str())?;
+        files.push((name.as_str(), FakeFile::Holds(&input)))?;
+    }
+    let words = run_with(alloc, &more)?;
+    expect_met(&rt, &words, &files, 63, 63)
+}

@@ -1,0 +1,68 @@
+//! Files whose changes are counted, of which one may be refused.
+
+use crate::fake_files::KeptFile;
+use std::alloc::Global;
+use std::fs::Metadata;
+use std::io::{self, ErrorKind};
+use std::sync::Mutex;
+use std::test::Fail;
+
+/// The calls that were made so far.
+#[derive(Drop)]
+pub(crate) struct Calls {
+    alloc: Global,
+    /// What each does, and to which file.
+    made: Mutex<Vec<String>>,
+    /// The number of the call that is refused, from 1. None is for 0.
+    refused: usize,
+    /// What is refused each time.
+    always: &'static str,
+}
+
+impl Calls {
+    /// No calls so far. The one of this number will be refused, and each that does this.
+    pub(crate) fn refusing(alloc: Global, refused: usize, always: &'static str) -> Calls {
+        Calls {
+            alloc,
+            made: Mutex::new(Vec::new(alloc)),
+            refused,
+            always,
+        }
+    }
+
+    /// Counts a call, which may be refused.
+    pub(crate) fn make(&self, what: &'static str, name: &str) -> io::Result<()> {
+        let Some(mut made) = self.made.try_lock() else {
+            return Err(io::Error::from(ErrorKind::Other));
+        };
+        made.push(format!(in self.alloc; "{what} {name}")?)?;
+        if made.len() == self.refused || what == self.always {
+            return Err(io::Error::from(ErrorKind::Other));
+        }
+        Ok(())
+    }
+
+    /// The calls that were made, in their order, a line each.
+    pub(crate) fn made(&self) -> Result<String, Fail> {
+        let made = self.made.try_lock().ok_or("calls that nobody makes")?;
+        let mut text = String::new(self.alloc);
+        for call in made.as_slice() {
+            text.push_str(call.as_str())?;
+            text.push_str("\n")?;
+        }
+        Ok(text)
+    }
+}
+
+/// Files that can be written, with what was done to them.
+#[derive(Drop)]
+pub(crate) struct Disk<'a> {
+    pub(crate) files: Vec<KeptFile<'a>>,
+    pub(crate) calls: Calls,
+    /// What the system tells of names.
+    pub(crate) nodes: Vec<(&'a str, Metadata)>,
+    /// The names that are links, and to what.
+    pub(crate) links: &'a [(&'a str, &'a str)],
+    /// The locks that another run has.
+    pub(crate) locked: &'a [&'a str],
+}

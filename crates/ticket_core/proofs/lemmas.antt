@@ -1,0 +1,4 @@
+pub mod TicketLawful
+pub mod ArrayLawful
+pub mod ArrayStates
+pub mod ArrayRuns
