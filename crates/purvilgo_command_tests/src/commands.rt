@@ -1,8 +1,7 @@
 //! The program's commands, over a runtime of the tests' own.
 
-use crate::fake::{Fake, expect_program};
-use crate::fake_files::FakeFile;
 use cwr_sheets::{file_of_lines, one_answer, one_writer, plain_file};
+use program_runs::{Fake, FakeFile, expect_program};
 use std::process::ExitCode;
 use std::test::Fail;
 

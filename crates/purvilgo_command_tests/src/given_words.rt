@@ -1,9 +1,7 @@
 //! The words of a run, as a command line gives them.
 
-use crate::fake::{Fake, expect_program};
-use crate::fake_files::{FakeFile, KeptFile};
-use crate::runs::{expect, expect_held, keeping};
 use cwr_sheets::{acknowledgement, file_of_lines, one_answer, plain_file};
+use program_runs::{Fake, FakeFile, KeptFile, expect, expect_held, expect_program, keeping};
 use std::alloc::Global;
 use std::process::ExitCode;
 use std::sync::Wait;

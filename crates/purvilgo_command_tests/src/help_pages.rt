@@ -1,7 +1,7 @@
 //! The pages of `purvilgo help`.
 
-use crate::fake::Fake;
 use cwr_sheets::{same, same_bytes};
+use program_runs::Fake;
 use purvilgo_command::run_program;
 use std::process::ExitCode;
 use std::sync::Wait;

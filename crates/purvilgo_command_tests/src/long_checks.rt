@@ -1,8 +1,7 @@
 //! What `check --long` tells: of a file with twenty mistakes, which `examples/mistakes.v22` is too, and of files without.
 
-use crate::fake::{Fake, expect_program};
-use crate::fake_files::FakeFile;
 use cwr_sheets::plain_file;
+use program_runs::{Fake, FakeFile, expect_program};
 use std::alloc::Global;
 use std::process::ExitCode;
 use std::test::Fail;

@@ -1,8 +1,7 @@
 //! The version, and standard input by its name.
 
-use crate::fake::{Fake, expect_program};
-use crate::fake_files::FakeFile;
 use cwr_sheets::{one_writer, plain_file};
+use program_runs::{Fake, FakeFile, expect_program};
 use std::process::ExitCode;
 use std::test::Fail;
 

@@ -1,9 +1,7 @@
 //! Runs that write over no acknowledgement, and runs in turn.
 
-use crate::fake::{Fake, expect_program};
-use crate::fake_files::FakeFile;
-use crate::runs::{expect, expect_held, keeping, run_with};
 use cwr_sheets::{one_answer, plain_file, rival_claims};
+use program_runs::{Fake, FakeFile, expect, expect_held, expect_program, keeping, run_with};
 use std::fs;
 use std::fs::Metadata;
 use std::process::ExitCode;

@@ -1,9 +1,9 @@
 //! Runs whose words name one file twice, by its name, by another path or by a link.
 
-use crate::fake::{Fake, expect_program};
-use crate::fake_files::{FakeFile, KeptFile};
-use crate::runs::{expect, expect_held, keeping, run_with};
 use cwr_sheets::plain_file;
+use program_runs::{
+    Fake, FakeFile, KeptFile, expect, expect_held, expect_program, keeping, run_with,
+};
 use std::alloc::Global;
 use std::fs;
 use std::fs::Metadata;

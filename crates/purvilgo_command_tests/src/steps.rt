@@ -1,9 +1,7 @@
 //! Steps and reasons, which `--verbose` tells before the fixed texts.
 
-use crate::fake::{Fake, expect_program};
-use crate::fake_files::FakeFile;
-use crate::runs::{expect, expect_held, keeping, run_with};
 use cwr_sheets::{file_of_lines, one_answer, plain_file, same};
+use program_runs::{Fake, FakeFile, expect, expect_held, expect_program, keeping, run_with};
 use std::process::ExitCode;
 use std::test::Fail;
 

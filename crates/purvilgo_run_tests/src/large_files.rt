@@ -1,11 +1,11 @@
 //! Files and registers of several megabytes.
 
-use crate::fake::{Fake, expect_program};
-use crate::fake_files::{FakeFile, KeptFile};
-use crate::runs::{expect, expect_held, keeping, run_with};
 use cwr_sheets::{
     OTHER_SENDER, SENDER, acknowledgement, crowded_faults, crowded_work, decision, many_answers,
     many_checked, many_entries, many_works, same,
+};
+use program_runs::{
+    Fake, FakeFile, KeptFile, expect, expect_held, expect_program, keeping, run_with,
 };
 use std::process::ExitCode;
 use std::sync::Wait;

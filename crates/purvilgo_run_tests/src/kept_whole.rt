@@ -1,11 +1,10 @@
 //! Registers and acknowledgements that are replaced whole: what is there when a call of the system is refused.
 
-use crate::calls::{Calls, Disk};
-use crate::fake::{Fake, expect_program};
-use crate::fake_files::{FakeFile, KeptFile};
 use crate::kept_registers::register;
-use crate::runs::{expect_held, keeping, run_with};
 use cwr_sheets::{one_answer, plain_file, same, same_text};
+use program_runs::{
+    Calls, Disk, Fake, FakeFile, KeptFile, expect_held, expect_program, keeping, run_with,
+};
 use std::alloc::Global;
 use std::fs;
 use std::fs::Metadata;

@@ -1,74 +1,12 @@
 //! The program's runs, over a runtime of the tests' own.
 
-use crate::fake::{Fake, expect_program};
-use crate::fake_files::{FakeFile, KeptFile};
-use cwr_sheets::{miscounted, one_answer, plain_file, rival_claims, same, same_bytes};
+use cwr_sheets::{miscounted, one_answer, plain_file, rival_claims, same};
+use program_runs::{FakeFile, KeptFile, expect, expect_held, keeping, run_with};
 use std::alloc::Global;
 use std::process::ExitCode;
-use std::sync::{Mutex, Wait};
+use std::sync::Wait;
 use std::test::Fail;
 use std::thread::Threads;
-
-/// The words of a run, with the stamp of all acknowledgements.
-const RUN: [&str; 10] = [
-    "purvilgo",
-    "run",
-    "--society",
-    "000",
-    "--name",
-    "CWR REGISTRY",
-    "--date",
-    "20240601",
-    "--time",
-    "090000",
-];
-
-/// A run with these words behind the stamp's.
-pub(crate) fn run_with<'a>(alloc: Global, more: &[&'a str]) -> Result<Vec<&'a str>, Fail> {
-    let mut words = Vec::new(alloc);
-    for word in RUN {
-        words.push(word)?;
-    }
-    words.extend_from_slice(more)?;
-    Ok(words)
-}
-
-/// Runs the program over these files: its status, standard output and standard error must be these.
-pub(crate) fn expect<T: AllocGlobal + Threads + Wait + Sync>(
-    rt: &T,
-    words: &[&str],
-    files: &[(&str, FakeFile)],
-    kept: &[KeptFile],
-    status: ExitCode,
-    printed: &str,
-    complained: &str,
-) -> Result<(), Fail> {
-    let fake = Fake::new(rt, words, b"").with_files(files, kept);
-    expect_program(fake, status, printed.as_bytes(), complained)
-}
-
-/// A file of this name that holds this text so far, and takes at most so many bytes.
-pub(crate) fn keeping<'a>(
-    alloc: Global,
-    name: &'a str,
-    text: &[u8],
-    room: usize,
-) -> Result<KeptFile<'a>, Fail> {
-    Ok(KeptFile {
-        name,
-        bytes: Mutex::new(Vec::from_slice(alloc, text)?),
-        room,
-        piece: room,
-        draft: Mutex::new(Vec::new(alloc)),
-        drafted: Mutex::new(false),
-    })
-}
-
-/// A file must hold this text.
-pub(crate) fn expect_held(file: &KeptFile, wanted: &[u8]) -> Result<(), Fail> {
-    let held = file.bytes.try_lock().ok_or("a file that nobody holds")?;
-    same_bytes(file.name, held.as_slice(), wanted)
-}
 
 /// What a file holds.
 fn text_in(alloc: Global, file: &KeptFile) -> Result<Vec<u8>, Fail> {

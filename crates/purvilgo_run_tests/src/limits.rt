@@ -1,10 +1,8 @@
 //! The limits of each command: the greatest file that it takes, and a byte more.
 
-use crate::fake::{Fake, expect_program};
-use crate::fake_files::FakeFile;
-use crate::runs::{expect, expect_held, keeping, run_with};
 use cwr_desk::{MOST_BYTES, MOST_ENTRIES};
 use cwr_sheets::{SENDER, many_answers, many_checked, many_works, same};
+use program_runs::{Fake, FakeFile, expect, expect_held, expect_program, keeping, run_with};
 use purvilgo_command::MOST_REGISTER_BYTES;
 use std::alloc::Global;
 use std::process::ExitCode;

@@ -15,7 +15,7 @@ const DRAFT: &str = ".new";
 
 /// A file that is there: what its reads give and its writes do.
 #[derive(Clone, Copy, Drop)]
-pub(crate) enum FakeFile<'a> {
+pub enum FakeFile<'a> {
     /// The bytes that are left of it.
     Holds(&'a [u8]),
     /// Bytes, then an error once, and then other bytes.
@@ -40,7 +40,7 @@ pub(crate) enum FakeFile<'a> {
 
 /// A file that can be written, or its draft, as it was opened.
 #[derive(Clone, Copy, Drop)]
-pub(crate) struct Opened<'a> {
+pub struct Opened<'a> {
     file: &'a KeptFile<'a>,
     /// Whether it is the draft.
     drafted: bool,
@@ -107,18 +107,18 @@ impl Opened<'_> {
 
 /// A file that can be written, by itself or by its draft.
 #[derive(Drop)]
-pub(crate) struct KeptFile<'a> {
-    pub(crate) name: &'a str,
+pub struct KeptFile<'a> {
+    pub name: &'a str,
     /// What it holds.
-    pub(crate) bytes: Mutex<Vec<u8>>,
+    pub bytes: Mutex<Vec<u8>>,
     /// How many bytes it takes at most, and as many its draft.
-    pub(crate) room: usize,
+    pub room: usize,
     /// How many bytes it takes at most in one write.
-    pub(crate) piece: usize,
+    pub piece: usize,
     /// What its draft holds.
-    pub(crate) draft: Mutex<Vec<u8>>,
+    pub draft: Mutex<Vec<u8>>,
     /// Whether its draft is there.
-    pub(crate) drafted: Mutex<bool>,
+    pub drafted: Mutex<bool>,
 }
 
 impl<'a> KeptFile<'a> {
@@ -128,7 +128,7 @@ impl<'a> KeptFile<'a> {
     }
 
     /// Whether its draft is there.
-    pub(crate) fn has_draft(&self) -> bool {
+    pub fn has_draft(&self) -> bool {
         match self.drafted.try_lock() {
             Some(drafted) => *drafted,
             None => false,

@@ -1,11 +1,9 @@
 //! Files that are worked at once, each on a thread of its own.
 
-use crate::fake::Fake;
-use crate::fake_files::FakeFile;
-use crate::meeting::Meeting;
-use crate::runs::run_with;
 use cwr_sheets::{miscounted, same, same_text};
+use program_runs::{Fake, FakeFile, Meeting, run_with};
 use purvilgo_command::run_program;
+use std::alloc::Global;
 use std::process::ExitCode;
 use std::sync::Wait;
 use std::test::Fail;
@@ -58,6 +56,19 @@ fn works_two_files_in_turn(rt: HostRuntime) -> Result<(), Fail> {
     expect_met(&rt, &words, &files, 2, 1)
 }
 
+/// Files of these names, each with this text.
+fn all_holding<'a>(
+    alloc: Global,
+    names: &'a [String],
+    text: &'a [u8],
+) -> Result<Vec<(&'a str, FakeFile<'a>)>, Fail> {
+    let mut files = Vec::new(alloc);
+    for name in names {
+        files.push((name.as_str(), FakeFile::Holds(text)))?;
+    }
+    Ok(files)
+}
+
 #[test]
 fn works_63_files_at_once(rt: HostRuntime) -> Result<(), Fail> {
     let alloc = rt.alloc();
@@ -66,11 +77,10 @@ fn works_63_files_at_once(rt: HostRuntime) -> Result<(), Fail> {
     for number in 1..64 {
         names.push(format!(in alloc; "{number}.v22")?)?;
     }
+    let files = all_holding(alloc, &names, &input)?;
     let mut more = Vec::new(alloc);
-    let mut files = Vec::new(alloc);
-    for name in &names {
-        more.push(name.as_str())?;
-        files.push((name.as_str(), FakeFile::Holds(&input)))?;
+    for (name, _) in &files {
+        more.push(*name)?;
     }
     let words = run_with(alloc, &more)?;
     expect_met(&rt, &words, &files, 63, 63)

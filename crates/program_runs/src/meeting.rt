@@ -16,7 +16,8 @@ use std::sync::Wait;
 use std::sync::atomic::{AtomicU64, Ordering};
 use std::thread::{Threads, yield_now};
 
-pub(crate) struct Meeting<'a, T> {
+/// The runtime, the workers that must come, and those that came.
+pub struct Meeting<'a, T> {
     fake: Fake<'a, T>,
     /// How many workers must come.
     all: u64,
@@ -28,7 +29,7 @@ pub(crate) struct Meeting<'a, T> {
 
 impl<'a, T> Meeting<'a, T> {
     /// A runtime in which so many workers must come.
-    pub(crate) fn new(fake: Fake<'a, T>, all: u64) -> Meeting<'a, T> {
+    pub fn new(fake: Fake<'a, T>, all: u64) -> Meeting<'a, T> {
         Meeting {
             fake,
             all,
@@ -38,7 +39,7 @@ impl<'a, T> Meeting<'a, T> {
     }
 
     /// How many workers met all others, and the runtime within.
-    pub(crate) fn into_fake(self) -> (u64, Fake<'a, T>) {
+    pub fn into_fake(self) -> (u64, Fake<'a, T>) {
         let Meeting {
             fake,
             all: _,

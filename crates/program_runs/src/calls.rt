@@ -9,7 +9,7 @@ use std::test::Fail;
 
 /// The calls that were made so far.
 #[derive(Drop)]
-pub(crate) struct Calls {
+pub struct Calls {
     alloc: Global,
     /// What each does, and to which file.
     made: Mutex<Vec<String>>,
@@ -21,7 +21,7 @@ pub(crate) struct Calls {
 
 impl Calls {
     /// No calls so far. The one of this number will be refused, and each that does this.
-    pub(crate) fn refusing(alloc: Global, refused: usize, always: &'static str) -> Calls {
+    pub fn refusing(alloc: Global, refused: usize, always: &'static str) -> Calls {
         Calls {
             alloc,
             made: Mutex::new(Vec::new(alloc)),
@@ -43,7 +43,7 @@ impl Calls {
     }
 
     /// The calls that were made, in their order, a line each.
-    pub(crate) fn made(&self) -> Result<String, Fail> {
+    pub fn made(&self) -> Result<String, Fail> {
         let made = self.made.try_lock().ok_or("calls that nobody makes")?;
         let mut text = String::new(self.alloc);
         for call in made.as_slice() {
@@ -56,13 +56,13 @@ impl Calls {
 
 /// Files that can be written, with what was done to them.
 #[derive(Drop)]
-pub(crate) struct Disk<'a> {
-    pub(crate) files: Vec<KeptFile<'a>>,
-    pub(crate) calls: Calls,
+pub struct Disk<'a> {
+    pub files: Vec<KeptFile<'a>>,
+    pub calls: Calls,
     /// What the system tells of names.
-    pub(crate) nodes: Vec<(&'a str, Metadata)>,
+    pub nodes: Vec<(&'a str, Metadata)>,
     /// The names that are links, and to what.
-    pub(crate) links: &'a [(&'a str, &'a str)],
+    pub links: &'a [(&'a str, &'a str)],
     /// The locks that another run has.
-    pub(crate) locked: &'a [&'a str],
+    pub locked: &'a [&'a str],
 }

@@ -1,8 +1,7 @@
 //! Registers that runs begin with and leave, and their audits.
 
-use crate::fake_files::FakeFile;
-use crate::runs::{expect, expect_held, keeping, run_with};
 use cwr_sheets::{one_answer, plain_file, same};
+use program_runs::{FakeFile, expect, expect_held, keeping, run_with};
 use std::alloc::Global;
 use std::process::ExitCode;
 use std::sync::Wait;

@@ -1,10 +1,9 @@
 //! Which of several files fails, and what becomes of the others.
 
-use crate::fake_files::FakeFile;
-use crate::runs::{expect, expect_held, keeping, run_with};
 use cwr_sheets::{
     OTHER_SENDER, SENDER, acknowledgement, decision, miscounted, one_work, plain_file, same,
 };
+use program_runs::{FakeFile, expect, expect_held, keeping, run_with};
 use std::alloc::Global;
 use std::process::ExitCode;
 use std::sync::Wait;

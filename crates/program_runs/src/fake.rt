@@ -1,0 +1,258 @@
+//! A runtime of the tests' own: words, standard input, files, and what was printed. Threads are those of another one.
+
+use crate::calls::{Calls, Disk};
+use crate::fake_files::{FakeFile, KeptFile, NO_SUCH_FILE};
+use cwr_sheets::{same, same_bytes, same_text};
+use purvilgo_command::run_program;
+use std::alloc::Global;
+use std::fmt::Display;
+use std::fs::Metadata;
+use std::io;
+use std::process::ExitCode;
+use std::sync::{Mutex, Wait};
+use std::test::Fail;
+use std::thread::Threads;
+
+/// What the program finds when it is run, and what it leaves.
+pub struct Fake<'a, T> {
+    /// The runtime that starts threads and waits.
+    pub(crate) rt: &'a T,
+    pub(crate) words: &'a [&'a str],
+    pub(crate) input: &'a [u8],
+    /// The files that can only be read, by name.
+    pub(crate) files: &'a [(&'a str, FakeFile<'a>)],
+    /// The files that can be written.
+    pub(crate) kept: &'a [KeptFile<'a>],
+    /// What the system tells of files and directories that are there, by name.
+    pub(crate) nodes: &'a [(&'a str, Metadata)],
+    /// The names that are links, and to what.
+    pub(crate) links: &'a [(&'a str, &'a str)],
+    /// The locks that another run has.
+    pub(crate) locked: &'a [&'a str],
+    /// Where the calls that change files are counted, if anywhere.
+    pub(crate) calls: Option<&'a Calls>,
+    /// Whether a file was opened that can only be read.
+    pub(crate) has_read: Mutex<bool>,
+    pub(crate) alloc: Global,
+    pub(crate) printed: Mutex<Vec<u8>>,
+    pub(crate) complained: Mutex<String>,
+}
+
+impl<'a, T: AllocGlobal> Fake<'a, T> {
+    /// A runtime with these words and this standard input, without files.
+    pub fn new(rt: &'a T, words: &'a [&'a str], input: &'a [u8]) -> Fake<'a, T> {
+        let alloc = rt.alloc();
+        Fake {
+            rt,
+            words,
+            input,
+            files: &[],
+            kept: &[],
+            nodes: &[],
+            links: &[],
+            locked: &[],
+            calls: None,
+            has_read: Mutex::new(false),
+            alloc,
+            printed: Mutex::new(Vec::new(alloc)),
+            complained: Mutex::new(String::new(alloc)),
+        }
+    }
+
+    /// The same runtime with these files.
+    pub fn with_files(
+        self,
+        files: &'a [(&'a str, FakeFile<'a>)],
+        kept: &'a [KeptFile<'a>],
+    ) -> Fake<'a, T> {
+        let Fake {
+            rt,
+            words,
+            input,
+            files: _,
+            kept: _,
+            nodes,
+            links,
+            locked,
+            calls,
+            has_read,
+            alloc,
+            printed,
+            complained,
+        } = self;
+        Fake {
+            rt,
+            words,
+            input,
+            files,
+            kept,
+            nodes,
+            links,
+            locked,
+            calls,
+            has_read,
+            alloc,
+            printed,
+            complained,
+        }
+    }
+
+    /// The same runtime where the system tells this of names.
+    pub fn with_names(
+        self,
+        nodes: &'a [(&'a str, Metadata)],
+        links: &'a [(&'a str, &'a str)],
+    ) -> Fake<'a, T> {
+        let Fake {
+            rt,
+            words,
+            input,
+            files,
+            kept,
+            nodes: _,
+            links: _,
+            locked,
+            calls,
+            has_read,
+            alloc,
+            printed,
+            complained,
+        } = self;
+        Fake {
+            rt,
+            words,
+            input,
+            files,
+            kept,
+            nodes,
+            links,
+            locked,
+            calls,
+            has_read,
+            alloc,
+            printed,
+            complained,
+        }
+    }
+
+    /// The same runtime with these files that can only be read, and with the others on this disk.
+    pub fn with_disk(
+        self,
+        files: &'a [(&'a str, FakeFile<'a>)],
+        disk: &'a Disk<'a>,
+    ) -> Fake<'a, T> {
+        let Fake {
+            rt,
+            words,
+            input,
+            files: _,
+            kept: _,
+            nodes: _,
+            links: _,
+            locked: _,
+            calls: _,
+            has_read,
+            alloc,
+            printed,
+            complained,
+        } = self;
+        Fake {
+            rt,
+            words,
+            input,
+            files,
+            kept: &disk.files,
+            nodes: &disk.nodes,
+            links: disk.links,
+            locked: disk.locked,
+            calls: Some(&disk.calls),
+            has_read,
+            alloc,
+            printed,
+            complained,
+        }
+    }
+
+    /// What went to standard output and to standard error.
+    pub fn into_texts(self) -> (Vec<u8>, String) {
+        let Fake {
+            rt: _,
+            words: _,
+            input: _,
+            files: _,
+            kept: _,
+            nodes: _,
+            links: _,
+            locked: _,
+            calls: _,
+            has_read: _,
+            alloc: _,
+            printed,
+            complained,
+        } = self;
+        (printed.into_inner(), complained.into_inner())
+    }
+}
+
+/// Runs the program: its status, standard output and standard error must be these. Else its last word is told.
+pub fn expect_program<T: AllocGlobal + Threads + Wait + Sync>(
+    fake: Fake<T>,
+    status: ExitCode,
+    printed: &[u8],
+    complained: &str,
+) -> Result<(), Fail> {
+    let ended = run_program(&fake);
+    let what = fake.words.last().copied().unwrap_or("no words");
+    let (out, err) = fake.into_texts();
+    same_text(what, err.as_str(), complained)?;
+    same_bytes(what, out.as_slice(), printed)?;
+    same(what, &ended, &status)
+}
+
+impl<T> Fake<'_, T> {
+    /// Prints bytes.
+    pub(crate) fn put(&self, bytes: &[u8]) -> io::Result<()> {
+        if let Some(mut printed) = self.printed.try_lock() {
+            printed.extend_from_slice(bytes)?;
+        }
+        Ok(())
+    }
+
+    /// Writes a value to standard error.
+    pub(crate) fn complain<D: Display + Drop>(&self, value: D, end: &str) -> io::Result<()> {
+        let text = value.to_string(self.alloc)?;
+        if let Some(mut complained) = self.complained.try_lock() {
+            complained.push_str(text.as_str())?;
+            complained.push_str(end)?;
+        }
+        Ok(())
+    }
+}
+
+impl<'a, T> Fake<'a, T> {
+    /// Counts a call that changes files, where they are counted.
+    pub(crate) fn count(&self, what: &'static str, name: &str) -> io::Result<()> {
+        match self.calls {
+            Some(calls) => calls.make(what, name),
+            None => Ok(()),
+        }
+    }
+
+    /// Whether a file was read.
+    pub(crate) fn has_begun(&self) -> bool {
+        match self.has_read.try_lock() {
+            Some(has_read) => *has_read,
+            None => false,
+        }
+    }
+
+    /// The file whose draft has this name and is there.
+    pub(crate) fn drafted_by(&self, path: &str) -> io::Result<&'a KeptFile<'a>> {
+        for file in self.kept {
+            if file.is_drafted_by(path) && file.has_draft() {
+                return Ok(file);
+            }
+        }
+        Err(io::Error::from_raw_os_error(NO_SUCH_FILE))
+    }
+}

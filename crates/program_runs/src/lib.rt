@@ -1,0 +1,15 @@
+//! The program run over a runtime of the tests' own: its words, its files, what the system refuses, and what must become of them.
+#![tactic(auto)]
+
+mod calls;
+mod fake;
+mod fake_files;
+mod fake_system;
+mod meeting;
+mod runs;
+
+pub use calls::{Calls, Disk};
+pub use fake::{Fake, expect_program};
+pub use fake_files::{FakeFile, KeptFile, Opened};
+pub use meeting::Meeting;
+pub use runs::{expect, expect_held, keeping, run_with};
