@@ -16,7 +16,8 @@ use Rattle.cwr_acknowledgement.specs.Messages.{message_text}
 use Rattle.cwr_acknowledgement.specs.Acknowledgement.{file_start, group_start, group_end, file_end, told_count, ended, ack_record, message_record, message_lines, all_item_lines, ack_text, FitsFault, IsWholeItem}
 use Rattle.cwr_record.proofs.lemmas.Codes.{same_kind, same_status, length-work_kind_code, length-status_text}
 use Rattle.cwr_acknowledgement.proofs.AckTexts.{Fills, same_ended, same_number}
-use Rattle.cwr_acknowledgement.proofs.AckValues.{same_work, same_padded, length-padded, length-padded_work, length-message_text}
+use Rattle.cwr_acknowledgement.proofs.AckValues.{same_work, same_padded, length-padded_work, length-message_text}
+use Rattle.cwr_record.proofs.lemmas.RoundTrip.{length-padded}
 
 -- a fault that can be told, with a type of three bytes
 record IsWholeFault (fault : Fault) : Type 0 where

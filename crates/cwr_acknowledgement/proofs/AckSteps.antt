@@ -3,6 +3,7 @@ use Rattle.std.proofs.Common.{◌≡◌, ◌∙◌, ℕ, ◌+◌, ◌<◌, List,
 use Rattle.std.specs.List.{flat_map}
 use Rattle.std.proofs.lemmas.List.{drop_more, append-nil}
 use Rattle.std.proofs.lemmas.Grind.{flat_map-append}
+use Rattle.cwr_field.proofs.lemmas.Pieces.{moved}
 use Rattle.cwr_record.specs.Layout.{Part}
 use Rattle.cwr_record.specs.Lines.{line_of}
 use Rattle.cwr_record.specs.Stamp.{StampParts}
@@ -12,11 +13,6 @@ use Rattle.cwr_record.specs.declared.control.Header.{Header}
 use Rattle.cwr_call.specs.declared.transaction_fault.Fault.{Fault}
 use Rattle.cwr_acknowledgement.specs.AckItem.{Item}
 use Rattle.cwr_acknowledgement.specs.Acknowledgement.{ended, file_start, group_start, group_end, file_end, told_count, message_record, message_lines, item_lines, all_item_lines, ack_text}
-
--- what is written next is what the rest began with
-moved : (out new piece rest left total : List ℕ) → new ≡ out ++ piece → rest ≡ piece ++ left → out ++ rest ≡ total → new ++ left ≡ total
-moved out new piece rest left total wrote begins so_far =
-    ap (λ text. text ++ left) wrote ∙ append_assoc out piece left ∙ ap (λ text. out ++ text) (sym begins) ∙ so_far
 
 pub message_more : (faults : List Fault) (i n : ℕ) (d : Fault) (out new total : List ℕ) → n < length faults
     → new ≡ out ++ ended (line_of table.message (message_record i (n + 1) (get_or faults n d)))

@@ -1,12 +1,13 @@
 -- Two lines of one layout with the same bytes have the same texts.
-use Rattle.std.proofs.Common.{◌≡◌, ◌∙◌, ℕ, ◌-◌, ◌<◌, ◌^◌, List, [], ◌∷◌, ◌++◌, length, Some, arith, ap, sym, append_assoc}
-use Rattle.std.proofs.lemmas.List.{append-nil, append_cancel_left}
+use Rattle.std.proofs.Common.{◌≡◌, ◌∙◌, ℕ, ◌-◌, ◌<◌, ◌^◌, List, [], ◌∷◌, ◌++◌, length, Some, ap, sym, append_assoc}
+use Rattle.std.proofs.lemmas.List.{append_cancel_left}
 use Rattle.cwr_field.specs.Layout.{padded}
 use Rattle.cwr_field.proofs.lemmas.SameFronts.{same_fronts}
 use Rattle.cwr_field.specs.Number.{number_of, number_text}
 use Rattle.cwr_field.proofs.lemmas.DigitText.{number_of-number_text}
 use Rattle.cwr_record.specs.Layout.{Part, Read, Kept, Written}
 use Rattle.cwr_record.specs.Lines.{spelling, line_of}
+use Rattle.cwr_record.proofs.lemmas.RoundTrip.{padded_full}
 use Rattle.cwr_acknowledgement.specs.Acknowledgement.{ended}
 
 -- each text of the record fills its field
@@ -22,11 +23,6 @@ SameTexts [] x y = Unit {0}
 SameTexts (Read s part ∷ parts) x y = (spelling s.content s.column.width (part x) ≡ spelling s.content s.column.width (part y)) × SameTexts parts x y
 SameTexts (Kept column part ∷ parts) x y = (part x ≡ part y) × SameTexts parts x y
 SameTexts (Written column text ∷ parts) x y = SameTexts parts x y
-
-padded_full : (width : ℕ) (text : List ℕ) → length text ≡ width → padded width text ≡ text
-padded_full width text e =
-    let z : width - length text ≡ 0 = omega arith in
-    rw z (append-nil text)
 
 same_lines : {X : Type 0} (parts : List (Part X)) (x y : X) (r s : List ℕ) → Fills parts x → Fills parts y
     → line_of parts x ++ r ≡ line_of parts y ++ s → SameTexts parts x y × (r ≡ s)

@@ -4,7 +4,6 @@ use Rattle.std.specs.Prelude.{nat_le}
 use Rattle.std.specs.List.{list_all}
 use Rattle.std.specs.Option.{ForSome}
 use Rattle.std.proofs.lemmas.Bool.Decides.{nat_tests}
-use Rattle.std.proofs.lemmas.List.{length-append, length-replicate}
 use Rattle.cwr_field.specs.Layout.{padded}
 use Rattle.cwr_field.specs.Number.{number_of}
 use Rattle.cwr_field.proofs.lemmas.DigitText.{number_of-number_text}
@@ -32,9 +31,6 @@ pub same_padded : (width : ℕ) (a b : List ℕ) → length a ≡ length b → p
 same_padded width a b len e = (same_fronts a b (replicate (width - length a) 32) (replicate (width - length b) 32) len e).0
 
 -- their widths
-
-pub length-padded : (width : ℕ) (text : List ℕ) → length text ≤ width → length (padded width text) ≡ width
-length-padded width text le = omega (arith, length-append text (replicate (width - length text) 32), length-replicate {A = ℕ} (width - length text) 32)
 
 pub length-padded_work : (work : Option ℕ) → length (padded 20 (work_text work)) ≡ 20
 length-padded_work None = refl

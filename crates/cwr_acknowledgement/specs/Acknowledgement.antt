@@ -1,9 +1,9 @@
 -- The acknowledgement of a file (CWR 2.2, acknowledgement transactions), as a text.
-use Rattle.std.specs.Prelude.{◌≡◌, ℕ, ◌+◌, ◌<◌, ◌≤◌, ◌^◌, List, [], ◌∷◌, ◌++◌, length, Option, Some, None, codes}
+use Rattle.std.specs.Prelude.{◌≡◌, ℕ, ◌+◌, ◌-◌, ◌<◌, ◌≤◌, ◌^◌, List, [], ◌∷◌, ◌++◌, length, Option, Some, None, codes}
 use Rattle.std.specs.Option.{ForSome}
 use Rattle.std.specs.List.{flat_map, sum_by, AllByRecursion}
 use Rattle.cwr_field.specs.Layout.{padded}
-use Rattle.cwr_field.specs.Number.{number_text}
+use Rattle.cwr_field.specs.Number.{number_text, most_count}
 use Rattle.cwr_record.specs.Lines.{line_of}
 use Rattle.cwr_record.specs.Stamp.{StampParts}
 use Rattle.cwr_record.specs.Kinds.{work_kind_code, status_text}
@@ -98,6 +98,10 @@ all_item_lines stamp header i (item ∷ items) = item_lines stamp header i item 
 -- how many faults are told in all
 abbrev pub told_count : List Item → ℕ
 told_count items = sum_by (λ item. length (told_faults item)) items
+
+-- the most transactions and messages of an acknowledgement: with HDR, GRH, GRT and TRL eight digits count its records
+abbrev pub most_told : ℕ
+most_told = most_count - 4
 
 -- the lines of the acknowledgement
 abbrev pub ack_lines : StampParts → Header → List Item → List (List ℕ)

@@ -3,7 +3,7 @@
 ghost use Rattle.std.specs.Prelude.{◌≡◌, ◌≤◌, ◌+◌, ◌%◌, ◌++◌, codes, length};
 ghost use Rattle.cwr_field.specs.Layout.{padded};
 ghost use Rattle.cwr_field.specs.Number.{number_text};
-ghost use Rattle.cwr_acknowledgement.specs.Acknowledgement.{file_start, group_start, group_end, file_end, ack_record, message_record, work_text};
+ghost use Rattle.cwr_acknowledgement.specs.Acknowledgement.{file_start, group_start, group_end, file_end, ack_record, message_record, work_text, most_told};
 
 use crate::ack_item::AckItem;
 use crate::messages::message_text;
@@ -115,7 +115,7 @@ pub(crate) fn message_record(index: u32, detail: u32, fault: &Fault) -> Message
 }
 
 pub(crate) fn group_end(transactions: u32, told: u32) -> GroupTrailer
-    requires { transactions + told ≤ 99999995 }
+    requires { transactions + told ≤ most_told }
     ensures { result ≡ group_end transactions told }
 {
     GroupTrailer {
@@ -126,7 +126,7 @@ pub(crate) fn group_end(transactions: u32, told: u32) -> GroupTrailer
 }
 
 pub(crate) fn file_end(transactions: u32, told: u32) -> FileTrailer
-    requires { transactions + told ≤ 99999995 }
+    requires { transactions + told ≤ most_told }
     ensures { result ≡ file_end transactions told }
 {
     FileTrailer {

@@ -5,7 +5,7 @@ ghost use Rattle.cwr_record.specs.Control as control;
 ghost use Rattle.cwr_record.specs.Acknowledgement as table;
 ghost use Rattle.cwr_acknowledgement.specs.AckItem.{told_faults};
 ghost use Rattle.cwr_acknowledgement.specs.Acknowledgement.{file_start, group_start, group_end, file_end, ack_record, message_record};
-ghost use Rattle.cwr_acknowledgement.specs.Acknowledgement.{message_lines, item_lines, all_item_lines, told_count, ended, ack_text, FitsItem, FitsFault};
+ghost use Rattle.cwr_acknowledgement.specs.Acknowledgement.{message_lines, item_lines, all_item_lines, told_count, most_told, ended, ack_text, FitsItem, FitsFault};
 
 use crate::ack_item::AckItem;
 use crate::ack_records::{
@@ -32,7 +32,7 @@ pub fn ack_file<A: Allocator + Copy>(
     header: &Header,
     items: &[AckItem<A>],
 ) -> Result<Vec<u8, A>, Memory>
-    requires few { length items.now + told_count items.now ≤ 99999995 }
+    requires few { length items.now + told_count items.now ≤ most_told }
     requires fit { AllByRecursion FitsItem items.now }
     ensures { IfOk result (λ text. text.items ≡ ack_text stamp.now header.now items.now) }
 {
@@ -49,7 +49,7 @@ pub fn ack_file<A: Allocator + Copy>(
 
 /// How many faults the items tell.
 fn told_count<A: Allocator>(items: &[AckItem<A>]) -> u32
-    requires { told_count items.now ≤ 99999995 }
+    requires { told_count items.now ≤ most_told }
     ensures { result ≡ told_count items.now }
 {
     let count: usize = items.iter().map(|item| item.told_faults().len()).sum();
@@ -91,7 +91,7 @@ fn put_items<A: Allocator>(
     header: &Header,
     items: &[AckItem<A>],
 ) -> Result<(), Memory>
-    requires few { length items.now + told_count items.now ≤ 99999995 }
+    requires few { length items.now + told_count items.now ≤ most_told }
     requires fit { AllByRecursion FitsItem items.now }
     ensures { OnOk result (out.new.items
         ≡ out.old.items ++ flat_map ended (all_item_lines stamp.now header.now 0 items.now)) }
@@ -110,7 +110,7 @@ fn put_item<A: Allocator>(
     item: &AckItem<A>,
 ) -> Result<(), Memory>
     requires index { index < 10 ^ 8 }
-    requires few { length (told_faults item.now) ≤ 99999995 }
+    requires few { length (told_faults item.now) ≤ most_told }
     requires fits { FitsItem item.now }
     ensures { OnOk result (out.new.items
         ≡ out.old.items ++ flat_map ended (item_lines stamp.now header.now index item.now)) }
@@ -141,7 +141,7 @@ fn put_messages<A: Allocator>(
     faults: &[Fault],
 ) -> Result<(), Memory>
     requires index { index < 10 ^ 8 }
-    requires few { length faults.now ≤ 99999995 }
+    requires few { length faults.now ≤ most_told }
     requires fit { AllByRecursion FitsFault faults.now }
     ensures { OnOk result (out.new.items
         ≡ out.old.items ++ flat_map ended (message_lines index 1 faults.now)) }
@@ -173,7 +173,7 @@ fn put_group_end<A: Allocator>(
     transactions: u32,
     told: u32,
 ) -> Result<(), Memory>
-    requires { transactions + told ≤ 99999995 }
+    requires { transactions + told ≤ most_told }
     ensures { OnOk result (out.new.items
         ≡ out.old.items ++ ended (line_of control.group_trailer (group_end transactions told))) }
 {
@@ -186,7 +186,7 @@ fn put_file_end<A: Allocator>(
     transactions: u32,
     told: u32,
 ) -> Result<(), Memory>
-    requires { transactions + told ≤ 99999995 }
+    requires { transactions + told ≤ most_told }
     ensures { OnOk result (out.new.items
         ≡ out.old.items ++ ended (line_of control.file_trailer (file_end transactions told))) }
 {

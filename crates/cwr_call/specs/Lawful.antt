@@ -1,14 +1,23 @@
 -- What is true of every call.
-use Rattle.std.specs.Prelude.{ℕ, Bool, true, false, not, ◌&&◌, ◌||◌, ◌==◌, nat_lt, nat_le, List, [], ◌∷◌, length, Option, Some, None}
+use Rattle.std.specs.Prelude.{ℕ, ◌*◌, Bool, true, false, not, ◌&&◌, ◌||◌, ◌==◌, nat_lt, nat_le, List, [], ◌∷◌, length, Option, Some, None}
 use Rattle.std.specs.List.{list_all}
 use Rattle.std.specs.Char.{is_ascii_uppercase}
+use Rattle.cwr_field.specs.Iswc.{most_code}
 use Rattle.cwr_field.specs.Layout.{is_printable}
 use Rattle.cwr_field.specs.Number.{most_count}
-use Rattle.cwr_field.specs.Share.{most_whole}
+use Rattle.cwr_field.specs.Share.{whole, most_whole}
 use Rattle.cwr_call.specs.declared.transaction_fault.Fault.{Fault}
 use Rattle.cwr_call.specs.CallValue.{CallValue}
 
--- of a text in a call no byte is below 32
+-- the most faults of a call
+abbrev pub most_faults : ℕ
+most_faults = 999999999
+
+-- the most of a right that a call can control: all of it in each of its records
+abbrev pub most_sum : ℕ
+most_sum = most_count * whole
+
+-- of a text in a call no byte is a control byte
 abbrev pub is_clean : List ℕ → Bool
 is_clean bytes = is_printable bytes
 
@@ -31,7 +40,7 @@ rises (f ∷ faults) = rises_from f faults
 
 -- at most 999,999,999 faults, each one that a record can have, in strictly rising order
 abbrev pub are_faults : List Fault → Bool
-are_faults faults = nat_le (length faults) 999999999 && list_all is_fault faults && rises faults
+are_faults faults = nat_le (length faults) most_faults && list_all is_fault faults && rises faults
 
 abbrev pub is_none_found : List Fault → Bool
 is_none_found [] = true
@@ -46,9 +55,9 @@ is_whole faults control = not (is_none_found faults) || are_at_most most_whole c
 
 abbrev pub is_iswc : Option ℕ → Bool
 is_iswc None = true
-is_iswc (Some n) = nat_le n 999999999
+is_iswc (Some n) = nat_le n most_code
 
 abbrev pub is_lawful : CallValue → Bool
 is_lawful c =
     is_clean c.submitter && is_clean c.title && is_clean c.number && is_iswc c.iswc
-    && are_at_most 999999990000 c.control && is_whole c.faults c.control && are_faults c.faults
+    && are_at_most most_sum c.control && is_whole c.faults c.control && are_faults c.faults

@@ -1,5 +1,5 @@
 ghost use Rattle.std.specs.Prelude.{◌≡◌, IsTrue, IfSome, is_some};
-ghost use Rattle.cwr_call.specs.Lawful.{is_lawful, is_clean, is_iswc, are_at_most, is_whole, are_faults};
+ghost use Rattle.cwr_call.specs.Lawful.{is_lawful, is_clean, is_iswc, most_sum, are_at_most, is_whole, are_faults};
 
 use crate::lawful;
 use crate::transaction_fault::{Fault, Faults};
@@ -61,7 +61,7 @@ impl<A: Allocator> Call<A> {
             && is_printable(&title)
             && is_printable(&number)
             && lawful::is_iswc(iswc)
-            && lawful::are_at_most(999999990000, &control)
+            && lawful::are_at_most(lawful::MOST_SUM, &control)
             && lawful::is_whole(faults.as_slice(), &control)
             && lawful::are_faults(faults.as_slice());
         if !is_lawful {
@@ -145,7 +145,7 @@ impl<A: Allocator> Call<A> {
     /// right, in hundredths of one per cent.
     pub fn control(&self) -> [u64; 3]
         ensures value { result ≡ self.now.control }
-        ensures bound { IsTrue (are_at_most 999999990000 result) }
+        ensures bound { IsTrue (are_at_most most_sum result) }
         ensures whole { IsTrue (is_whole self.now.faults result) }
     {
         self.control

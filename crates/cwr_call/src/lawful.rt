@@ -4,7 +4,13 @@ ghost use Rattle.std.specs.Char.{is_ascii_uppercase};
 ghost use Rattle.cwr_call.specs.Lawful.{is_fault, is_before, rises, are_faults, are_at_most, is_whole, is_iswc};
 
 use crate::transaction_fault::Fault;
-use cwr_field::{MOST_COUNT, MOST_WHOLE};
+use cwr_field::{MOST_CODE, MOST_COUNT, MOST_WHOLE, WHOLE};
+
+/// The most faults of a call.
+const MOST_FAULTS: usize = 999999999;
+
+/// The most of a right that a call can control: all of it in each of its records.
+pub(crate) const MOST_SUM: u64 = MOST_COUNT as u64 * WHOLE;
 
 /// Whether each byte is a capital, from A to Z.
 fn are_capitals(name: &[u8]) -> bool
@@ -57,7 +63,7 @@ fn are_each_faults(faults: &[Fault]) -> bool
 pub(crate) fn are_faults(faults: &[Fault]) -> bool
     ensures { result ≡ are_faults faults.now }
 {
-    faults.len() <= 999999999 && are_each_faults(faults) && rises(faults)
+    faults.len() <= MOST_FAULTS && are_each_faults(faults) && rises(faults)
 }
 
 /// Whether no control is above the limit.
@@ -80,6 +86,6 @@ pub(crate) fn is_iswc(iswc: Option<u64>) -> bool
 {
     match iswc {
         None => true,
-        Some(number) => number <= 999999999,
+        Some(number) => number <= MOST_CODE,
     }
 }

@@ -4,3 +4,5 @@ pub mod DigitText
 pub mod CodeText
 pub mod Spelling
 pub mod Tests
+pub mod Printable
+pub mod Pieces

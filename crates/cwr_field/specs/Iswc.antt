@@ -10,6 +10,10 @@ abbrev pub weighted_sum : ℕ → ℕ → ℕ
 weighted_sum zero n = 0
 weighted_sum (suc count) n = weighted_sum count (n / 10) + (count + 1) * (n % 10)
 
+-- the greatest number of nine digits
+abbrev pub most_code : ℕ
+most_code = 999999999
+
 -- the check digit of the nine digits: with it, 1 and the digits in their weights add up to a multiple of 10
 abbrev pub check_digit : ℕ → ℕ
 check_digit n = (10 - (1 + weighted_sum 9 n) % 10) % 10

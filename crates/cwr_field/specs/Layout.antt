@@ -1,6 +1,6 @@
 -- Fields of fixed width in a line of bytes (CWR 2.2, record layouts).
 use Rattle.std.specs.List.{list_all}
-use Rattle.std.specs.Prelude.{ℕ, ◌-◌, ◌==◌, nat_le, Bool, List, ◌++◌, length, take, drop, replicate, Option, Some, None, if◌then◌else◌}
+use Rattle.std.specs.Prelude.{ℕ, ◌-◌, ◌==◌, nat_le, nat_lt, Bool, List, ◌++◌, length, take, drop, replicate, Option, Some, None, if◌then◌else◌}
 
 -- the n bytes from position start, counted from 1, of the line, which blanks follow without end
 abbrev pub field : List ℕ → ℕ → ℕ → List ℕ
@@ -14,9 +14,17 @@ padded width text = text ++ replicate (width - length text) 32
 abbrev pub is_blank : List ℕ → Bool
 is_blank bytes = list_all (λ b. b == 32) bytes
 
--- no byte is below 32, as those of line ends and other controls are
+-- the least byte that is no control: a blank
+abbrev pub least_printable : ℕ
+least_printable = 32
+
+-- a control byte, as those of line ends are
+abbrev pub is_control : ℕ → Bool
+is_control byte = nat_lt byte least_printable
+
+-- no byte is a control byte
 abbrev pub is_printable : List ℕ → Bool
-is_printable bytes = list_all (nat_le 32) bytes
+is_printable bytes = list_all (nat_le least_printable) bytes
 
 -- an interested party number: the field's bytes, unless they are blank
 abbrev pub party_of : List ℕ → Option (List ℕ)

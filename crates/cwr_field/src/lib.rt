@@ -26,5 +26,5 @@ pub use memory::Memory;
 pub use number::{
     LEAST_WHOLE, MOST_COUNT, MOST_WHOLE, WHOLE, digits, last_digits, put_digits, share,
 };
-pub use text::{filled, is_printable, put_text};
-pub use work_code::{check_digit, iswc};
+pub use text::{LEAST_PRINTABLE, filled, is_printable, put_text};
+pub use work_code::{MOST_CODE, check_digit, iswc};

@@ -1,6 +1,6 @@
 ghost use Rattle.std.specs.Prelude.{◌≡◌, ◌≤◌, ◌<◌, ◌^◌, ◌+◌, ◌++◌, IfSome, OnOk, OnErr, length, vec_len, vec_capacity};
 ghost use Rattle.cwr_field.specs.Number.{number_of, number_text};
-ghost use Rattle.cwr_field.specs.Share.{share_of};
+ghost use Rattle.cwr_field.specs.Share.{share_of, whole};
 
 use crate::field::Field;
 use crate::memory::Memory;
@@ -49,7 +49,7 @@ pub fn digits(text: Field) -> Option<u64>
 pub fn share(text: Field) -> Option<u16>
     requires { length text ≡ 5 }
     ensures value { result ≡ share_of text.entry }
-    ensures bound { IfSome result (λ n. n ≤ 10000) }
+    ensures bound { IfSome result (λ n. n ≤ whole) }
 {
     if text.is_blank() {
         return Some(0);

@@ -4,11 +4,14 @@ ghost use Rattle.cwr_field.specs.Layout.{padded, is_printable};
 use crate::memory::Memory;
 use std::alloc::Allocator;
 
+/// The least byte that is no control byte: a blank.
+pub const LEAST_PRINTABLE: u8 = 32;
+
 /// Whether no byte is below 32, as those of line ends and other controls are.
 pub fn is_printable(text: &[u8]) -> bool
     ensures { result ≡ is_printable text.now }
 {
-    text.iter().all(|byte| 32 <= *byte)
+    text.iter().all(|byte| LEAST_PRINTABLE <= *byte)
 }
 
 /// A text, which is no longer than the width, and blanks up to the width.

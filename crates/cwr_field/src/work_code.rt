@@ -1,14 +1,17 @@
 ghost use Rattle.std.specs.Prelude.{◌≡◌, ◌≤◌, ◌<◌, ◌^◌, ℕ, length};
 ghost use Rattle.cwr_field.specs.declared.codes.Iswc.TheVariants.{Valid};
-ghost use Rattle.cwr_field.specs.Iswc.{check_digit, iswc_of};
+ghost use Rattle.cwr_field.specs.Iswc.{check_digit, iswc_of, most_code};
 
 use crate::codes::Iswc;
 use crate::field::Field;
 use crate::number::number_in;
 
+/// The greatest number of nine digits, which an ISWC has.
+pub const MOST_CODE: u64 = 999999999;
+
 /// The check digit of an ISWC's nine digits (ISO 15707).
 pub fn check_digit(number: u64) -> u8
-    requires { number ≤ 999999999 }
+    requires { number ≤ most_code }
     ensures value { result ≡ check_digit number }
     ensures digit { result < 10 }
 {

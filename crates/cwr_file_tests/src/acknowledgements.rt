@@ -3,7 +3,7 @@
 ghost use Rattle.std.specs.Prelude.{◌≡◌, ◌+◌, ◌<◌, ◌≤◌, ◌^◌, [], false, length};
 ghost use Rattle.std.specs.List.{AllByRecursion};
 ghost use Rattle.cwr_acknowledgement.specs.AckItem.{is_rejected, told_faults};
-ghost use Rattle.cwr_acknowledgement.specs.Acknowledgement.{FitsItem, FitsFault, told_count};
+ghost use Rattle.cwr_acknowledgement.specs.Acknowledgement.{FitsItem, FitsFault, told_count, most_told};
 
 use cwr_field::{cut, date, put_text, time};
 use cwr_file::{AckItem, Fault, Faults, Header, Lines, Memory, Stamp, Status, WorkKind, ack_file};
@@ -112,7 +112,7 @@ fn rejected(title: &[u8], number: &[u8], faults: Vec<Fault>) -> AckItem
 
 /// The acknowledgement of these items, which must be these texts, all room for it asked for at once.
 fn expect_text(alloc: Global, items: &[AckItem], wanted: &[&str]) -> Result<(), Fail>
-    requires few { length items.now + told_count items.now ≤ 99999995 }
+    requires few { length items.now + told_count items.now ≤ most_told }
     requires fit { AllByRecursion FitsItem items.now }
 {
     let text = ack_file(alloc, &stamp()?, &header(alloc)?, items)?;

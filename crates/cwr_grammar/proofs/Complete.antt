@@ -134,7 +134,7 @@ group_end_next before k g a l t m x y z h = record { goes = h.goes; some = refl;
 closed_at : (before : List Role) (g a l g' a' l' : ℕ) → g ≡ g' → a ≡ a' → l ≡ l' → Closed before g a l → Closed before g' a' l'
 closed_at before g a l g' a' l' p q r h = rw (← p, ← q, ← r) h
 
-group_end_is : (g t m t' m' : ℕ) → t ≡ t' → m ≡ m' → GroupTrailer (Some g) (Some t) (Some m) ≡ GroupTrailer (Some g) (Some t') (Some m')
+pub group_end_is : (g t m t' m' : ℕ) → t ≡ t' → m ≡ m' → GroupTrailer (Some g) (Some t) (Some m) ≡ GroupTrailer (Some g) (Some t') (Some m')
 group_end_is g t m t' m' p q = cc
 
 groups_clear : (gs : List Group) (before : List Role) (g a l : ℕ) (rest : List Role) → Closed before g a l
@@ -158,7 +158,7 @@ groups_clear (x ∷ gs) before g a l rest h =
 file_end_clear : (before : List Role) (g a l : ℕ) → Closed before g a l → role_fault before (FileTrailer (Some g) (Some a) (Some (l + 1))) ≡ None
 file_end_clear before g a l h = rw (h.goes, h.some, h.group, h.groups, h.all, h.lines, same g, same a, same (l + 1)) refl
 
-file_end_is : (g a l g' a' l' : ℕ) → g ≡ g' → a ≡ a' → l ≡ l' → FileTrailer (Some g) (Some a) (Some l) ≡ FileTrailer (Some g') (Some a') (Some l')
+pub file_end_is : (g a l g' a' l' : ℕ) → g ≡ g' → a ≡ a' → l ≡ l' → FileTrailer (Some g) (Some a) (Some l) ≡ FileTrailer (Some g') (Some a') (Some l')
 file_end_is g a l g' a' l' p q r = cc
 
 pub envelope_clear : (gs : List Group) → first_role_fault [] (envelope gs) ≡ None

@@ -1,4 +1,4 @@
--- The first byte below 32, 32 bytes at a time.
+-- The first control byte, 32 bytes at a time.
 use Rattle.std.proofs.Common.{◌≡◌, ℕ, zero, suc, ◌+◌, ◌-◌, ◌≤◌, ◌<◌, ◌^◌, ◌%◌, ltb, eqb, Bool, true, false, cond, List, [], ◌∷◌, length, map, take, drop, get_or, replicate, Some, None, arith, refl, sym, ap, ◌∙◌, w8, ⊎_elim}
 use Rattle.std.specs.List.{position_or_len, position}
 use Rattle.std.proofs.lemmas.Simd.{bitmask_splat, leading_from_mask_l, trailing_mask_l, run_in_chunk_fails, run_in_chunk_stops}
@@ -6,30 +6,28 @@ use Rattle.std.proofs.lemmas.List.{length-take, length-drop}
 use Rattle.std.proofs.lemmas.List.Sums.{position_or_len_is}
 use Rattle.std.proofs.lemmas.Bool.Decides.{nat_tests}
 use Rattle.std.proofs.lemmas.Bool.{cases_lt}
-use Rattle.std.proofs.Common.{eq-eqb, ◌||◌}
+use Rattle.std.proofs.Common.{eq-eqb, leb, not}
 use Rattle.std.specs.List.{slice_index}
-use Rattle.std.proofs.lemmas.List.{take-append-drop, take-append-le}
+use Rattle.std.proofs.lemmas.List.{take-append-le}
 use Rattle.std.proofs.lemmas.List.{get_or-take, take_more}
 use Rattle.std.proofs.lemmas.List.Sums.{fails_before_first}
-use Rattle.std.proofs.lemmas.List.Folds.{list_any_none, list_any-append}
-use Rattle.std.proofs.lemmas.List.Elements.{All-from_get_or}
+use Rattle.cwr_field.proofs.lemmas.Tests.{both}
 use Rattle.std.specs.Str.Lines.{strip_carriage_return}
+use Rattle.cwr_field.specs.Layout.{least_printable, is_control, is_printable}
+use Rattle.cwr_field.proofs.lemmas.Printable.{printable-take}
 use Rattle.cwr_grammar.specs.FaultTests.{has_control}
 use lib.Count.{count_trailing_zeros}
 use lib.Lanes.{mask_l, top, zip2}
 use mir.Val.{bits, hbits}
 
-abbrev pub is_control : ℕ → Bool
-is_control b = ltb b 32
-
 abbrev pub mask_of : List ℕ → ℕ
-mask_of xs = mask_l (map (top (hbits w8)) (zip2 (λ a b. cond (ltb a b) (2 ^ bits w8 - 1) 0) xs (replicate 32 32))) % 2 ^ 64
+mask_of xs = mask_l (map (top (hbits w8)) (zip2 (λ a b. cond (ltb a b) (2 ^ bits w8 - 1) 0) xs (replicate 32 least_printable))) % 2 ^ 64
 
 chunk_length : (text : List ℕ) (at : ℕ) → at + 32 ≤ length text → length (take 32 (drop at text)) ≡ 32
 chunk_length text at le = omega (arith, le, length-take 32 (drop at text), length-drop at text)
 
 mask_is : (xs : List ℕ) → length xs ≡ 32 → mask_of xs ≡ mask_l (map is_control xs)
-mask_is xs e = bitmask_splat w8 ltb xs 32 32 e (omega arith)
+mask_is xs e = bitmask_splat w8 ltb xs least_printable 32 e (omega arith)
 
 pub zero_mask : (text : List ℕ) (at : ℕ) → at + 32 ≤ length text → mask_of (take 32 (drop at text)) ≡ 0 → 32 ≡ position_or_len is_control (take 32 (drop at text))
 zero_mask text at le e =
@@ -50,7 +48,7 @@ passes_before : (text : List ℕ) (at n : ℕ) → ((k : ℕ) → at ≤ k → k
     → (k : ℕ) → k < at + n → is_control (get_or text k 0) ≡ false
 passes_before text at n here before k lt = ⊎_elim (λ l. before k l) (λ ge. here k ge lt) (cases_lt k at)
 
--- nothing below 32 in one chunk more
+-- no control byte in one chunk more
 pub chunk_passes : (text : List ℕ) (at n : ℕ) → at + 32 ≤ length text → n ≡ position_or_len is_control (take 32 (drop at text)) → 32 ≤ n → ((k : ℕ) → k < at → is_control (get_or text k 0) ≡ false)
     → (k : ℕ) → k < at + 32 → is_control (get_or text k 0) ≡ false
 chunk_passes text at n le is full before k lt = passes_before text at n (λ j low high. run_in_chunk_fails is_control text at 32 n 0 le is j low high) before k (omega (arith, full, lt))
@@ -61,13 +59,13 @@ chunk_stops text at n le is short before =
     sym (position_or_len_is is_control text (at + n) 0 (omega (arith, le, short)) (λ k lt. passes_before text at n (λ j low high. run_in_chunk_fails is_control text at 32 n 0 le is j low high) before k lt)
     (λ lt. run_in_chunk_stops is_control text at 32 n 0 le is short))
 
-pub stops_at : (text : List ℕ) (at : ℕ) → at < length text → get_or text at 0 < 32 → ((k : ℕ) → k < at → is_control (get_or text k 0) ≡ false) → at ≡ position_or_len is_control text
+pub stops_at : (text : List ℕ) (at : ℕ) → at < length text → get_or text at 0 < least_printable → ((k : ℕ) → k < at → is_control (get_or text k 0) ≡ false) → at ≡ position_or_len is_control text
 stops_at text at lt small before = let h : is_control (get_or text at 0) ≡ true = grind (arith, nat_tests) in sym (position_or_len_is is_control text at 0 (omega (arith, lt)) before (λ _. h))
 
 pub stops_after : (text : List ℕ) (at : ℕ) → at ≤ length text → length text ≤ at → ((k : ℕ) → k < at → is_control (get_or text k 0) ≡ false) → at ≡ position_or_len is_control text
 stops_after text at le ge before = sym (position_or_len_is is_control text at 0 le before (λ lt. absurd (omega (arith, lt, ge))))
 
--- ---- the end of a line at the first byte below 32
+-- ---- the end of a line at the first control byte
 
 below : (text : List ℕ) (end : ℕ) → end ≡ position_or_len is_control text → (k : ℕ) → k < end → is_control (get_or text k 0) ≡ false
 below text end is k lt = fails_before_first is_control text k 0 (omega (arith, lt, is))
@@ -92,16 +90,30 @@ ends_return text end is lt at next =
     position_at text (end + 1) lt
     (λ k l. ⊎_elim (λ (less : k < end). no_newline _ (below text end is k less)) (λ (ge : end ≤ k). let same : k ≡ end = omega (arith, l, ge) in ap (λ (j : ℕ). eqb (get_or text j 0) 10) same ∙ ap (λ (b : ℕ). eqb b 10) at) (cases_lt k end)) next
 
+printable_byte : (b : ℕ) → is_control b ≡ false → leb least_printable b ≡ true
+printable_byte b e = grind (arith, nat_tests)
+
+each_printable : (xs : List ℕ) → ((i : ℕ) → i < length xs → is_control (get_or xs i 0) ≡ false) → is_printable xs ≡ true
+each_printable [] each = refl
+each_printable (x ∷ xs) each =
+    both (leb least_printable x) (is_printable xs) (printable_byte x (each 0 (omega arith))) (each_printable xs (λ i lt. each (suc i) (omega (arith, lt))))
+
+pub no_control : (xs : List ℕ) → is_printable xs ≡ true → has_control xs ≡ false
+no_control xs h = ap not h
+
+pub printable : (xs : List ℕ) → has_control xs ≡ false → is_printable xs ≡ true
+printable xs h = by (is_printable xs) h
+  where
+    by : (b : Bool) → not b ≡ false → b ≡ true
+    by true e = refl
+    by false e = absurd cc
+
 clean_front : (text : List ℕ) (end : ℕ) → end ≡ position_or_len is_control text → end ≤ length text → has_control (take end text) ≡ false
 clean_front text end is le =
-    list_any_none is_control (take end text) (All-from_get_or (λ b. is_control b ≡ false) (take end text) 0 (λ i lt. let near : i < end = omega (arith, lt, length-take end text) in rw (get_or-take end text i 0 near) (below text end is i near)))
-
-first_false : (a b : Bool) → (a || b) ≡ false → a ≡ false
-first_false true b e = e
-first_false false b e = refl
+    no_control (take end text) (each_printable (take end text) (λ i lt. let near : i < end = omega (arith, lt, length-take end text) in rw (get_or-take end text i 0 near) (below text end is i near)))
 
 clean_take : (n : ℕ) (xs : List ℕ) → has_control xs ≡ false → has_control (take n xs) ≡ false
-clean_take n xs e = first_false (has_control (take n xs)) (has_control (drop n xs)) (sym (list_any-append is_control (take n xs) (drop n xs)) ∙ ap has_control (take-append-drop n xs) ∙ e)
+clean_take n xs e = no_control (take n xs) (printable-take n xs (printable xs e))
 
 clean_stripped : (xs : List ℕ) → has_control xs ≡ false → has_control (strip_carriage_return xs) ≡ false
 clean_stripped xs e =

@@ -1,21 +1,19 @@
 -- What every well-formed file is within: the numbers of its transactions, their lines, and the bytes of its sender.
-use Rattle.std.proofs.Common.{◌≡◌, ◌∙◌, ℕ, zero, suc, ◌+◌, ◌*◌, ◌-◌, ◌<◌, ◌≤◌, ◌^◌, Bool, true, false, cond, List, [], ◌∷◌, ◌++◌, length, take, drop, replicate, arith, refl, sym, ap, subst}
-use Rattle.std.specs.Prelude.{◌==◌, ◌&&◌, slice_index, nat_le}
+use Rattle.std.proofs.Common.{◌≡◌, ℕ, ◌+◌, ◌*◌, ◌-◌, ◌<◌, ◌≤◌, ◌^◌, Bool, true, false, cond, List, [], ◌∷◌, ◌++◌, length, take, arith, refl, sym, ap, subst}
+use Rattle.std.specs.Prelude.{◌==◌, slice_index}
 use Rattle.std.specs.List.{slice_split, onto_first, AllByRecursion}
 use Rattle.std.specs.Str.Lines.{lines, lines_of_parts, strip_carriage_return}
-use Rattle.std.proofs.lemmas.List.{length-take, take-append-drop}
-use Rattle.std.proofs.lemmas.List.Folds.{list_all-append}
-use Rattle.cwr_field.specs.Layout.{field}
+use Rattle.std.proofs.lemmas.List.{length-take}
+use Rattle.cwr_field.proofs.lemmas.Printable.{printable-field}
 use Rattle.cwr_record.specs.Columns.{header_sender}
 use Rattle.cwr_record.specs.Control as table
 use Rattle.cwr_record.specs.Layout.{StandsFor}
-use Rattle.cwr_field.specs.Layout.{is_printable}
 use Rattle.cwr_record.specs.declared.control.Header.{Header}
 use Rattle.cwr_record.specs.declared.works.WorkKind.{WorkKind}
 use Rattle.cwr_grammar.specs.File.{File, FileGroup, IsFile, AreGroups, AreTransactions, IsTransaction, AreDetails, lines_of_group, lines_of_groups, joined, records_of}
 use Rattle.cwr_grammar.specs.RawParts.{RawParts, IsPlaced, lines_in, raws_of, raws_of_group}
 use Rattle.cwr_grammar.specs.Submitted.{IsBounded}
-use Rattle.cwr_grammar.proofs.FileTexts.{printable}
+use Rattle.cwr_grammar.proofs.Controls.{printable}
 use Rattle.cwr_grammar.proofs.Numbers.{small_role}
 
 -- ---- the lines of a text
@@ -118,25 +116,6 @@ all_small i (g ∷ gs) are =
 
 -- ---- the sender
 
-and_both : (a b : Bool) → (a && b) ≡ true → (a ≡ true) × (b ≡ true)
-and_both true b h = (refl, h)
-and_both false b h = absurd cc
-
-blanks_printable : (n : ℕ) → is_printable (replicate n 32) ≡ true
-blanks_printable zero = refl
-blanks_printable (suc n) = blanks_printable n
-
-parts_printable : (n : ℕ) (xs : List ℕ) → is_printable xs ≡ true → (is_printable (take n xs) ≡ true) × (is_printable (drop n xs) ≡ true)
-parts_printable n xs h =
-    and_both (is_printable (take n xs)) (is_printable (drop n xs))
-    (sym (list_all-append (nat_le 32) (take n xs) (drop n xs)) ∙ ap (λ (l : List ℕ). is_printable l) (take-append-drop n xs) ∙ h)
-
-field_printable : (line : List ℕ) (s n : ℕ) → is_printable line ≡ true → is_printable (field line s n) ≡ true
-field_printable line s n h =
-    let whole : is_printable (drop (s - 1) line ++ replicate n 32) ≡ true =
-    list_all-append (nat_le 32) (drop (s - 1) line) (replicate n 32) ∙ rw ((parts_printable (s - 1) line h).1, blanks_printable n) refl
-    in (parts_printable n (drop (s - 1) line ++ replicate n 32) whole).0
-
 -- ---- all of it
 
 pub file_bounds : (input : List ℕ) (file : File) (head : Header) (found : List RawParts) → IsFile (lines input) file → StandsFor table.header file.header head
@@ -144,5 +123,5 @@ pub file_bounds : (input : List ℕ) (file : File) (head : Header) (found : List
 file_bounds input file head found formed stands is = record {
   placed = subst (λ (ts : List RawParts). AllByRecursion IsPlaced ts) (sym is) (all_small 1 file.groups formed.groups);
   few = let h = few_lines input file formed in let same = ap lines_in is in omega (arith, h, same);
-  printable = rw stands.1.0 (field_printable file.header header_sender.start header_sender.width (printable file.header formed.plain.0.0));
+  printable = rw stands.1.0 (printable-field file.header header_sender.start header_sender.width (printable file.header formed.plain.0.0));
 }

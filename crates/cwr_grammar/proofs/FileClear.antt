@@ -11,10 +11,8 @@ use Rattle.cwr_grammar.specs.FirstFault.{role_fault, at_line, or_else, or_number
 use Rattle.cwr_grammar.proofs.Envelope.{first_role_fault, Group, transaction, transactions_from, size, all_transactions_of, all_lines_of, group_text, groups_from, envelope}
 use Rattle.cwr_grammar.specs.File.{File, FileGroup, IsFile, IsPlain, AreGroups, AreTransactions, AreDetails, records_of, lines_of_group, lines_of_groups, joined, transactions_in}
 use Rattle.cwr_grammar.proofs.Accepted.{details_from, split, end_is}
-use Rattle.cwr_grammar.proofs.Complete.{envelope_clear}
+use Rattle.cwr_grammar.proofs.Complete.{envelope_clear, group_end_is, file_end_is}
 use Rattle.cwr_grammar.proofs.ReadSteps.{any_more}
-use Rattle.cwr_grammar.proofs.FileCuts.{end_line}
-use Rattle.cwr_grammar.proofs.FileLaw.{file_end_line}
 
 -- ---- the types of a file's lines are an envelope
 
@@ -54,7 +52,7 @@ map_groups i (g ∷ gs) (head, others) =
     let more = map_groups (i + 1) gs others in
     let here = map_transactions g.kind 0 g.transactions head.transactions in
     let counted = length-map g.transactions detail_count in
-    let end = joins g.trailer [] _ [] (head.trailer ∙ end_line i (length g.transactions) (2 + length (joined g.transactions)) (length (map detail_count g.transactions)) (2 + size (map detail_count g.transactions)) (sym counted) (omega (arith, here.1))) refl in (
+    let end = joins g.trailer [] _ [] (head.trailer ∙ group_end_is i (length g.transactions) (2 + length (joined g.transactions)) (length (map detail_count g.transactions)) (2 + size (map detail_count g.transactions)) (sym counted) (omega (arith, here.1))) refl in (
       map-append role_of (lines_of_group g) (lines_of_groups gs)
           ∙ ap (λ (xs : List Role). xs ++ map role_of (lines_of_groups gs)) (joins g.head _ _ _ head.head (map-append role_of (joined g.transactions) (g.trailer ∷ []) ∙ ap (λ (xs : List Role). xs ++ map role_of (g.trailer ∷ [])) here.0 ∙ ap (λ (xs : List Role). transactions_from g.kind 0 (map detail_count g.transactions) ++ xs) end))
           ∙ ap (λ (xs : List Role). group_text i (shape_of g) ++ xs) more.0,
@@ -68,7 +66,7 @@ map_groups i (g ∷ gs) (head, others) =
 map_file : (text : List (List ℕ)) (f : File) → IsFile text f → map role_of (records_of f) ≡ envelope (map shape_of f.groups)
 map_file text f h =
     let body = map_groups 1 f.groups h.groups in
-    let end = joins f.trailer [] _ [] (h.trailer ∙ file_end_line _ _ _ _ _ _ body.1.count body.1.transactions (omega (arith, body.1.lines, length-append (lines_of_groups f.groups) (f.trailer ∷ [])))) refl in
+    let end = joins f.trailer [] _ [] (h.trailer ∙ file_end_is _ _ _ _ _ _ body.1.count body.1.transactions (omega (arith, body.1.lines, length-append (lines_of_groups f.groups) (f.trailer ∷ [])))) refl in
     joins f.header _ _ _ h.header (map-append role_of (lines_of_groups f.groups) (f.trailer ∷ []) ∙ ap (λ (xs : List Role). xs ++ map role_of (f.trailer ∷ [])) body.0 ∙ ap (λ (xs : List Role). groups_from 1 (map shape_of f.groups) ++ xs) end)
 
 -- ---- no fault in the types, plain lines and a tail

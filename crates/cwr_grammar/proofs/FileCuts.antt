@@ -7,6 +7,7 @@ use Rattle.cwr_grammar.specs.Roles.{role_of}
 use Rattle.cwr_grammar.proofs.Envelope.{Group, transaction, transactions_from, size, all_transactions_of, all_lines_of, group_text, groups_from}
 use Rattle.cwr_grammar.specs.File.{FileGroup, AreGroups, AreTransactions, AreDetails, lines_of_groups, joined, transactions_in}
 use Rattle.cwr_grammar.proofs.Accepted.{details_from}
+use Rattle.cwr_grammar.proofs.Complete.{group_end_is}
 
 pub record FirstIs (xs : List (List ℕ)) (y : Role) (ys : List Role) : Type 0 where
   pub line : List ℕ
@@ -84,9 +85,6 @@ pub record GroupsCut (i : ℕ) (gs : List Group) (xs : List (List ℕ)) (after :
   pub transactions : transactions_in groups ≡ all_transactions_of gs
   pub lines : length (lines_of_groups groups) ≡ all_lines_of gs
 
-pub end_line : (i t r t' r' : ℕ) → t ≡ t' → r ≡ r' → GroupTrailer (Some i) (Some t) (Some r) ≡ GroupTrailer (Some i) (Some t') (Some r')
-end_line i t r t' r' p q = ap (λ (x : ℕ). GroupTrailer (Some i) (Some x) (Some r)) p ∙ ap (λ (x : ℕ). GroupTrailer (Some i) (Some t') (Some x)) q
-
 group_joined : (head trailer : List ℕ) (ts : List (List (List ℕ))) (others rest : List (List ℕ)) → head ∷ (joined ts ++ (trailer ∷ (others ++ rest))) ≡ head ∷ joined ts ++ trailer ∷ [] ++ others ++ rest
 group_joined head trailer ts others rest =
     sym (append_assoc (head ∷ joined ts ++ trailer ∷ []) others rest ∙ ap (λ (xs : List (List ℕ)). head ∷ xs) (append_assoc (joined ts) (trailer ∷ []) (others ++ rest)))
@@ -109,7 +107,7 @@ groups_cut (g ∷ gs) i xs after e =
           ∙ ap (λ (ls : List (List ℕ)). first.line ∷ ls) (here.is ∙ ap (λ (ls : List (List ℕ)). joined here.transactions ++ ls) (last.is ∙ ap (λ (ls : List (List ℕ)). last.line ∷ ls) more.is))
           ∙ group_joined first.line last.line here.transactions (lines_of_groups more.groups) more.rest;
       are = (
-        record { head = first.read; transactions = here.are; trailer = last.read ∙ end_line i (length g.details) (2 + size g.details) (length here.transactions) (2 + length (joined here.transactions)) (sym here.count) (omega (arith, here.lines)) },
+        record { head = first.read; transactions = here.are; trailer = last.read ∙ group_end_is i (length g.details) (2 + size g.details) (length here.transactions) (2 + length (joined here.transactions)) (sym here.count) (omega (arith, here.lines)) },
         more.are,
       );
       others = more.others;

@@ -2,7 +2,6 @@
 use Rattle.std.proofs.Common.{◌≡◌, ℕ, ◌+◌, Bool, true, false, ◌||◌, cond, List, [], ◌∷◌, ◌++◌, length, map, Option, Some, None, arith, refl, sym, ap, ◌∙◌, length-append}
 use Rattle.std.specs.List.{list_any, AllByRecursion}
 use Rattle.cwr_grammar.specs.declared.role.Role.{Role}
-use Rattle.cwr_grammar.specs.declared.role.Role.TheVariants.{FileTrailer}
 use Rattle.cwr_grammar.specs.Roles.{role_of}
 use Rattle.cwr_grammar.specs.Before.{is_file_trailer}
 use Rattle.cwr_grammar.specs.FaultTests.{is_headless, is_after_end, is_tail, has_control, is_long}
@@ -10,7 +9,7 @@ use Rattle.cwr_grammar.specs.FirstFault.{role_fault, fault_at_end, at_line, or_n
 use Rattle.cwr_grammar.proofs.Envelope.{first_role_fault}
 use Rattle.cwr_grammar.specs.File.{File, IsFile, IsPlain, lines_of_groups}
 use Rattle.cwr_grammar.proofs.Accepted.{accepted, split}
-use Rattle.cwr_grammar.proofs.Complete.{step}
+use Rattle.cwr_grammar.proofs.Complete.{step, file_end_is}
 use Rattle.cwr_grammar.proofs.ReadSteps.{any_more}
 use Rattle.cwr_grammar.proofs.FileCuts.{first_is, groups_cut}
 
@@ -83,10 +82,6 @@ nothing (x ∷ xs) e = absurd cc
 all_at : (xs ys : List (List ℕ)) → xs ≡ ys → AllByRecursion IsPlain xs → AllByRecursion IsPlain ys
 all_at xs ys e h = rw (← e) h
 
-pub file_end_line : (g t r g' t' r' : ℕ) → g ≡ g' → t ≡ t' → r ≡ r' → FileTrailer (Some g) (Some t) (Some r) ≡ FileTrailer (Some g') (Some t') (Some r')
-file_end_line g t r g' t' r' p q u =
-    ap (λ (x : ℕ). FileTrailer (Some x) (Some t) (Some r)) p ∙ ap (λ (x : ℕ). FileTrailer (Some g') (Some x) (Some r)) q ∙ ap (λ (x : ℕ). FileTrailer (Some g') (Some t') (Some x)) u
-
 -- ---- from no fault to a file
 
 pub accepted_file : (text : List (List ℕ)) → first_fault_after [] text ≡ None → (f : File) × IsFile text f
@@ -103,7 +98,7 @@ accepted_file text e =
         lines = s.is ∙ ap (λ (xs : List (List ℕ)). xs ++ s.tail) body;
         header = first.read;
         groups = groups.are;
-        trailer = last.read ∙ file_end_line _ _ _ _ _ _ (sym groups.count) (sym groups.transactions) (omega (arith, groups.lines, length-append (lines_of_groups groups.groups) (last.line ∷ [])));
+        trailer = last.read ∙ file_end_is _ _ _ _ _ _ (sym groups.count) (sym groups.transactions) (omega (arith, groups.lines, length-append (lines_of_groups groups.groups) (last.line ∷ [])));
         plain = all_at _ _ body s.plain;
         tail = s.last;
       },

@@ -1,18 +1,18 @@
--- The transactions of a well-formed file have some lines, few enough, and no byte below 32.
-use Rattle.std.proofs.Common.{◌≡◌, ℕ, ◌+◌, ◌≤◌, true, false, ◌||◌, List, [], ◌∷◌, ◌++◌, length, Some, arith, refl, length-append}
-use Rattle.std.specs.Prelude.{IsTrue, nat_le, nat_lt}
+-- The transactions of a well-formed file have some lines, few enough, and no control byte.
+use Rattle.std.proofs.Common.{ℕ, ◌+◌, ◌≤◌, List, [], ◌∷◌, ◌++◌, length, Some, arith, length-append}
+use Rattle.std.specs.Prelude.{IsTrue}
 use Rattle.std.specs.List.{AllByRecursion}
-use Rattle.std.proofs.lemmas.Bool.Decides.{nat_tests}
 use Rattle.cwr_field.specs.Layout.{is_printable}
+use Rattle.cwr_field.specs.Number.{most_count}
 use Rattle.cwr_record.specs.declared.works.WorkKind.{WorkKind}
 use Rattle.cwr_grammar.specs.declared.role.Role.TheVariants.{GroupTrailer}
 use Rattle.cwr_grammar.specs.declared.span.Span.{Span}
-use Rattle.cwr_grammar.specs.FaultTests.{has_control}
 use Rattle.cwr_grammar.specs.File.{File, FileGroup, IsFile, IsPlain, AreGroups, AreTransactions, lines_of_groups, lines_of_group, joined}
 use Rattle.cwr_grammar.specs.RawParts.{RawParts, IsTransactionText, raws_of, raws_of_group}
 use Rattle.cwr_grammar.specs.Spans.{IsInside, IsSpan, raws_at}
 use Rattle.cwr_grammar.proofs.Numbers.{small_role}
 use Rattle.cwr_grammar.proofs.Collecting.{all_more}
+use Rattle.cwr_grammar.proofs.Controls.{printable}
 
 all_front : {X : Type 0} (P : X → Type 0) (xs ys : List X) → AllByRecursion P (xs ++ ys) → AllByRecursion P xs
 all_front P [] ys h = tt
@@ -24,16 +24,6 @@ all_back P (x ∷ xs) ys h = all_back P xs ys h.1
 
 -- ---- printable lines
 
-abbrev pub IsPrintable : List ℕ → Type 0
-IsPrintable line = IsTrue (is_printable line)
-
-printable_byte : (b : ℕ) (line : List ℕ) → (nat_lt b 32 || has_control line) ≡ false → (nat_le 32 b ≡ true) × (has_control line ≡ false)
-printable_byte b line e = (grind (arith, nat_tests), grind (arith, nat_tests))
-
-pub printable : (line : List ℕ) → has_control line ≡ false → IsPrintable line
-printable [] e = refl
-printable (b ∷ line) e = let h = printable_byte b line e in rw h.0 (printable line h.1)
-
 all_printable : (ls : List (List ℕ)) → AllByRecursion IsPlain ls → AllByRecursion (λ line. IsTrue (is_printable line)) ls
 all_printable [] h = tt
 all_printable (line ∷ ls) h = (printable line h.0.0, all_printable ls h.1)
@@ -43,7 +33,7 @@ all_printable (line ∷ ls) h = (printable line h.0.0, all_printable ls h.1)
 abbrev pub HasText : RawParts → Type 0
 HasText r = IsTransactionText r.lines
 
-group_texts : (ts : List (List (List ℕ))) (g t : ℕ) (kind : WorkKind) → AreTransactions kind t ts → length (joined ts) ≤ 99999999 → AllByRecursion IsPlain (joined ts) → AllByRecursion HasText (raws_of_group g t kind ts)
+group_texts : (ts : List (List (List ℕ))) (g t : ℕ) (kind : WorkKind) → AreTransactions kind t ts → length (joined ts) ≤ most_count → AllByRecursion IsPlain (joined ts) → AllByRecursion HasText (raws_of_group g t kind ts)
 group_texts [] g t kind are few plain = tt
 group_texts ([] ∷ ts) g t kind are few plain = absurd are.0
 group_texts ((line ∷ ds) ∷ ts) g t kind are few plain = (

@@ -7,6 +7,7 @@ use Rattle.cwr_grammar.specs.FaultTests.{is_headless, is_malformed, is_misplaced
 use Rattle.cwr_grammar.specs.FirstFault.{fault_at_end, at_line, or_else, or_number, line_fault, first_fault_after}
 use Rattle.cwr_record.specs.FaultOrder.{IsNoLater}
 use Rattle.cwr_grammar.specs.Faults.{numbers, Has, HasFault, IsFault, IsLeastFault}
+use Rattle.cwr_field.proofs.lemmas.Tests.{parts}
 
 -- the first of the numbers
 abbrev first_of : List (ℕ × Bool) → Option ℕ
@@ -26,28 +27,24 @@ pub record LeastOf (n : ℕ) (ns : List ℕ) : Type 0 where
   pub has : Has n ns
   pub least : (m : ℕ) → Has m ns → n ≤ m
 
-pub both_true : (a b : Bool) → (a && b) ≡ true → (a ≡ true) × (b ≡ true)
-both_true true b e = (refl, e)
-both_true false b e = absurd cc
-
 at_least : (m n : ℕ) → not (ltb m n) ≡ true → n ≤ m
 at_least m n e = grind (arith, nat_tests)
 
 all_from : (n : ℕ) (rest : List (ℕ × Bool)) → from n rest ≡ true → (m : ℕ) → Has m (numbers rest) → n ≤ m
 all_from n [] e m h = absurd h
-all_from n ((k, true) ∷ rest) e m (inl same) = let low = at_least k n (both_true (not (ltb k n)) (from k rest) e).0 in omega (arith, low, same)
+all_from n ((k, true) ∷ rest) e m (inl same) = let low = at_least k n (parts (not (ltb k n)) (from k rest) e).0 in omega (arith, low, same)
 all_from n ((k, true) ∷ rest) e m (inr later) =
-    let low = at_least k n (both_true (not (ltb k n)) (from k rest) e).0 in
-    let more = all_from k rest (both_true (not (ltb k n)) (from k rest) e).1 m later in
+    let low = at_least k n (parts (not (ltb k n)) (from k rest) e).0 in
+    let more = all_from k rest (parts (not (ltb k n)) (from k rest) e).1 m later in
     omega (arith, low, more)
 all_from n ((k, false) ∷ rest) e m h =
-    let low = at_least k n (both_true (not (ltb k n)) (from k rest) e).0 in
-    let more = all_from k rest (both_true (not (ltb k n)) (from k rest) e).1 m h in
+    let low = at_least k n (parts (not (ltb k n)) (from k rest) e).0 in
+    let more = all_from k rest (parts (not (ltb k n)) (from k rest) e).1 m h in
     omega (arith, low, more)
 
 weaker : (n : ℕ) (rest : List (ℕ × Bool)) → from n rest ≡ true → rising rest ≡ true
 weaker n [] e = refl
-weaker n ((m, holds) ∷ rest) e = (both_true (not (ltb m n)) (from m rest) e).1
+weaker n ((m, holds) ∷ rest) e = (parts (not (ltb m n)) (from m rest) e).1
 
 some_is : (m n : ℕ) → Some m ≡ Some n → m ≡ n
 some_is m n e = cc

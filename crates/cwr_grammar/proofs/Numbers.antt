@@ -1,13 +1,11 @@
 -- The numbers that a line states have as many digits as their fields, and so the counts of a file are small.
-use Rattle.std.proofs.Common.{◌≡◌, ℕ, ◌+◌, ◌-◌, ◌<◌, ◌^◌, Bool, true, false, cond, List, [], ◌∷◌, ◌++◌, length, map, drop, replicate, Option, Some, None, IfSome, arith, refl, sym, ap, ◌∙◌, subst, length-append}
+use Rattle.std.proofs.Common.{◌≡◌, ℕ, ◌+◌, ◌-◌, ◌<◌, ◌^◌, Bool, true, false, cond, List, [], ◌∷◌, length, map, Option, Some, None, IfSome, arith, refl, sym, ap, ◌∙◌, subst}
 use Rattle.std.specs.List.{list_all}
 use Rattle.std.specs.Char.{is_ascii_digit}
 use Rattle.std.specs.Char.{digit_value}
 use Rattle.std.specs.Str.Parse.{digits_value, AllDigits}
 use Rattle.std.proofs.lemmas.Bool.Decides.{nat_tests}
 use Rattle.std.proofs.lemmas.Int.Digits.{digits_value-lt}
-use Rattle.std.proofs.lemmas.List.{length-take, length-replicate}
-use Rattle.cwr_field.specs.Layout.{field}
 use Rattle.cwr_field.specs.Number.{number_of}
 use Rattle.cwr_record.specs.Columns as column
 use Rattle.cwr_record.specs.Columns.{field_at}
@@ -25,7 +23,8 @@ use Rattle.cwr_grammar.specs.FirstFault.{role_fault, line_fault}
 use Rattle.cwr_grammar.specs.Roles.{role_of, role_at}
 use Rattle.cwr_grammar.proofs.Accepted.{head_is, group_head_is, file_end_is}
 use Rattle.cwr_grammar.proofs.FileLaw.{unchain}
-use Rattle.cwr_grammar.proofs.Least.{both_true}
+use Rattle.cwr_field.proofs.lemmas.Tests.{parts}
+use Rattle.cwr_field.proofs.lemmas.Spelling.{length-field}
 
 -- what the numbers of a role are below
 abbrev pub HasSmallNumbers : Role → Type 0
@@ -37,10 +36,6 @@ HasSmallNumbers (FileHeader valid) = Unit {0}
 HasSmallNumbers (Detail transaction place) = Unit {0}
 HasSmallNumbers Unnamed = Unit {0}
 
-length-field : (line : List ℕ) (start n : ℕ) → length (field line start n) ≡ n
-length-field line start n =
-    omega (arith, length-take n (drop (start - 1) line ++ replicate n 32), length-append (drop (start - 1) line) (replicate n 32), length-replicate {A = ℕ} n 32)
-
 -- ---- digits
 
 digit_below : (c : ℕ) → is_ascii_digit c ≡ true → digit_value c < 10
@@ -48,7 +43,7 @@ digit_below c e = grind (arith, nat_tests)
 
 are_digits : (bytes : List ℕ) → list_all is_ascii_digit bytes ≡ true → AllDigits 10 bytes
 are_digits [] e = tt
-are_digits (c ∷ bytes) e = let h = both_true (is_ascii_digit c) (list_all is_ascii_digit bytes) e in (digit_below c h.0, are_digits bytes h.1)
+are_digits (c ∷ bytes) e = let h = parts (is_ascii_digit c) (list_all is_ascii_digit bytes) e in (digit_below c h.0, are_digits bytes h.1)
 
 number_below : (bytes : List ℕ) (width : ℕ) → length bytes ≡ width → IfSome (number_of bytes) (λ n. n < 10 ^ width)
 number_below bytes width long =

@@ -1,6 +1,7 @@
 -- The faults F1 to F12 of a line after the lines before it, one test each. The lines before stand the newest first.
 use Rattle.std.specs.Prelude.{ℕ, ◌+◌, Bool, true, false, not, ◌&&◌, ◌||◌, ◌==◌, nat_lt, List, [], ◌∷◌, length, map, Option, Some, None}
-use Rattle.std.specs.List.{list_any, list_all}
+use Rattle.std.specs.List.{list_all}
+use Rattle.cwr_field.specs.Layout.{is_printable}
 use Rattle.cwr_record.specs.declared.works.WorkKind.{WorkKind}
 use Rattle.cwr_record.specs.declared.works.WorkKind.TheVariants.{Nwr, Rev}
 use Rattle.cwr_grammar.specs.declared.role.Role.{Role}
@@ -31,9 +32,9 @@ option_next (Some n) = Some (n + 1)
 abbrev pub is_headless : List Role → Role → Bool
 is_headless before role = is_nil before && not (is_file_header role)
 
--- F2: a byte below 32
+-- F2: a control byte
 abbrev pub has_control : List ℕ → Bool
-has_control line = list_any (λ b. nat_lt b 32) line
+has_control line = not (is_printable line)
 
 -- F3: no record type; or in the HDR of the first line a date or a time that is none
 abbrev pub is_malformed : List Role → Role → Bool

@@ -9,6 +9,7 @@ ghost use Rattle.cwr_grammar.specs.Counted.{counts_of, AreSmall};
 use crate::file_counts::FileCounts;
 use crate::lines::first_line;
 use crate::role::Role;
+use cwr_field::is_printable;
 
 /// The bytes that a line may have at most, up to the end of the file.
 const LONGEST_LINE: usize = 4096;
@@ -82,5 +83,5 @@ fn holds_control(line: &[u8], is_clean: bool) -> bool
 fn has_control(line: &[u8]) -> bool
     ensures { result ≡ has_control line.now }
 {
-    line.iter().any(|byte| *byte < 32)
+    !is_printable(line)
 }

@@ -1,6 +1,5 @@
 mod LeastFault
 mod Fronts
 mod SameRecords
-mod Names
 mod TrailingBlanks
 pub mod lemmas

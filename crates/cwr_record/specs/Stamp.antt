@@ -1,6 +1,7 @@
 -- Who acknowledges, and when.
 use Rattle.std.specs.Prelude.{ℕ, nat_le, ◌&&◌, List, length, Option, Some, None, if◌then◌else◌}
 use Rattle.cwr_field.specs.Layout.{padded, is_printable}
+use Rattle.cwr_record.specs.Columns.{header_name}
 
 -- a society's number, its name filled with blanks, and a date and a time as the numbers that their digits spell
 pub record StampParts : Type 0 where
@@ -9,9 +10,9 @@ pub record StampParts : Type 0 where
   pub date : ℕ
   pub time : ℕ
 
--- a society of three digits, and a name of at most 45 bytes
+-- a society of three digits, and a name that fits its column of HDR
 abbrev pub stamp_of : ℕ → List ℕ → ℕ → ℕ → Option StampParts
 stamp_of society name date time =
-    if nat_le society 999 && nat_le (length name) 45 && is_printable name
-    then Some (record { society = society; name = padded 45 name; date = date; time = time })
+    if nat_le society 999 && nat_le (length name) header_name.width && is_printable name
+    then Some (record { society = society; name = padded header_name.width name; date = date; time = time })
     else None

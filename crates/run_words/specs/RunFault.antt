@@ -6,6 +6,7 @@ use Rattle.std.specs.Char.{is_ascii_digit}
 use Rattle.cwr_field.specs.Calendar.{day_of, time_of}
 use Rattle.cwr_field.specs.Layout.{field, is_printable}
 use Rattle.cwr_field.specs.Number.{number_of}
+use Rattle.cwr_record.specs.Columns.{header_name}
 use Rattle.cwr_record.specs.Stamp.{StampParts, stamp_of}
 use Rattle.run_words.specs.declared.words.RunFault.{RunFault}
 use Rattle.run_words.specs.declared.words.RunFault.TheVariants.{Society, Name, Date, Time, TooMany, Twice}
@@ -14,9 +15,9 @@ use Rattle.run_words.specs.declared.words.RunFault.TheVariants.{Society, Name, D
 abbrev pub is_society : List ℕ → Bool
 is_society word = (length word == 3) && list_all is_ascii_digit word
 
--- from 1 to 45 bytes, none below 32
+-- at least one byte, none of them a control byte, and no more than the name of HDR has
 abbrev pub is_name : List ℕ → Bool
-is_name word = (nat_le 1 (length word) && nat_le (length word) 45) && is_printable word
+is_name word = (nat_le 1 (length word) && nat_le (length word) header_name.width) && is_printable word
 
 -- eight bytes that name a day
 abbrev pub is_date : List ℕ → Bool

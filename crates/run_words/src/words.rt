@@ -5,12 +5,10 @@ ghost use Rattle.std.specs.Str.{bytes_eq};
 ghost use Rattle.run_words.specs.RunFault.{is_society, is_name, is_date, is_time, is_written_for, is_beside_register, is_same_file, is_named_twice, is_of_file, is_read_lost, is_kept_over, is_read_taken, run_fault, words_fault, run_fault_text};
 
 use cwr_field::{cut, date, is_printable, time};
+use cwr_record::Header;
 
 /// The most files of one run: a seat for each beside the opening one.
 const MOST_FILES: usize = 63;
-
-/// The most bytes of a society's name.
-const NAME_WIDTH: usize = 45;
 
 /// What is wrong with the words of a run.
 #[derive(Clone, Copy, Debug, PartialEq, Eq, Hash)]
@@ -120,7 +118,7 @@ fn is_society(word: &[u8]) -> bool
 fn is_name(word: &[u8]) -> bool
     ensures { result ≡ is_name word.now }
 {
-    (1 <= word.len() && word.len() <= NAME_WIDTH) && is_printable(word)
+    (1 <= word.len() && word.len() <= Header::NAME.width) && is_printable(word)
 }
 
 fn is_date(word: &[u8]) -> bool

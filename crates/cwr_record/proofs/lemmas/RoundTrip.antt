@@ -6,6 +6,7 @@ use Rattle.std.specs.Str.{bytes_eq}
 use Rattle.std.proofs.lemmas.Slice.Eq.{bytes_eq-Decides}
 use Rattle.cwr_field.specs.Layout.{field, padded, is_blank}
 use Rattle.cwr_field.specs.Number.{number_text}
+use Rattle.cwr_field.specs.Share.{whole}
 use Rattle.cwr_field.specs.Calendar.{is_day, is_time}
 use Rattle.cwr_field.proofs.lemmas.DigitText.{length-number_text, number_of-number_text}
 use Rattle.cwr_field.proofs.lemmas.CodeText.{iswc_of-iswc_text}
@@ -22,7 +23,7 @@ field_at front text rest start n s l =
     let e : start - 1 ≡ length front = omega arith in
     rw (e, drop_at front (text ++ rest) (length front) refl, append_assoc text rest (replicate n 32), take_at text (rest ++ replicate n 32) n (sym l)) refl
 
-length-padded : (width : ℕ) (text : List ℕ) → length text ≤ width → length (padded width text) ≡ width
+pub length-padded : (width : ℕ) (text : List ℕ) → length text ≤ width → length (padded width text) ≡ width
 length-padded width text le = omega (arith, length-append text (replicate (width - length text) 32), length-replicate {A = ℕ} (width - length text) 32)
 
 -- a text that fills its field is written as it is
@@ -78,7 +79,7 @@ value-spelling (OneOf first second) width (Bytes bytes) h =
 value-spelling Digits width (Number n) h = rw (number_of-number_text width n h) refl
 value-spelling Share width (Number n) h =
     let e = number_of-number_text 5 n (omega (arith, h.0)) in
-    let small : leb n 10000 ≡ true = grind (arith, nat_tests) in
+    let small : leb n whole ≡ true = grind (arith, nat_tests) in
     rw (h.1, digits_not_blank n, e, small) refl
 value-spelling Day width (Number n) h = rw (h.1, number_of-number_text 8 n (day_small n h.0), h.0) refl
 value-spelling Time width (Number n) h = rw (h.1, number_of-number_text 6 n (time_small n h.0), h.0) refl

@@ -12,6 +12,7 @@ use Rattle.cwr_field.specs.Iswc.{iswc_of}
 use Rattle.cwr_field.specs.declared.codes.Iswc.{Iswc}
 use Rattle.cwr_field.specs.declared.codes.Iswc.TheVariants.{Blank, Valid, Wrong}
 use Rattle.cwr_field.proofs.lemmas.Spelling.{length-field, number_spells, code_some, code_blank}
+use Rattle.cwr_field.proofs.lemmas.Tests.{parts as both_of}
 use Rattle.cwr_record.specs.declared.columns.Column.{Column}
 use Rattle.cwr_record.specs.declared.slot.Content.{Content}
 use Rattle.cwr_record.specs.declared.slot.Content.TheVariants.{Kind, OneOf, Digits, Share, Day, Time, OptionalDay, OptionalTime, Code}
@@ -102,11 +103,6 @@ joined line text rest at start width more one here le first follows =
     ap (λ (xs : List ℕ). xs ++ rest) found
     ∙ ap (λ (xs : List ℕ). take width (drop (start - 1) line) ++ xs) (follows ∙ ap (λ (xs : List ℕ). take more xs) after)
     ∙ sym (take-add width more (drop (start - 1) line))
-
-both_of : (a b : Bool) → (a && b) ≡ true → (a ≡ true) × (b ≡ true)
-both_of true true e = (refl, refl)
-both_of true false e = absurd cc
-both_of false b e = absurd cc
 
 is_at : (a b : ℕ) → (a == b) ≡ true → a ≡ b
 is_at a b e = grind (arith, nat_tests)

@@ -8,8 +8,8 @@ returns-then-before-lt32 c = chunk_stops c.args.text.now c.loop-at.at c.before_c
 pub loop-at-preserved : goal.loop-at-preserved
 loop-at-preserved c = (omega arith, chunk_passes c.args.text.now c.loop-at.at c.before_control-before.result (omega arith) c.before_control-before.ensures c.if-before-lt32.false c.loop-at.invariant.1)
 
-pub returns-else-text-at-ge32 : goal.returns-else-text-at-ge32
-returns-else-text-at-ge32 c = stops_at c.args.text.now c.loop-at-2.at c.loop-at-2-test.true c.if-text-at-ge32.false c.loop-at-2.invariant.1
+pub returns-else-text-at-ge-LEAST_PRINTABLE : goal.returns-else-text-at-ge-LEAST_PRINTABLE
+returns-else-text-at-ge-LEAST_PRINTABLE c = stops_at c.args.text.now c.loop-at-2.at c.loop-at-2-test.true c.if-text-at-ge-LEAST_PRINTABLE.false c.loop-at-2.invariant.1
 
 pub returns-after-loop-at-2 : goal.returns-after-loop-at-2
 returns-after-loop-at-2 c = stops_after c.args.text.now c.loop-at-2.at c.loop-at-2.invariant.0 c.loop-at-2-test.false c.loop-at-2.invariant.1

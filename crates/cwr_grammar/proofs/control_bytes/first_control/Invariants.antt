@@ -1,15 +1,15 @@
 use Rattle.std.proofs.Common.{◌≡◌, ◌-◌, ◌≤◌, ◌<◌, ℕ, false, length, get_or}
-use Rattle.std.specs.Prelude.{nat_lt}
+use Rattle.cwr_field.specs.Layout.{is_control}
 use Rattle.cwr_grammar.proofs.control_bytes.first_control.Given as goal
 
 abbrev pub invariant-loop-at : goal.invariant-loop-at
-invariant-loop-at l = (l.at ≤ length l.text) × ((k : ℕ) → k < l.at → nat_lt (get_or l.text k 0) 32 ≡ false)
+invariant-loop-at l = (l.at ≤ length l.text) × ((k : ℕ) → k < l.at → is_control (get_or l.text k 0) ≡ false)
 
 abbrev pub decreases-loop-at : goal.decreases-loop-at
 decreases-loop-at l = length l.text - l.at
 
 abbrev pub invariant-loop-at-2 : goal.invariant-loop-at-2
-invariant-loop-at-2 l = (l.at ≤ length l.text) × ((k : ℕ) → k < l.at → nat_lt (get_or l.text k 0) 32 ≡ false)
+invariant-loop-at-2 l = (l.at ≤ length l.text) × ((k : ℕ) → k < l.at → is_control (get_or l.text k 0) ≡ false)
 
 abbrev pub decreases-loop-at-2 : goal.decreases-loop-at-2
 decreases-loop-at-2 l = length l.text - l.at
