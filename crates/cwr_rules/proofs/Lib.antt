@@ -10,3 +10,4 @@ pub mod TerritoryLaw
 pub mod NameLaw
 pub mod PartyKeys
 pub mod RecordLaw
+pub mod lemmas

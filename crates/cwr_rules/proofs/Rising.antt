@@ -9,6 +9,7 @@ use Rattle.cwr_record.specs.declared.works.WorkKind.{WorkKind}
 use Rattle.cwr_record.specs.Kinds.{work_kind_code}
 use Rattle.cwr_rules.specs.Rules.{name_of, publishers}
 use Rattle.cwr_rules.specs.Faults.{found, all_found, record_rules, faults_after, faults_of, head_rules}
+use Rattle.cwr_field.proofs.lemmas.Tests.{parts}
 
 abbrev fault : ℕ → ℕ → List ℕ → Fault
 fault sequence number rtype = record { sequence = sequence; number = number; rtype = rtype }
@@ -52,18 +53,13 @@ numbers_rise n (rule ∷ rules) = ltb n rule.0 && numbers_rise rule.0 rules
 last_number : (k n : ℕ) (rest : List Fault) → ltb n 16 ≡ true → RisesAfter k 16 rest → RisesAfter k n rest
 last_number k n rest lt h = weaken k 16 k n rest (grind (arith, nat_tests)) h
 
-first : (a b : Bool) → (a && b) ≡ true → (a ≡ true) × (b ≡ true)
-first true true e = (refl, refl)
-first true false e = absurd cc
-first false b e = absurd cc
-
 same_sequence : (k n m : ℕ) → ltb n m ≡ true → is_before (fault k n []) (fault k m []) ≡ true
 same_sequence k n m lt = grind (arith, nat_tests)
 
 table : (k n : ℕ) (t : List ℕ) (rules : List (ℕ × Bool)) (rest : List Fault) → numbers_rise n rules ≡ true → RisesAfter k 16 rest → RisesAfter k n (all_found k t rules ++ rest)
 table k n t [] rest e h = last_number k n rest e h
 table k n t (rule ∷ rules) rest e h =
-    let both = first (ltb n rule.0) (numbers_rise rule.0 rules) e in
+    let both = parts (ltb n rule.0) (numbers_rise rule.0 rules) e in
     let more = table k rule.0 t rules rest both.1 h in
     let P : List Fault → Type 0 = λ faults. RisesAfter k n faults in
     subst P (sym (append_assoc (found k t rule.0 rule.1) (all_found k t rules) rest)) (found_more k n k rule.0 t rule.1 (all_found k t rules ++ rest) (same_sequence k n rule.0 both.0) more)

@@ -3,8 +3,8 @@ use Rattle.std.proofs.Common.{◌≡◌, ℕ, ◌*◌, ◌<◌, ◌≤◌, Bool,
 use Rattle.std.specs.Prelude.{filter, option_and_then}
 use Rattle.std.proofs.lemmas.Bool.Decides.{nat_tests}
 use Rattle.cwr_field.specs.Layout.{is_blank}
-use Rattle.cwr_field.specs.Number.{number_of}
-use Rattle.cwr_field.specs.Share.{share_of}
+use Rattle.cwr_field.specs.Number.{number_of, most_count}
+use Rattle.cwr_field.specs.Share.{whole, share_of}
 use Rattle.cwr_record.specs.declared.record_type.RecordType.{RecordType}
 use Rattle.cwr_record.specs.declared.record_type.RecordType.TheVariants as of_type
 use Rattle.cwr_record.specs.Columns.{field_at}
@@ -17,15 +17,15 @@ use Rattle.cwr_rules.specs.Records.{record_as, records_of, shares_from}
 use Rattle.cwr_rules.specs.Totals.{valued, total, performing_share, mechanical_share, synchronization_share, shares_of, totals_of}
 use Rattle.cwr_rules.specs.Collected.{AreSmall, IsCapped, AreCapped}
 
-capped : (o : Option ℕ) → valued (option_and_then (λ n. cond (leb n 10000) (Some n) None) o) ≤ 10000
+capped : (o : Option ℕ) → valued (option_and_then (λ n. cond (leb n whole) (Some n) None) o) ≤ whole
 capped None = omega arith
 capped (Some n) =
-    let P : Bool → Type 0 = λ b. leb n 10000 ≡ b → valued (cond b (Some n) None) ≤ 10000 in
-    (elim (leb n 10000) as P [ true ↦ λ h. grind (arith, nat_tests) | false ↦ λ h. omega arith ]) refl
+    let P : Bool → Type 0 = λ b. leb n whole ≡ b → valued (cond b (Some n) None) ≤ whole in
+    (elim (leb n whole) as P [ true ↦ λ h. grind (arith, nat_tests) | false ↦ λ h. omega arith ]) refl
 
-share_small : (bytes : List ℕ) → valued (share_of bytes) ≤ 10000
+share_small : (bytes : List ℕ) → valued (share_of bytes) ≤ whole
 share_small bytes =
-    elim (is_blank bytes) as (λ b. valued (cond b (Some 0) (option_and_then (λ n. cond (leb n 10000) (Some n) None) (number_of bytes))) ≤ 10000) [
+    elim (is_blank bytes) as (λ b. valued (cond b (Some 0) (option_and_then (λ n. cond (leb n whole) (Some n) None) (number_of bytes))) ≤ whole) [
       | true ↦ omega arith
       | false ↦ capped (number_of bytes)
     ]
@@ -70,13 +70,13 @@ drop_capped zero records h = h
 drop_capped (suc n) [] h = tt
 drop_capped (suc n) (r ∷ records) h = drop_capped n records h.1
 
-pub total_le : (right : Shares → Option ℕ) → ((r : Record) → IsCapped r → valued (right (shares_of r)) ≤ 10000) → (p : Record → Bool) (records : List Record)
-    → AreCapped records → total right (filter p records) ≤ 10000 * length records
+pub total_le : (right : Shares → Option ℕ) → ((r : Record) → IsCapped r → valued (right (shares_of r)) ≤ whole) → (p : Record → Bool) (records : List Record)
+    → AreCapped records → total right (filter p records) ≤ whole * length records
 total_le right capped p [] h = omega arith
 total_le right capped p (r ∷ records) h =
     let rest = total_le right capped p records h.1 in
     let here = capped r h.0 in
-    elim (p r) as (λ b. total right (cond b (r ∷ filter p records) (filter p records)) ≤ 10000 * length (r ∷ records)) [
+    elim (p r) as (λ b. total right (cond b (r ∷ filter p records) (filter p records)) ≤ whole * length (r ∷ records)) [
       | true ↦ omega arith
       | false ↦ omega arith
     ]
@@ -86,14 +86,14 @@ pub record TotalsLe (limit : ℕ) (t : Totals) : Type 0 where
   pub mechanical : t.mechanical ≤ limit
   pub synchronization : t.synchronization ≤ limit
 
-pub totals_le : (p : Record → Bool) (records : List Record) → AreCapped records → TotalsLe (10000 * length records) (totals_of p records)
+pub totals_le : (p : Record → Bool) (records : List Record) → AreCapped records → TotalsLe (whole * length records) (totals_of p records)
 totals_le p records h = record {
   performing = total_le performing_share (λ r k. k.performing) p records h;
   mechanical = total_le mechanical_share (λ r k. k.mechanical) p records h;
   synchronization = total_le synchronization_share (λ r k. k.synchronization) p records h;
 }
 
-pub totals_small : (p : Record → Bool) (records : List Record) (t : Totals) → length records < 99999999 → AreCapped records → t ≡ totals_of p records → AreSmall t
+pub totals_small : (p : Record → Bool) (records : List Record) (t : Totals) → length records < most_count → AreCapped records → t ≡ totals_of p records → AreSmall t
 totals_small p records t lt h is =
     let le = totals_le p records h in
     rw is (record { performing = omega (arith, le.performing); mechanical = omega (arith, le.mechanical); synchronization = omega (arith, le.synchronization) })

@@ -6,20 +6,13 @@ use Rattle.std.proofs.lemmas.Bool.Decides.{nat_tests}
 use Rattle.cwr_rules.specs.declared.record.Record.{Record}
 use Rattle.cwr_rules.specs.Totals.{included, collection, is_over, codes_of, is_over_somewhere}
 use Rattle.cwr_rules.proofs.Collecting.{skipped, collected}
+use Rattle.cwr_field.proofs.lemmas.Tests.{neither, or_right}
 
 from_any : (p : ℕ → Bool) (xs : List ℕ) → list_any p xs ≡ true → (x : ℕ) × (p x ≡ true)
 from_any p [] e = absurd cc
 from_any p (x ∷ xs) e =
     let P : Bool → Type 0 = λ b. p x ≡ b → (b || list_any p xs) ≡ true → (y : ℕ) × (p y ≡ true) in
     (elim (p x) as P [ true ↦ λ h k. (x, h) | false ↦ λ h k. from_any p xs k ]) refl e
-
-neither : (a b : Bool) → (a || b) ≡ false → (a ≡ false) × (b ≡ false)
-neither true b e = absurd cc
-neither false b e = (refl, e)
-
-or_right : (a b : Bool) → b ≡ true → (a || b) ≡ true
-or_right true b e = refl
-or_right false b e = e
 
 any_at : (p : ℕ → Bool) (code : ℕ) (xs : List ℕ) → p code ≡ true → list_any (λ c. eqb c code) xs ≡ true → list_any p xs ≡ true
 any_at p code [] h e = absurd cc

@@ -1,6 +1,7 @@
 -- What is added up over the records of a transaction.
 use Rattle.std.specs.Prelude.{ℕ, ◌≡◌, ◌<◌, ◌≤◌, ◌^◌, Bool, List, [], ◌∷◌, Option, unwrap_or}
 use Rattle.std.specs.List.{list_any}
+use Rattle.cwr_field.specs.Share.{whole}
 use Rattle.cwr_rules.specs.declared.record.Record.{Record}
 use Rattle.cwr_rules.specs.declared.totals.Totals.{Totals}
 use Rattle.cwr_rules.specs.declared.sums.Sums.{Sums}
@@ -21,9 +22,9 @@ AreSmallSums s = AreSmall s.ownership × AreSmall s.control
 
 -- each share of the record is at most the whole
 pub record IsCapped (r : Record) : Type 0 where
-  pub performing : valued (shares_of r).performing ≤ 10000
-  pub mechanical : valued (shares_of r).mechanical ≤ 10000
-  pub synchronization : valued (shares_of r).synchronization ≤ 10000
+  pub performing : valued (shares_of r).performing ≤ whole
+  pub mechanical : valued (shares_of r).mechanical ≤ whole
+  pub synchronization : valued (shares_of r).synchronization ≤ whole
 
 abbrev pub AreCapped : List Record → Type 0
 AreCapped [] = Unit {0}

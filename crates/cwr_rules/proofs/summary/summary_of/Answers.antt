@@ -2,6 +2,7 @@ use Rattle.std.proofs.Common.{◌≡◌, ◌<◌, length, drop, arith, ap, subst
 use Rattle.std.proofs.lemmas.List.{length-drop, drop_all}
 use Rattle.std.specs.Prelude.{nat_eq}
 use Rattle.std.specs.HashMap.{get}
+use Rattle.cwr_field.specs.Number.{most_count}
 use Rattle.cwr_rules.specs.declared.record.Record.{Record}
 use Rattle.cwr_rules.specs.Totals.{owns, controls, collects_at}
 use Rattle.cwr_rules.specs.Summary.{IsSummary}
@@ -16,7 +17,7 @@ loop-index-init g c =
 pub add-requires : goal.add-requires
 add-requires g c =
     let rest = drop c.loop-index.index c.args.records.now in
-    let few : length rest < 99999999 = omega (arith, length-drop c.loop-index.index c.args.records.now, c.requires.few) in
+    let few : length rest < most_count = omega (arith, length-drop c.loop-index.index c.args.records.now, c.requires.few) in
     let capped = drop_capped c.loop-index.index c.args.records.now c.requires.capped in
     let sums = c.loop-index.invariant.sums_are in
     (totals_small owns rest _ few capped (ap (λ s. s.ownership) sums), totals_small controls rest _ few capped (ap (λ s. s.control) sums))
@@ -24,7 +25,7 @@ add-requires g c =
 pub add-requires-in-loop-index : goal.add-requires-in-loop-index
 add-requires-in-loop-index g c = λ q.
     let rest = drop c.loop-index.index c.args.records.now in
-    let few : length rest < 99999999 = omega (arith, length-drop c.loop-index.index c.args.records.now, c.requires.few) in
+    let few : length rest < most_count = omega (arith, length-drop c.loop-index.index c.args.records.now, c.requires.few) in
     let capped = drop_capped c.loop-index.index c.args.records.now c.requires.capped in
     totals_small (collects_at q) rest _ few capped (c.loop-index.invariant.collected.values q)
 
