@@ -3,7 +3,7 @@ use Rattle.std.specs.Prelude.{ℕ, ◌+◌, ◌-◌, ◌/◌, ◌%◌, nat_lt, i
 use Rattle.cwr_call.specs.CallValue.{CallValue}
 use Rattle.cwr_record.specs.declared.works.WorkKind.{WorkKind}
 use Rattle.cwr_record.specs.declared.works.WorkKind.TheVariants.{Nwr, Rev}
-use Rattle.work_registry.specs.EntryValue.{EntryValue}
+use Rattle.work_registry.specs.EntryValue.{EntryValue, entry_of}
 use Rattle.work_registry.specs.declared.reply.Reply.{Reply}
 use Rattle.work_registry.specs.declared.reply.Reply.TheVariants.{Accepted}
 
@@ -42,4 +42,4 @@ abbrev pub session_numbered : ℕ → ℕ → ℕ
 session_numbered before n = if nat_lt before n then 1 else 0
 
 abbrev pub entry_numbered : ℕ → ℕ → EntryValue
-entry_numbered before n = record { session = session_numbered before n; call = call_numbered n; reply = reply_numbered n }
+entry_numbered before n = entry_of (session_numbered before n) (call_numbered n) (reply_numbered n)

@@ -19,3 +19,4 @@ pub mod RegisterNextLine
 pub mod NumberedReplies
 pub mod RegisterAgain
 pub mod RegisterLaws
+pub mod lemmas

@@ -9,6 +9,7 @@ use Rattle.cwr_call.specs.declared.transaction_fault.Fault.{Fault}
 use Rattle.cwr_record.proofs.lemmas.Codes.{same_kind, same_status}
 use Rattle.cwr_call.specs.Lawful.{is_lawful}
 use Rattle.work_registry.specs.declared.register.head.Head.{Head}
+use Rattle.work_registry.specs.RegisterColumns as column
 use Rattle.work_registry.specs.RegisterLine.{head, fault, head_of, line_from, EntryLine, IsEntryLine, IsTyped}
 use Rattle.cwr_record.specs.Layout.{StandsFor}
 use Rattle.cwr_record.specs.Lines.{Fits, IsWhole, line_of}
@@ -20,11 +21,11 @@ use Rattle.work_registry.proofs.RegisterFaultTexts.{faults_text, length-faults}
 
 -- what is known of a line, less its LF, that says something of an entry
 pub record Said (front : List ℕ) (x : EntryLine) : Type 0 where
-  pub long : 173 ≤ length front
-  pub head_stands : StandsFor head (take 173 front) (head_of x)
-  pub faults : faults_text x.call.faults ≡ drop 173 front
+  pub long : column.head_width ≤ length front
+  pub head_stands : StandsFor head (take column.head_width front) (head_of x)
+  pub faults : faults_text x.call.faults ≡ drop column.head_width front
   pub whole : AllByRecursion (IsWhole fault) x.call.faults
-  pub rest : length (drop 173 front) ≡ 13 * length x.call.faults
+  pub rest : length (drop column.head_width front) ≡ column.fault_width * length x.call.faults
 
 split_at : (xs ys zs : List ℕ) (n : ℕ) → length xs ≡ n → zs ≡ xs ++ ys → (take n zs ≡ xs) × (drop n zs ≡ ys)
 split_at xs ys zs n len e = rw e (take_at xs ys n len, drop_at xs ys n len)
@@ -33,17 +34,17 @@ pub said : (front : List ℕ) (x : EntryLine) → IsEntryLine (front ++ 10 ∷ [
 said front x h =
     let whole = line_whole (front ++ 10 ∷ []) x h in
     let text : front ≡ line_of head (head_of x) ++ faults_text x.call.faults = append_cancel_right front (line_of head (head_of x) ++ faults_text x.call.faults) (10 ∷ []) h.text in
-    let len : length (line_of head (head_of x)) ≡ 173 = length-line_of head (head_of x) refl whole in
-    let split = split_at (line_of head (head_of x)) (faults_text x.call.faults) front 173 len text in
-    let lawful = lawful_parts x.call h.lawful in
+    let len : length (line_of head (head_of x)) ≡ column.head_width = length-line_of head (head_of x) refl whole in
+    let split = split_at (line_of head (head_of x)) (faults_text x.call.faults) front column.head_width len text in
+    let lawful = lawful_parts x.call h.call.lawful in
     let P : List ℕ → Type 0 = λ line. StandsFor head line (head_of x) in
     let long : length front ≡ length (line_of head (head_of x)) + length (faults_text x.call.faults) = ap length text ∙ length-append (line_of head (head_of x)) (faults_text x.call.faults) in
     record {
       long = omega (arith, long, len);
       head_stands = subst P (sym split.0) (stands head (head_of x) refl whole);
       faults = sym split.1;
-      whole = whole_faults x.call.faults (faults_fit x.call.faults lawful.faults) h.types;
-      rest = ap length split.1 ∙ length-faults x.call.faults h.types;
+      whole = whole_faults x.call.faults (faults_fit x.call.faults lawful.faults) h.call.types;
+      rest = ap length split.1 ∙ length-faults x.call.faults h.call.types;
     }
 
 three : (xs ys : List ℕ) → length xs ≡ 3 → length ys ≡ 3 → slice_index xs 0 ≡ slice_index ys 0 → slice_index xs 1 ≡ slice_index ys 1 → slice_index xs 2 ≡ slice_index ys 2 → xs ≡ ys
@@ -81,36 +82,38 @@ same_head line x y cx cy a b =
 
 -- what was read of a line is what it says
 
-pub says : (front : List ℕ) (h : Head) (fs : List Fault) (x : EntryLine) → 173 ≤ length front → StandsFor head (take 173 front) h → Fits head h → length h.control ≡ 3
-    → faults_text fs ≡ drop 173 front → AllByRecursion IsTyped fs → length (drop 173 front) ≡ 13 * h.faults → x ≡ line_from h fs → IsTrue (is_lawful (line_from h fs).call)
+pub says : (front : List ℕ) (h : Head) (fs : List Fault) (x : EntryLine) → column.head_width ≤ length front → StandsFor head (take column.head_width front) h → Fits head h → length h.control ≡ 3
+    → faults_text fs ≡ drop column.head_width front → AllByRecursion IsTyped fs → length (drop column.head_width front) ≡ column.fault_width * h.faults → x ≡ line_from h fs → IsTrue (is_lawful (line_from h fs).call)
     → IsEntryLine (front ++ 10 ∷ []) x
 says front h fs x long st fits rights text typed rest is lawful =
-    let line = take 173 front in
+    let line = take column.head_width front in
     let count : h.faults ≡ length fs = (let a = length-faults fs typed in let b = ap length text in omega (arith, a, b, rest)) in
     let same : head_of (line_from h fs) ≡ h = ap (λ (n : ℕ). record h { faults = n }) (sym count) in
-    let fixed : line_of head h ≡ take 173 front = spelled head (take 173 front) h 1 (omega arith) refl refl (omega (arith, long, length-take 173 front)) st ∙ take_all 173 (take 173 front) (omega (arith, length-take 173 front)) in
+    let fixed : line_of head h ≡ take column.head_width front = spelled head (take column.head_width front) h 1 (omega arith) refl refl (omega (arith, long, length-take column.head_width front)) st ∙ take_all column.head_width (take column.head_width front) (omega (arith, length-take column.head_width front)) in
     let whole : front ≡ line_of head (head_of (line_from h fs)) ++ faults_text fs =
-    sym (take-append-drop 173 front) ∙ ap (λ (xs : List ℕ). xs ++ drop 173 front) (sym fixed ∙ ap (λ (y : Head). line_of head y) (sym same)) ∙ ap (λ (xs : List ℕ). line_of head (head_of (line_from h fs)) ++ xs) (sym text) in
+    sym (take-append-drop column.head_width front) ∙ ap (λ (xs : List ℕ). xs ++ drop column.head_width front) (sym fixed ∙ ap (λ (y : Head). line_of head y) (sym same)) ∙ ap (λ (xs : List ℕ). line_of head (head_of (line_from h fs)) ++ xs) (sym text) in
     rw is (record {
       text = ap (λ (xs : List ℕ). xs ++ 10 ∷ []) whole;
       index = fits.1.0;
       work = fits.1.1.1.1.1.1.0;
       version = fits.1.1.1.1.1.1.1.0;
-      lawful = lawful;
-      submitter = ap length st.1.1.0 ∙ length-field line 12 11;
-      title = ap length st.1.1.1.1.0 ∙ length-field line 26 60;
-      number = ap length st.1.1.1.1.1.0 ∙ length-field line 86 14;
-      control = rights;
-      types = typed;
+      call = record {
+        lawful = lawful;
+        submitter = ap length st.1.1.0 ∙ length-field line column.submitter.start column.submitter.width;
+        title = ap length st.1.1.1.1.0 ∙ length-field line column.title.start column.title.width;
+        number = ap length st.1.1.1.1.1.0 ∙ length-field line column.number.start column.number.width;
+        control = rights;
+        types = typed;
+      };
     })
 
 -- what a line says is what was read of it
 
 pub read_is : (front : List ℕ) (h : Head) (fs : List Fault) (x : EntryLine) (o : Option EntryLine) → Said front x → length x.call.control ≡ 3 → IsTrue (is_lawful x.call)
-    → StandsFor head (take 173 front) h → length h.control ≡ 3 → fs ≡ x.call.faults
+    → StandsFor head (take column.head_width front) h → length h.control ≡ 3 → fs ≡ x.call.faults
     → is_some o ≡ is_lawful (line_from h fs).call → IfSome o (λ y. y ≡ line_from h fs) → o ≡ Some x
 read_is front h fs x o s rights lawful st control faults when value =
-    let same = same_head (take 173 front) h (head_of x) control rights st s.head_stands in
+    let same = same_head (take column.head_width front) h (head_of x) control rights st s.head_stands in
     let is : line_from h fs ≡ x = ap (λ (y : Head). line_from y fs) same ∙ ap (λ (ys : List Fault). line_from (head_of x) ys) faults in
     by o (when ∙ ap (λ (y : EntryLine). is_lawful y.call) is ∙ lawful) value is
   where
@@ -120,38 +123,38 @@ read_is front h fs x o s rights lawful st control faults when value =
 
 -- a line says nothing, where one of its parts spells nothing
 
-pub short : (front : List ℕ) (x : EntryLine) → length front < 173 → IsEntryLine (front ++ 10 ∷ []) x → ⊥
+pub short : (front : List ℕ) (x : EntryLine) → length front < column.head_width → IsEntryLine (front ++ 10 ∷ []) x → ⊥
 short front x lt h = let s = said front x h in let long = s.long in omega (arith, lt, long)
 
-pub headless : (front : List ℕ) (x : EntryLine) → ((y : Head) → StandsFor head (take 173 front) y → ⊥) → IsEntryLine (front ++ 10 ∷ []) x → ⊥
+pub headless : (front : List ℕ) (x : EntryLine) → ((y : Head) → StandsFor head (take column.head_width front) y → ⊥) → IsEntryLine (front ++ 10 ∷ []) x → ⊥
 headless front x none h = let s = said front x h in none (head_of x) s.head_stands
 
 -- another number of faults stands in the head than follows
-pub miscounted : (front : List ℕ) (y : Head) (x : EntryLine) → StandsFor head (take 173 front) y → length y.control ≡ 3
-    → (length (drop 173 front) ≡ 13 * y.faults → ⊥) → IsEntryLine (front ++ 10 ∷ []) x → ⊥
+pub miscounted : (front : List ℕ) (y : Head) (x : EntryLine) → StandsFor head (take column.head_width front) y → length y.control ≡ 3
+    → (length (drop column.head_width front) ≡ column.fault_width * y.faults → ⊥) → IsEntryLine (front ++ 10 ∷ []) x → ⊥
 miscounted front y x st rights wrong h =
     let s = said front x h in
-    let same = same_head (take 173 front) y (head_of x) rights h.control st s.head_stands in
-    wrong (s.rest ∙ ap (λ (z : Head). 13 * z.faults) (sym same))
+    let same = same_head (take column.head_width front) y (head_of x) rights h.call.control st s.head_stands in
+    wrong (s.rest ∙ ap (λ (z : Head). column.fault_width * z.faults) (sym same))
 
-pub says_some : (front : List ℕ) (h : Head) (fs : List Fault) (o : Option EntryLine) → 173 ≤ length front → StandsFor head (take 173 front) h → Fits head h → length h.control ≡ 3
-    → faults_text fs ≡ drop 173 front → AllByRecursion IsTyped fs → length (drop 173 front) ≡ 13 * h.faults
+pub says_some : (front : List ℕ) (h : Head) (fs : List Fault) (o : Option EntryLine) → column.head_width ≤ length front → StandsFor head (take column.head_width front) h → Fits head h → length h.control ≡ 3
+    → faults_text fs ≡ drop column.head_width front → AllByRecursion IsTyped fs → length (drop column.head_width front) ≡ column.fault_width * h.faults
     → is_some o ≡ is_lawful (line_from h fs).call → IfSome o (λ y. y ≡ line_from h fs) → IfSome o (IsEntryLine (front ++ 10 ∷ []))
 says_some front h fs None long st fits rights text typed rest when value = tt
 says_some front h fs (Some x) long st fits rights text typed rest when value = says front h fs x long st fits rights text typed rest value (sym when)
 
 -- what the line says of an entry is what was read of it
-pub only_read : (front : List ℕ) (h : Head) (fs : List Fault) (p : Option (List Fault)) (o : Option EntryLine) → StandsFor head (take 173 front) h → length h.control ≡ 3
-    → p ≡ Some fs → ((gs : List Fault) → AllByRecursion (IsWhole fault) gs → faults_text gs ≡ drop 173 front → p ≡ Some gs)
+pub only_read : (front : List ℕ) (h : Head) (fs : List Fault) (p : Option (List Fault)) (o : Option EntryLine) → StandsFor head (take column.head_width front) h → length h.control ≡ 3
+    → p ≡ Some fs → ((gs : List Fault) → AllByRecursion (IsWhole fault) gs → faults_text gs ≡ drop column.head_width front → p ≡ Some gs)
     → is_some o ≡ is_lawful (line_from h fs).call → IfSome o (λ y. y ≡ line_from h fs)
     → (x : EntryLine) → IsEntryLine (front ++ 10 ∷ []) x → o ≡ Some x
 only_read front h fs p o st rights is only when value x line =
     let s = said front x line in
     let found : Some fs ≡ Some x.call.faults = sym is ∙ only x.call.faults s.whole s.faults in
     let same : fs ≡ x.call.faults = cc in
-    read_is front h fs x o s line.control line.lawful st rights same when value
+    read_is front h fs x o s line.call.control line.call.lawful st rights same when value
 
-pub faultless : (front : List ℕ) (p : Option (List Fault)) → p ≡ None → ((gs : List Fault) → AllByRecursion (IsWhole fault) gs → faults_text gs ≡ drop 173 front → p ≡ Some gs)
+pub faultless : (front : List ℕ) (p : Option (List Fault)) → p ≡ None → ((gs : List Fault) → AllByRecursion (IsWhole fault) gs → faults_text gs ≡ drop column.head_width front → p ≡ Some gs)
     → (x : EntryLine) → IsEntryLine (front ++ 10 ∷ []) x → ⊥
 faultless front p is only x line =
     let s = said front x line in

@@ -12,19 +12,20 @@ use Rattle.cwr_record.proofs.lemmas.Spelled.{spelled, same_parts, same_number}
 use Rattle.cwr_field.specs.Layout.{padded}
 use Rattle.cwr_field.specs.Number.{number_text}
 use Rattle.cwr_field.proofs.lemmas.DigitText.{length-number_text}
+use Rattle.work_registry.specs.RegisterColumns as column
 use Rattle.work_registry.specs.RegisterLine.{fault, IsTyped}
 
 abbrev pub faults_text : List Fault → List ℕ
 faults_text fs = flat_map (line_of fault) fs
 
-pub length-fault : (f : Fault) → IsTyped f → length (line_of fault f) ≡ 13
+pub length-fault : (f : Fault) → IsTyped f → length (line_of fault f) ≡ column.fault_width
 length-fault f typed =
     let type : length (padded 3 f.rtype ++ []) ≡ 3 = ap length (append-nil (padded 3 f.rtype) ∙ padded_full 3 f.rtype typed) ∙ typed in
     let number = length-append (number_text 2 f.number) (padded 3 f.rtype ++ []) in
     let sequence = length-append (number_text 8 f.sequence) (number_text 2 f.number ++ (padded 3 f.rtype ++ [])) in
     omega (arith, type, number, sequence, length-number_text 2 f.number, length-number_text 8 f.sequence)
 
-pub length-faults : (fs : List Fault) → AllByRecursion IsTyped fs → length (faults_text fs) ≡ 13 * length fs
+pub length-faults : (fs : List Fault) → AllByRecursion IsTyped fs → length (faults_text fs) ≡ column.fault_width * length fs
 length-faults [] typed = refl
 length-faults (f ∷ fs) typed =
     let first = length-fault f typed.0 in
@@ -32,8 +33,8 @@ length-faults (f ∷ fs) typed =
     omega (arith, first, more, length-append (line_of fault f) (faults_text fs))
 
 -- thirteen bytes that stand for a fault are its line
-pub fault_spelled : (bytes : List ℕ) (f : Fault) → length bytes ≡ 13 → StandsFor fault bytes f → line_of fault f ≡ bytes
-fault_spelled bytes f len st = spelled fault bytes f 1 (omega arith) refl refl (omega (arith, len)) st ∙ take_all 13 bytes (omega (arith, len))
+pub fault_spelled : (bytes : List ℕ) (f : Fault) → length bytes ≡ column.fault_width → StandsFor fault bytes f → line_of fault f ≡ bytes
+fault_spelled bytes f len st = spelled fault bytes f 1 (omega arith) refl refl (omega (arith, len)) st ∙ take_all column.fault_width bytes (omega (arith, len))
 
 pub fault_stands : (bytes : List ℕ) (f : Fault) → IsWhole fault f → line_of fault f ≡ bytes → StandsFor fault bytes f
 fault_stands bytes f whole e =
@@ -71,12 +72,12 @@ typed_push [] f p q = (q, tt)
 typed_push (g ∷ fs) f p q = (p.0, typed_push fs f p.1 q)
 
 -- the first of faults that stand in front of more
-first_is : (front back : List ℕ) (g : Fault) (gs : List Fault) → length front ≡ 13 → IsTyped g → faults_text (g ∷ gs) ≡ front ++ back
+first_is : (front back : List ℕ) (g : Fault) (gs : List Fault) → length front ≡ column.fault_width → IsTyped g → faults_text (g ∷ gs) ≡ front ++ back
     → (line_of fault g ≡ front) × (faults_text gs ≡ back)
 first_is front back g gs len typed e = same_fronts (line_of fault g) front (faults_text gs) back (length-fault g typed ∙ sym len) e
 
 -- one fault more
-pub read_more : (bytes rest front back : List ℕ) (read pushed : List Fault) (f : Fault) → Read bytes rest read → rest ≡ front ++ back → length front ≡ 13
+pub read_more : (bytes rest front back : List ℕ) (read pushed : List Fault) (f : Fault) → Read bytes rest read → rest ≡ front ++ back → length front ≡ column.fault_width
     → StandsFor fault front f → IsTyped f → pushed ≡ read ++ f ∷ [] → Read bytes back pushed
 read_more bytes rest front back read pushed f r split len st typed push =
     let text = fault_spelled front f len st in
@@ -116,7 +117,7 @@ read_text bytes rest read r none = by rest r.text none
     by (x ∷ xs) e len = absurd (omega arith)
 
 -- the rest is too short for a fault, or its first bytes stand for none
-pub no_faults : (bytes rest front back : List ℕ) (read fs : List Fault) → Read bytes rest read → rest ≡ front ++ back → 0 < length rest → length front ≡ 13
+pub no_faults : (bytes rest front back : List ℕ) (read fs : List Fault) → Read bytes rest read → rest ≡ front ++ back → 0 < length rest → length front ≡ column.fault_width
     → ((f : Fault) → StandsFor fault front f → ⊥) → AllByRecursion (IsWhole fault) fs → faults_text fs ≡ bytes → ⊥
 no_faults bytes rest front back read fs r split some len none whole e = ends (r.only fs whole e)
   where
@@ -127,7 +128,7 @@ no_faults bytes rest front back read fs r split some len none whole e = ends (r.
     ends : Continue bytes rest read fs → ⊥
     ends c = by c.more c.text c.whole
 
-pub too_short : (bytes rest : List ℕ) (read fs : List Fault) → Read bytes rest read → 0 < length rest → length rest < 13
+pub too_short : (bytes rest : List ℕ) (read fs : List Fault) → Read bytes rest read → 0 < length rest → length rest < column.fault_width
     → AllByRecursion (IsWhole fault) fs → faults_text fs ≡ bytes → ⊥
 too_short bytes rest read fs r some short whole e = ends (r.only fs whole e)
   where

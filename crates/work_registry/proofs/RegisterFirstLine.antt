@@ -1,6 +1,6 @@
 -- The first line of a register: its faults, and what follows where it has none.
-use Rattle.std.proofs.Common.{◌≡◌, ◌∙◌, ℕ, ◌+◌, ◌<◌, ◌≤◌, ◌^◌, Bool, true, false, List, [], ◌∷◌, ◌++◌, length, arith, ap, sym, subst, refl, append_assoc, inl, inr}
-use Rattle.std.specs.Prelude.{◌⊎◌, ◌||◌, ◌==◌}
+use Rattle.std.proofs.Common.{◌≡◌, ◌∙◌, ℕ, ◌+◌, ◌<◌, ◌≤◌, ◌^◌, true, false, List, [], ◌∷◌, ◌++◌, length, arith, ap, sym, subst, refl, append_assoc, inl, inr}
+use Rattle.std.specs.Prelude.{◌⊎◌, ◌==◌}
 use Rattle.std.proofs.lemmas.List.{length_push}
 use Rattle.cwr_record.specs.FaultOrder.{IsNoLater}
 use Rattle.work_registry.specs.EntryValue.{EntryValue}
@@ -11,6 +11,7 @@ use Rattle.cwr_record.specs.Lines.{line_of}
 use Rattle.cwr_record.proofs.lemmas.Spelled.{same_parts, same_number}
 use Rattle.work_registry.specs.RegisterLine.{entry_count}
 use Rattle.work_registry.proofs.RegisterLines.{count_stands}
+use Rattle.cwr_field.proofs.lemmas.Tests.{or_right}
 
 -- one line tells one number
 same_count : (line : List ℕ) (m n : ℕ) → m < 10 ^ 8 → n < 10 ^ 8 → line ++ 10 ∷ [] ≡ count_line m → line ++ 10 ∷ [] ≡ count_line n → m ≡ n
@@ -22,13 +23,9 @@ later count entries [] k n h = let e = h.0 in omega (arith, e)
 later count entries (line ∷ rest) k n (inl h) = let e = h.0 in omega (arith, e)
 later count entries (line ∷ rest) k n (inr h) = let le = later count (entries ++ h.1.0 ∷ []) rest k n h.1.2 in omega (arith, le, length_push entries h.1.0)
 
-or_true : (a b : Bool) → b ≡ true → (a || b) ≡ true
-or_true true b h = refl
-or_true false b h = h
-
 pub has_last : (xs : List ℕ) → has_end (xs ++ 10 ∷ []) ≡ true
 has_last [] = refl
-has_last (x ∷ xs) = or_true (x == 10) (has_end (xs ++ 10 ∷ [])) (has_last xs)
+has_last (x ∷ xs) = or_right (x == 10) (has_end (xs ++ 10 ∷ [])) (has_last xs)
 
 -- a line without LF tells no number
 pub unended_count : (line : List ℕ) → has_end line ≡ false → IsNoCount line

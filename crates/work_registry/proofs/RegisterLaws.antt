@@ -13,6 +13,7 @@ use Rattle.work_registry.specs.declared.register.refusal.RegisterRefusal.TheVari
 use Rattle.work_registry.specs.declared.reply.Reply.{Reply}
 use Rattle.work_registry.specs.EntryValue.{EntryValue, entry_of}
 use Rattle.work_registry.specs.History.{IsHistory}
+use Rattle.work_registry.specs.Numbers.{most_entries}
 use Rattle.work_registry.specs.Rows.{Row, rows_of}
 use Rattle.work_registry.specs.Reply.{reply_to}
 use Rattle.work_registry.specs.Replay.{is_opening}
@@ -35,12 +36,7 @@ says index e lt w =
       index = lt;
       work = w.fits.work;
       version = w.fits.version;
-      lawful = w.lawful;
-      submitter = w.submitter;
-      title = w.title;
-      number = w.number;
-      control = w.control;
-      types = w.types;
+      call = w.call;
     }
 
 -- the first line of entries
@@ -50,7 +46,7 @@ entry_split index e es = append_assoc (front_of (line_for index e.call e.reply))
 entry_first : (index : ℕ) (e : EntryValue) (es : List EntryValue) → IsWholeEntry e
     → lines (entry_lines index (e ∷ es)) ≡ (front_of (line_for index e.call e.reply) ++ 10 ∷ []) ∷ lines (entry_lines (index + 1) es)
 entry_first index e es w =
-    ap lines (entry_split index e es) ∙ lines_first (front_of (line_for index e.call e.reply)) (entry_lines (index + 1) es) (front_has_none (line_for index e.call e.reply) w.lawful w.submitter w.title w.number w.types)
+    ap lines (entry_split index e es) ∙ lines_first (front_of (line_for index e.call e.reply)) (entry_lines (index + 1) es) (front_has_none (line_for index e.call e.reply) w.call)
 
 -- ---- no fault
 
@@ -136,18 +132,18 @@ opened_is (e ∷ h) is =
 
 -- ---- what a reader answers of a register that was written
 
-pub read_history : (limit : ℕ) (text : List ℕ) (g h : List EntryValue) → limit ≤ 99999999 → length g ≤ limit → is_opening g ≡ true → AllByRecursion IsWholeEntry g → text ≡ register_text g
+pub read_history : (limit : ℕ) (text : List ℕ) (g h : List EntryValue) → limit ≤ most_entries → length g ≤ limit → is_opening g ≡ true → AllByRecursion IsWholeEntry g → text ≡ register_text g
     → AllByRecursion IsWholeEntry h → length h ≤ limit → text ≡ register_text h → g ≡ map opened h
 read_history limit text g h most few opening whole is whole' few' is' =
     sym (opened_is g opening) ∙ one_history g h (omega (arith, few, most)) (omega (arith, few', most)) whole whole' (sym is ∙ is')
 
-memory_alone : (limit : ℕ) (text : List ℕ) (h : List EntryValue) (e : RegisterRefusal) → limit ≤ 99999999 → IsRefusal limit text e → IsHistory h → AllByRecursion IsWholeEntry h → length h ≤ limit → text ≡ register_text h → e ≡ Memory
+memory_alone : (limit : ℕ) (text : List ℕ) (h : List EntryValue) (e : RegisterRefusal) → limit ≤ most_entries → IsRefusal limit text e → IsHistory h → AllByRecursion IsWholeEntry h → length h ≤ limit → text ≡ register_text h → e ≡ Memory
 memory_alone limit text h Memory most refusal is whole few e = refl
 memory_alone limit text h (Fault number line) most refusal is whole few e =
     let P : List ℕ → Type 0 = λ xs. IsFault limit xs line number in
     absurd (no_fault limit h line number is whole few (omega (arith, few, most)) (subst P e refusal.has))
 
-pub refused_history : {B : Type 0} (limit : ℕ) (text : List ℕ) (h : List EntryValue) (r : Result B RegisterRefusal) (e : RegisterRefusal) (P : B → Type 0) → limit ≤ 99999999
+pub refused_history : {B : Type 0} (limit : ℕ) (text : List ℕ) (h : List EntryValue) (r : Result B RegisterRefusal) (e : RegisterRefusal) (P : B → Type 0) → limit ≤ most_entries
     → IsErrAnd r (λ x. x ≡ e) → IsRefusal limit text e → IsHistory h → AllByRecursion IsWholeEntry h → length h ≤ limit → text ≡ register_text h → MatchResult r P (λ x. x ≡ Memory)
 refused_history limit text h (Ok b) e P most is refusal hist whole few t = absurd is
 refused_history limit text h (Err x) e P most is refusal hist whole few t = is ∙ memory_alone limit text h e most refusal hist whole few t

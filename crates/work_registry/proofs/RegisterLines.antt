@@ -1,6 +1,6 @@
 -- The lines of a text, by the place of its first LF.
 use Rattle.std.proofs.Common.{◌≡◌, ◌∙◌, ℕ, ◌+◌, ◌<◌, ◌≤◌, ◌^◌, ltb, Bool, true, false, cond, List, [], ◌∷◌, ◌++◌, length, take, drop, get_or, Some, None, arith, ap, sym, subst, refl, inl, inr}
-use Rattle.std.specs.Prelude.{◌||◌, ◌==◌, ◌⊎◌, if◌then◌else◌}
+use Rattle.std.specs.Prelude.{◌==◌, ◌⊎◌, if◌then◌else◌}
 use Rattle.std.specs.List.{position, position_or_len}
 use Rattle.std.proofs.lemmas.List.{take_all, drop_more, take-append-drop, get_or-take, length-take, append_cancel_right}
 use Rattle.std.proofs.lemmas.List.Folds.{list_any_none}
@@ -11,29 +11,27 @@ use Rattle.cwr_record.specs.Layout.{StandsFor}
 use Rattle.cwr_record.specs.Lines.{line_of}
 use Rattle.cwr_record.proofs.lemmas.RoundTrip.{stands}
 use Rattle.cwr_record.proofs.lemmas.Spelled.{spelled}
+use Rattle.work_registry.specs.RegisterColumns as column
 use Rattle.work_registry.specs.RegisterLine.{entry_count}
 use Rattle.work_registry.specs.Register.{count_line}
 use Rattle.work_registry.specs.RegisterFaults.{in_front, lines, has_end}
-
-either : (a b : Bool) → (a || b) ≡ false → (a ≡ false) × (b ≡ false)
-either true b h = absurd cc
-either false b h = (refl, h)
+use Rattle.cwr_field.proofs.lemmas.Tests.{neither}
 
 -- a line that an LF ends
 pub lines_first : (front rest : List ℕ) → has_end front ≡ false → lines (front ++ 10 ∷ rest) ≡ (front ++ 10 ∷ []) ∷ lines rest
 lines_first [] rest h = refl
 lines_first (b ∷ front) rest h =
-    let p = either (b == 10) (has_end front) h in
+    let p = neither (b == 10) (has_end front) h in
     let more = lines_first front rest p.1 in
     ap (λ (t : Bool). if t then (10 ∷ []) ∷ lines (front ++ 10 ∷ rest) else in_front b (lines (front ++ 10 ∷ rest))) p.0 ∙ ap (in_front b) more
 
 -- a last line that lacks its LF
 pub lines_last : (b : ℕ) (text : List ℕ) → has_end (b ∷ text) ≡ false → lines (b ∷ text) ≡ (b ∷ text) ∷ []
 lines_last b [] h =
-    let p = either (b == 10) false h in
+    let p = neither (b == 10) false h in
     ap (λ (t : Bool). if t then (10 ∷ []) ∷ [] else in_front b []) p.0
 lines_last b (a ∷ text) h =
-    let p = either (b == 10) (has_end (a ∷ text)) h in
+    let p = neither (b == 10) (has_end (a ∷ text)) h in
     ap (λ (t : Bool). if t then (10 ∷ []) ∷ lines (a ∷ text) else in_front b (lines (a ∷ text))) p.0 ∙ ap (in_front b) (lines_last a text p.1)
 
 abbrev is_end : ℕ → Bool
@@ -89,9 +87,9 @@ unended_lines (b ∷ text) e = inr (lines_last b text (unended (b ∷ text) e))
 
 -- ---- the first line of a register
 
-pub count_says : (line : List ℕ) (n : ℕ) → length line ≡ 11 → StandsFor entry_count line n → line ++ 10 ∷ [] ≡ count_line n
+pub count_says : (line : List ℕ) (n : ℕ) → length line ≡ column.count_width → StandsFor entry_count line n → line ++ 10 ∷ [] ≡ count_line n
 count_says line n len st =
-    ap (λ (xs : List ℕ). xs ++ 10 ∷ []) (sym (take_all 11 line (omega (arith, len))) ∙ sym (spelled entry_count line n 1 (omega arith) refl refl (omega (arith, len)) st))
+    ap (λ (xs : List ℕ). xs ++ 10 ∷ []) (sym (take_all column.count_width line (omega (arith, len))) ∙ sym (spelled entry_count line n 1 (omega arith) refl refl (omega (arith, len)) st))
 
 line_is : (line : List ℕ) (n : ℕ) → line ++ 10 ∷ [] ≡ count_line n → line ≡ line_of entry_count n
 line_is line n e = append_cancel_right line (line_of entry_count n) (10 ∷ []) e
@@ -101,5 +99,5 @@ count_stands line n small e =
     let P : List ℕ → Type 0 = λ xs. StandsFor entry_count xs n in
     subst P (sym (line_is line n e)) (stands entry_count n refl ((refl, refl), (small, tt)))
 
-pub length-count : (line : List ℕ) (n : ℕ) → line ++ 10 ∷ [] ≡ count_line n → length line ≡ 11
+pub length-count : (line : List ℕ) (n : ℕ) → line ++ 10 ∷ [] ≡ count_line n → length line ≡ column.count_width
 length-count line n e = ap length (line_is line n e)

@@ -186,12 +186,7 @@ whole_of : (line : List ℕ) (index : ℕ) (e : EntryValue) → IsEntryLine line
 whole_of line index e is =
     record {
       fits = record { work = is.work; version = is.version };
-      lawful = is.lawful;
-      submitter = is.submitter;
-      title = is.title;
-      number = is.number;
-      control = is.control;
-      types = is.types;
+      call = is.call;
     }
 
 -- the text of one entry more

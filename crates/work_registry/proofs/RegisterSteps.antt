@@ -2,17 +2,13 @@
 use Rattle.std.proofs.Common.{◌≡◌, ◌∙◌, ℕ, ◌+◌, ◌<◌, List, [], ◌∷◌, ◌++◌, length, take, drop, get_or, ap, sym, subst, append_assoc}
 use Rattle.std.specs.List.{flat_map, AllByRecursion}
 use Rattle.std.proofs.lemmas.List.{drop_more, take_more}
+use Rattle.cwr_field.proofs.lemmas.Pieces.{moved}
 use Rattle.cwr_call.specs.declared.transaction_fault.Fault.{Fault}
 use Rattle.work_registry.specs.declared.register.head.Head.{Head}
 use Rattle.cwr_record.specs.Lines.{line_of}
 use Rattle.work_registry.specs.EntryValue.{EntryValue}
 use Rattle.work_registry.specs.RegisterLine.{EntryLine, head, fault, head_of, line_text}
 use Rattle.work_registry.specs.Register.{entry_line, entry_lines}
-
--- what is written next is what the rest began with
-moved : (out new piece rest left total : List ℕ) → new ≡ out ++ piece → rest ≡ piece ++ left → out ++ rest ≡ total → new ++ left ≡ total
-moved out new piece rest left total wrote begins so_far =
-    ap (λ text. text ++ left) wrote ∙ append_assoc out piece left ∙ ap (λ text. out ++ text) (sym begins) ∙ so_far
 
 pub entry_more : (entries : List EntryValue) (i : ℕ) (e : EntryValue) (out new total : List ℕ) → i < length entries
     → e ≡ get_or entries i e

@@ -22,7 +22,8 @@ use Rattle.work_registry.specs.Reply.{clashes, is_over, most_control, reply_afte
 use Rattle.work_registry.specs.Rows.{Row, current, key_of, last_of_key, row_of, rows_of, rows_of_entry, same_key}
 use Rattle.work_registry.specs.Works.{control_in, has_work, iswc_of, others_in, share_in, work_count, work_of_iswc}
 use Rattle.work_registry.proofs.OneMoreRow.{work_count-le, sum-current-split, sum-current-push, iswc_of-push}
-use Rattle.work_registry.proofs.SoundRows.{IsSound, takes-from, sound-push, keeps-push, or-false, iswc-none, work-of-named, work-of-key}
+use Rattle.work_registry.proofs.SoundRows.{IsSound, takes-from, sound-push, keeps-push, iswc-none, work-of-named, work-of-key}
+use Rattle.cwr_field.proofs.lemmas.Tests.{neither}
 
 pub rows_of-append : (g h : List EntryValue) → rows_of (g ++ h) ≡ rows_of g ++ rows_of h
 rows_of-append [] h = refl
@@ -107,7 +108,7 @@ history-none j d lt = absurd (omega arith)
 -- a work with no row has no control
 pub control-none : (i w : ℕ) (rows : List Row) → has_work w rows ≡ false → control_in i w rows ≡ 0
 control-none i w [] e = refl
-control-none i w (r ∷ rs) e = by (or-false (r.work == w) (has_work w rs) e) (control-none i w rs) (list_any (λ q. same_key q.key r.key) rs)
+control-none i w (r ∷ rs) e = by (neither (r.work == w) (has_work w rs) e) (control-none i w rs) (list_any (λ q. same_key q.key r.key) rs)
   where
     by : ((r.work == w) ≡ false) × (has_work w rs ≡ false) → (has_work w rs ≡ false → control_in i w rs ≡ 0) → (b : Bool) → sum_by (share_in i w) (if b then current rs else r ∷ current rs) ≡ 0
     by h ih true = ih h.1

@@ -15,6 +15,7 @@ use Rattle.work_registry.specs.Reply.{clashes, differs, is_over, is_over_in, mos
 use Rattle.work_registry.specs.Rows.{Row, key_of, last_of_key, last_such, row_of, same_key}
 use Rattle.work_registry.specs.Works.{control_in, has_work, is_iswc, iswc_in, iswc_of, others_in, share_in, work_count, work_of_iswc}
 use Rattle.work_registry.proofs.OneMoreRow.{last_such-is, last_such-in, list_any-push, sum-current-push, sum-current-split, work_count-push, iswc_of-push, work_of_iswc-push}
+use Rattle.cwr_field.proofs.lemmas.Tests.{neither}
 
 pub record IsSound (rows : List Row) : Type 0 where
   pub small : (i w : ℕ) → i < 3 → control_in i w rows ≤ most_control
@@ -28,25 +29,21 @@ pub record Takes (rows : List Row) (r : Row) : Type 0 where
   pub mine : (q : Row) → last_of_key r.key rows ≡ Some q → q.work ≡ r.work
   pub fits : (i : ℕ) → i < 3 → others_in i r.work r.key rows + slice_index r.control i ≤ most_control
 
-pub or-false : (a b : Bool) → (a || b) ≡ false → (a ≡ false) × (b ≡ false)
-or-false true b e = absurd (true≢false e)
-or-false false b e = (refl, e)
-
 pub not-false : (b : Bool) → not b ≡ false → b ≡ true
 not-false true e = refl
 not-false false e = absurd (true≢false e)
 
 pub fits-each : (rows : List Row) (w : ℕ) (k : Key) (control : List ℕ) → is_over w k control rows ≡ false →
     (i : ℕ) → i < 3 → others_in i w k rows + slice_index control i ≤ most_control
-fits-each rows w k control e = by (or-false _ _ e)
+fits-each rows w k control e = by (neither _ _ e)
   where
     le : (n : ℕ) → nat_lt most_control n ≡ false → n ≤ most_control
     le n h = grind (arith, common_steps)
 
     by : (is_over_in 0 w k control rows ≡ false) × ((is_over_in 1 w k control rows || is_over_in 2 w k control rows) ≡ false) → (i : ℕ) → i < 3 → others_in i w k rows + slice_index control i ≤ most_control
     by h zero lt = le _ h.0
-    by h (suc zero) lt = le _ (or-false _ _ h.1).0
-    by h (suc (suc zero)) lt = le _ (or-false _ _ h.1).1
+    by h (suc zero) lt = le _ (neither _ _ h.1).0
+    by h (suc (suc zero)) lt = le _ (neither _ _ h.1).1
     by h (suc (suc (suc i))) lt = absurd (omega arith)
 
 pub taken-is : (rows : List Row) (call : CallValue) (u w v : ℕ) → reply_for_work rows call u ≡ Accepted w v →
@@ -206,7 +203,7 @@ agrees-push rows r s t i w = rw (iswc_of-push w rows r, work_of_iswc-push i rows
         ((let n : Option ℕ = if is_iswc i o then Some r.work else work_of_iswc i rows in n ≡ Some w) → (let m : Option ℕ = if (r.work == w) && is_some o then o else iswc_of w rows in m ≡ Some i))
         × ((let m : Option ℕ = if (r.work == w) && is_some o then o else iswc_of w rows in m ≡ Some i) → (let n : Option ℕ = if is_iswc i o then Some r.work else work_of_iswc i rows in n ≡ Some w))
     by None c = unnamed (r.work == w)
-    by (Some j) c = let d = or-false _ _ c in named j d.0 d.1 (i == j) refl (r.work == w) refl
+    by (Some j) c = let d = neither _ _ c in named j d.0 d.1 (i == j) refl (r.work == w) refl
 
 pub sound-push : (rows : List Row) (r : Row) → IsSound rows → Takes rows r → IsSound (rows ++ r ∷ [])
 sound-push rows r s t = record { small = small-push rows r s t; numbered = numbered-push rows r s t; agrees = agrees-push rows r s t }
@@ -220,5 +217,5 @@ keeps-push rows r t w i h = iswc_of-push w rows r ∙ by r.iswc t.apart (r.work 
     by (Some j) c false e = h
     by (Some j) c true e =
         let here : iswc_of r.work rows ≡ Some i = rw (← eqb-true _ _ e) at h in
-        let d : not (i == j) ≡ false = rw here at (or-false (differs r.work (work_of_iswc j rows)) (differs j (iswc_of r.work rows)) c).1 in
+        let d : not (i == j) ≡ false = rw here at (neither (differs r.work (work_of_iswc j rows)) (differs j (iswc_of r.work rows)) c).1 in
         ap (λ x. Some x) (sym (eqb-true _ _ (not-false _ d)))

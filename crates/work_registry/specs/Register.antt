@@ -3,14 +3,13 @@ use Rattle.std.specs.Prelude.{◌≡◌, ℕ, ◌+◌, ◌≤◌, ◌<◌, ◌^�
 use Rattle.std.specs.List.{AllByRecursion}
 use Rattle.cwr_record.specs.Lines.{line_of}
 use Rattle.cwr_call.specs.CallValue.{CallValue}
-use Rattle.cwr_call.specs.Lawful.{is_lawful}
 use Rattle.work_registry.specs.declared.reply.Reply.{Reply}
 use Rattle.work_registry.specs.EntryValue.{EntryValue, entry_of}
 use Rattle.work_registry.specs.History.{IsHistory}
 use Rattle.work_registry.specs.Numbers.{most_entries}
 use Rattle.work_registry.specs.Replay.{is_opening}
 use Rattle.work_registry.specs.Told.{status_in, work_in, version_in}
-use Rattle.work_registry.specs.RegisterLine.{EntryLine, entry_count, line_text, IsTyped}
+use Rattle.work_registry.specs.RegisterLine.{EntryLine, entry_count, line_text, IsWholeCall}
 
 -- the work that a reply names, or 0 where there is none
 abbrev pub work_of : Reply → ℕ
@@ -54,16 +53,10 @@ pub record FitsEntry (e : EntryValue) : Type 0 where
 abbrev pub opened : EntryValue → EntryValue
 opened e = entry_of 0 e.call e.reply
 
--- What two histories with one text need to be one, but for their sessions: each entry can be told, and is of a call.
--- The widths of texts are those that the entries of a program have by their types.
+-- what two histories with one text need to be one, but for their sessions: each entry can be told, and is of a call
 pub record IsWholeEntry (e : EntryValue) : Type 0 where
   pub fits : FitsEntry e
-  pub lawful : IsTrue (is_lawful e.call)
-  pub submitter : length e.call.submitter ≡ 11
-  pub title : length e.call.title ≡ 60
-  pub number : length e.call.number ≡ 14
-  pub control : length e.call.control ≡ 3
-  pub types : AllByRecursion IsTyped e.call.faults
+  pub call : IsWholeCall e.call
 
 -- the text is the register of a history of one registry with so many entries, all of the opening, each of which can be
 -- told and is of a call

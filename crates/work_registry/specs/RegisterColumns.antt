@@ -1,4 +1,5 @@
 -- Where each field of a register's lines stands: the one place for its positions.
+use Rattle.std.specs.Prelude.{ℕ, ◌+◌, ◌-◌}
 use Rattle.cwr_record.specs.Columns.{from}
 use Rattle.cwr_record.specs.declared.columns.Column.{Column}
 
@@ -9,6 +10,10 @@ mark = from 1 3
 -- the first line: the number of entries
 abbrev pub count : Column
 count = from 4 8
+
+-- the bytes that its fields take
+abbrev pub count_width : ℕ
+count_width = count.start + count.width - 1
 
 -- the line of an entry
 abbrev pub index : Column
@@ -50,7 +55,11 @@ version = from 157 8
 abbrev pub faults : Column
 faults = from 165 9
 
--- a fault, in the 13 bytes that it takes
+-- the bytes that its fields of fixed place take
+abbrev pub head_width : ℕ
+head_width = faults.start + faults.width - 1
+
+-- a fault
 abbrev pub fault_sequence : Column
 fault_sequence = from 1 8
 
@@ -59,3 +68,7 @@ fault_number = from 9 2
 
 abbrev pub fault_record_type : Column
 fault_record_type = from 11 3
+
+-- the bytes that it takes
+abbrev pub fault_width : ℕ
+fault_width = fault_record_type.start + fault_record_type.width - 1

@@ -97,16 +97,19 @@ line_text x = line_of head (head_of x) ++ flat_map (line_of fault) x.call.faults
 abbrev pub IsTyped : Fault → Type 0
 IsTyped f = length f.rtype ≡ 3
 
--- The line says this of an entry: of a call, and numbers that fit their fields. The widths of texts are those that a
--- program's values have by their types.
+-- what is true of every call in a program: it is lawful, and its texts have the widths that they have by their types
+pub record IsWholeCall (c : CallValue) : Type 0 where
+  pub lawful : IsTrue (is_lawful c)
+  pub submitter : length c.submitter ≡ column.submitter.width
+  pub title : length c.title ≡ column.title.width
+  pub number : length c.number ≡ column.number.width
+  pub control : length c.control ≡ 3
+  pub types : AllByRecursion IsTyped c.faults
+
+-- the line says this of an entry: of a call, and numbers that fit their fields
 pub record IsEntryLine (line : List ℕ) (x : EntryLine) : Type 0 where
   pub text : line ≡ line_text x
   pub index : x.index < 10 ^ 8
   pub work : x.work < 10 ^ 8
   pub version : x.version < 10 ^ 8
-  pub lawful : IsTrue (is_lawful x.call)
-  pub submitter : length x.call.submitter ≡ 11
-  pub title : length x.call.title ≡ 60
-  pub number : length x.call.number ≡ 14
-  pub control : length x.call.control ≡ 3
-  pub types : AllByRecursion IsTyped x.call.faults
+  pub call : IsWholeCall x.call

@@ -15,11 +15,11 @@ pub struct Entry<A: Allocator = Global> {
 }
 
 impl<A: Allocator> Model for Entry<A> {
-    ghost use Rattle.work_registry.specs.EntryValue.{EntryValue};
+    ghost use Rattle.work_registry.specs.EntryValue.{EntryValue, entry_of};
 
     ghost Value = { EntryValue };
 
-    ghost view = { λ e. record { session = e.session; call = e.call; reply = e.reply } };
+    ghost view = { λ e. entry_of e.session e.call e.reply };
 }
 
 impl<A: Allocator> Entry<A> {

@@ -1,6 +1,7 @@
 use Rattle.std.proofs.Common.{rules, ◌≡◌, ◌<◌, length, ap, ◌∙◌, Some, List}
 use Rattle.cwr_call.specs.declared.transaction_fault.Fault.{Fault}
 use Rattle.work_registry.proofs.RegisterFaultTexts.{read_more, read_all, too_short, no_faults, split_is}
+use Rattle.work_registry.specs.RegisterColumns as column
 use Rattle.work_registry.proofs.register.faults.read_faults.Goals as goal
 
 pub returns-then-rest-lt-FAULT_WIDTH-clause-only : goal.returns-then-rest-lt-FAULT_WIDTH-clause-only
@@ -11,12 +12,12 @@ returns-then-rest-lt-FAULT_WIDTH-clause-only g c =
 pub returns-in_default-clause-only : goal.returns-in_default-clause-only
 returns-in_default-clause-only g c =
     let some : 0 < length c.loop-rest.rest.now = search rules in
-    let split = split_is c.loop-rest.rest.now c.split_at.result.0.now c.split_at.result.1.now 13 c.split_at.ensures.front c.split_at.ensures.back in
+    let split = split_is c.loop-rest.rest.now c.split_at.result.0.now c.split_at.result.1.now column.fault_width c.split_at.ensures.front c.split_at.ensures.back in
     λ fs whole text. absurd (no_faults _ _ _ _ _ fs c.loop-rest.invariant split some c.split_at.ensures.front_len c.in_default.ensures.none whole text)
 
 pub loop-rest-preserved : goal.loop-rest-preserved
 loop-rest-preserved g c =
-    let split = split_is c.loop-rest.rest.now c.split_at.result.0.now c.split_at.result.1.now 13 c.split_at.ensures.front c.split_at.ensures.back in
+    let split = split_is c.loop-rest.rest.now c.split_at.result.0.now c.split_at.result.1.now column.fault_width c.split_at.ensures.front c.split_at.ensures.back in
     read_more _ _ _ _ _ _ _ c.loop-rest.invariant split c.split_at.ensures.front_len c.in-Some.ensures.some c.in-Some.ensures.typed c.in_ok-push.ensures.items
 
 pub returns-clause-only : goal.returns-clause-only

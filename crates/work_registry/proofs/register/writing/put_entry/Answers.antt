@@ -26,10 +26,12 @@ returns-clause-whole g c =
     let P : List Fault → Type 0 = λ fs. AllByRecursion IsTyped fs in
     record {
       fits = c.requires.fits;
-      lawful = c.head_for.ensures.lawful;
-      submitter = c.head_for.ensures.submitter;
-      title = c.head_for.ensures.title;
-      number = c.head_for.ensures.number;
-      control = c.head_for.ensures.control;
-      types = subst P types c.in_ok-put_faults.ensures.typed;
+      call = record {
+        lawful = c.head_for.ensures.lawful;
+        submitter = c.head_for.ensures.submitter;
+        title = c.head_for.ensures.title;
+        number = c.head_for.ensures.number;
+        control = c.head_for.ensures.control;
+        types = subst P types c.in_ok-put_faults.ensures.typed;
+      };
     }
