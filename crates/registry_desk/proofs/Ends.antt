@@ -1,10 +1,9 @@
 -- A desk is opened, and closed.
-use Rattle.std.proofs.Common.{◌≡◌, ℕ, ◌+◌, ◌-◌, ◌<◌, ◌≤◌, ◌≢◌, Bool, true, false, cond, ◌&&◌, Option, Some, List, [], ◌∷◌, ◌++◌, length, set, replicate, sym, refl, ap, ◌∙◌, ⊎_elim, subst, arith, append-nil}
-use Rattle.std.specs.Prelude.{◌==◌, nat_lt, slice_index, All}
+use Rattle.std.proofs.Common.{◌≡◌, ℕ, ◌+◌, ◌-◌, ◌<◌, ◌≤◌, ◌≢◌, Bool, true, false, cond, Option, Some, List, [], ◌∷◌, ◌++◌, length, set, replicate, sym, refl, ap, ◌∙◌, ⊎_elim, subst, arith, append-nil}
+use Rattle.std.specs.Prelude.{◌==◌, slice_index, All}
 use Rattle.std.specs.List.{sum_by}
-use Rattle.std.proofs.lemmas.Bool.Decides.{nat_tests}
 use Rattle.std.proofs.lemmas.List.{append_cancel_left}
-use Rattle.std.proofs.lemmas.List.Elements.{filter-append, All-nil, All-cons}
+use Rattle.std.proofs.lemmas.List.Elements.{filter-append}
 use mathlib.Core.Logic.{dite}
 use mathlib.Core.Option.{Option as Maybe, some, some-ne-none}
 use native.Mathlib.Decide.{ℕ_discrete}
@@ -15,6 +14,8 @@ use Rattle.work_registry.specs.EntryValue.{EntryValue}
 use Rattle.work_registry.specs.BookValue.{BookValue}
 use Rattle.work_registry.specs.History.{IsHistory}
 use Rattle.work_registry.specs.Replay.{made, is_opening}
+use Rattle.cwr_field.proofs.lemmas.Tests.{parts}
+use Rattle.work_registry.proofs.lemmas.Sessions.{none_made, all_inside}
 use Rattle.registry_desk.specs.declared.view.View.{View}
 use Rattle.registry_desk.specs.declared.seat.Counts.{Counts}
 use Rattle.registry_desk.specs.Plays.{Seated}
@@ -27,22 +28,11 @@ use Rattle.registry_desk.proofs.Lock.{opens_lock}
 use Rattle.registry_desk.proofs.Steps.{one_view, own_seats}
 use Rattle.registry_desk.proofs.Giving.{at_end}
 
-both_true : (a b : Bool) → (a && b) ≡ true → (a ≡ true) × (b ≡ true)
-both_true true b e = (refl, e)
-both_true false b e = absurd (cc)
-
 -- of a history of the opening alone all entries are the opening's
 pub all_made : (h : List EntryValue) → is_opening h ≡ true → made h 0 ≡ h
 all_made [] e = refl
-all_made (x ∷ xs) e = let t = both_true (x.session == 0) (is_opening xs) e in
+all_made (x ∷ xs) e = let t = parts (x.session == 0) (is_opening xs) e in
     ap (λ (b : Bool). cond b (x ∷ made xs 0) (made xs 0)) t.0 ∙ ap (λ (l : List EntryValue). x ∷ l) (all_made xs t.1)
-
--- and none another session's
-pub none_made : (h : List EntryValue) (session : ℕ) → 1 ≤ session → is_opening h ≡ true → made h session ≡ []
-none_made [] session l e = refl
-none_made (x ∷ xs) session l e = let t = both_true (x.session == 0) (is_opening xs) e in let own : (x.session == 0) ≡ true = t.0 in
-    let other : (x.session == session) ≡ false = grind (arith, nat_tests) in
-    ap (λ (b : Bool). cond b (x ∷ made xs session) (made xs session)) other ∙ none_made xs session l t.1
 
 pub opens_desk : (words : List ℕ) (b : BookValue) (seats : ℕ) → words ≡ set (replicate 65 0) 1 1 → IsHistory b.history → length b.history ≤ b.limit → is_opening b.history ≡ true
     → 0 < seats → seats ≤ 64 → Kept (opening words (Some b ∷ []) (opening_view b seats))
@@ -88,27 +78,6 @@ made_again (x ∷ xs) s = by (x.session == s) refl (made_again xs s) where
   by true e again = ap (λ (b : Bool). cond b (x ∷ made (made xs s) s) (made (made xs s) s)) e ∙ ap (λ (l : List EntryValue). x ∷ l) again
   by false e again = again
 
--- an entry that no such list has is none of its
-none_rest : {A : Type 0} (b : Bool) (x : A) (xs : List A) → cond b (x ∷ xs) xs ≡ [] → (b ≡ false) × (xs ≡ [])
-none_rest true x xs e = absurd (cc)
-none_rest false x xs e = (refl, e)
-
-from_one : (n s : ℕ) → (s ≡ 0 → ⊥) → (n < s → ⊥) → (1 ≤ s) × (s ≤ n)
-from_one n s a b = (dite (ℕ_discrete s 0) (λ e. absurd (a e)) (λ ne. omega arith), up (nat_lt n s) refl) where
-  up : (t : Bool) → nat_lt n s ≡ t → s ≤ n
-  up true e = absurd (b (grind (arith, nat_tests)))
-  up false e = grind (arith, nat_tests)
-
--- where no entry is of session 0 or of one after n, all are of sessions 1 to n
-all_inside : (n : ℕ) (es : List EntryValue) → made es 0 ≡ [] → ((s : ℕ) → n < s → made es s ≡ []) → All (λ e. (1 ≤ e.session) × (e.session ≤ n)) es
-all_inside n [] none more = All-nil _
-all_inside n (x ∷ es) none more =
-    let own : (x.session == x.session) ≡ true = grind (arith, nat_tests) in
-    let not_none : made (x ∷ es) x.session ≡ [] → ⊥ = λ e. (let t = none_rest (x.session == x.session) x (made es x.session) e in let f = t.0 in cc) in
-    All-cons (λ e. (1 ≤ e.session) × (e.session ≤ n)) x es
-    (from_one n x.session (λ z. not_none (ap (made (x ∷ es)) z ∙ none)) (λ lt. not_none (more x.session lt)))
-    (all_inside n es (none_rest (x.session == 0) x (made es 0) none).1 (λ s lt. (none_rest (x.session == s) x (made es s) (more s lt)).1))
-
 tail_nil : {A : Type 0} (xs ys : List A) → xs ++ ys ≡ [] → ys ≡ []
 tail_nil [] ys e = e
 tail_nil (x ∷ xs) ys e = absurd (cc)
@@ -117,11 +86,11 @@ tail_nil (x ∷ xs) ys e = absurd (cc)
 after_opening : (n : ℕ) (h opened added : List EntryValue) → h ≡ opened ++ added → made h 0 ≡ opened → ((s : ℕ) → n < s → made h s ≡ [])
     → All (λ e. (1 ≤ e.session) × (e.session ≤ n)) added
 after_opening n h opened added grown first later =
-    let parts : (s : ℕ) → made h s ≡ made opened s ++ made added s = λ s. ap (λ (l : List EntryValue). made l s) grown ∙ filter-append (λ e. e.session == s) opened added in
+    let split : (s : ℕ) → made h s ≡ made opened s ++ made added s = λ s. ap (λ (l : List EntryValue). made l s) grown ∙ filter-append (λ e. e.session == s) opened added in
     let own : made opened 0 ≡ opened = ap (λ (l : List EntryValue). made l 0) (sym first) ∙ (made_again h 0 ∙ first) in
     let none : made added 0 ≡ [] = append_cancel_left opened (made added 0) []
-    (ap (λ (l : List EntryValue). l ++ made added 0) (sym own) ∙ (sym (parts 0) ∙ (first ∙ sym (append-nil opened)))) in
-    all_inside n added none (λ s lt. tail_nil (made opened s) (made added s) (sym (parts s) ∙ later s lt))
+    (ap (λ (l : List EntryValue). l ++ made added 0) (sym own) ∙ (sym (split 0) ∙ (first ∙ sym (append-nil opened)))) in
+    all_inside n added none (λ s lt. tail_nil (made opened s) (made added s) (sym (split s) ∙ later s lt))
 
 no_seats : (spent : Bool) (n : ℕ) → cond spent 0 (1 + n) ≡ 0 → spent ≡ true
 no_seats true n e = refl

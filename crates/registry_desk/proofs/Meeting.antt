@@ -21,14 +21,11 @@ use Rattle.registry_desk.specs.Standing.{Rests}
 use Rattle.registry_desk.proofs.Lists.{within, read, sum_set}
 use Rattle.registry_desk.proofs.Steps.{one_view, not_spent, own_seats, same_words}
 use Rattle.registry_desk.proofs.Giving.{same_phases, lock_shown}
+use Rattle.registry_desk.proofs.Shutting.{marked_now}
 
 longer_fits : (history xs ys : List EntryValue) (b : Bool) → IsPrefix xs history → IsPrefix ys history → IsPrefix (cond b ys xs) history
 longer_fits history xs ys true p q = q
 longer_fits history xs ys false p q = p
-
-either_mark : (a b : Bool) (X : Type 0) → (a ≡ true → X) → (b ≡ true → X) → cond a true b ≡ true → X
-either_mark true b X p q e = p refl
-either_mark false b X p q e = q e
 
 pub meets_seat : (id : ℕ) (v : View) (other : ℕ) (w : View) → v.session ≡ 0 → v.spent ≡ false → w.spent ≡ false → w.phase ≡ Away → (w.session ≢ 0 → w.met ≡ [])
     → Joins Kept id v other w (meeting v w) spent_view
@@ -92,7 +89,7 @@ meets_seat id v other w first live live' away unmet s r at apart at' =
             front = longer_fits r.history v.front w.front (nat_le (length v.front) (length w.front)) f.front g.front;
             list = f.list;
             limited = f.limited;
-            mark = either_mark w.marked v.marked (length r.history ≡ r.limit) g.mark f.mark;
+            mark = marked_now w.marked v.marked (length r.history ≡ r.limit) g.mark f.mark;
             opens = f.opens;
             holding = f.holding;
             known = λ k m e. ⊎_elim (λ (z : get_elem? v.met k ≡ some m). f.known k m z) (λ (z : met_of w ≡ m). subst (MetFits r.history r.limit) z new_met) (at_snoc v.met (met_of w) m k e);

@@ -6,7 +6,7 @@ use Rattle.std.proofs.lemmas.List.Elements.{filter-append}
 use Rattle.ticket_core.specs.declared.array_lock.ArrayPhase.TheVariants.{Inside}
 use Rattle.cwr_call.specs.CallValue.{CallValue}
 use Rattle.work_registry.specs.declared.reply.Reply.{Reply}
-use Rattle.work_registry.specs.EntryValue.{EntryValue}
+use Rattle.work_registry.specs.EntryValue.{EntryValue, entry_of}
 use Rattle.work_registry.specs.Refusals.{RefusedValue, is_full, is_for_limit}
 use Rattle.work_registry.specs.Rows.{rows_of}
 use Rattle.work_registry.specs.Reply.{reply_to}
@@ -90,7 +90,7 @@ module _ (desk : DeskId) (v : View) (t : ℕ) (looks : List ℕ) (h : List Entry
 
   handed_ok : (reply : Reply) → Applied S call (Ok reply) s' → HandsIn v call (Ok reply) (left s')
   handed_ok reply a =
-      let e : EntryValue = record { session = v.session; call = call; reply = reply } in
+      let e : EntryValue = entry_of v.session call reply in
       let tail : drop (length h) (h ++ e ∷ []) ≡ e ∷ [] = drop-append_seam h (e ∷ []) in
       let is : left s' ≡ handed_in v h call (Ok reply) = ap left a.entry ∙ ap (λ (l : List EntryValue). record (handed_in v h call (Ok reply)) { list = v.list ++ l }) tail in
       let grown : s'.book.history ≡ h ++ e ∷ [] = ap (λ (x : Stay). x.book.history) a.entry in record {

@@ -4,7 +4,7 @@ use Rattle.ticket_core.specs.declared.array_lock.ArrayPhase.TheVariants.{Away, W
 use Rattle.cwr_call.specs.CallValue.{CallValue}
 use Rattle.work_registry.specs.declared.reply.Reply.{Reply}
 use Rattle.work_registry.specs.declared.refused.WhyRefused.{WhyRefused}
-use Rattle.work_registry.specs.EntryValue.{EntryValue}
+use Rattle.work_registry.specs.EntryValue.{EntryValue, entry_of}
 use Rattle.work_registry.specs.Refusals.{RefusedValue, is_full, is_for_limit}
 use Rattle.work_registry.specs.Rows.{rows_of}
 use Rattle.work_registry.specs.Reply.{reply_to}
@@ -68,7 +68,7 @@ LeavesBySteps v full w = (between : View) × Moves (shuts full) v between × Mov
 abbrev pub answered : Stay → CallValue → Reply → Stay
 answered s call reply = record s {
   book = record {
-    history = s.book.history ++ record { session = s.view.session; call = call; reply = reply } ∷ [];
+    history = s.book.history ++ entry_of s.view.session call reply ∷ [];
     limit = s.book.limit;
   };
   unused = false;
@@ -80,7 +80,7 @@ refused s why = record s { full = if is_for_limit why then true else s.full }
 
 -- the entries that a call adds
 abbrev pub added_by : ℕ → CallValue → Result Reply RefusedValue → List EntryValue
-added_by session call (Ok reply) = record { session = session; call = call; reply = reply } ∷ []
+added_by session call (Ok reply) = entry_of session call reply ∷ []
 added_by session call (Err refusal) = []
 
 -- a seat after one turn with one call, which found this history

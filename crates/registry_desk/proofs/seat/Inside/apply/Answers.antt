@@ -1,6 +1,7 @@
 use Rattle.std.proofs.Common.{◌≡◌, ◌≢◌, ◌≤◌, ◌∙◌, true, Err, length, subst, sym, refl, ap}
 use Rattle.std.specs.Prelude.{◌↔◌}
 use Rattle.work_registry.specs.BookValue.{BookValue}
+use Rattle.work_registry.specs.EntryValue.{entry_of}
 use Rattle.work_registry.specs.History.{IsHistory}
 use Rattle.work_registry.specs.Refusals.{RefusedValue, is_for_limit, is_full}
 use Rattle.registry_desk.specs.Standing.{Stay}
@@ -9,7 +10,7 @@ use Rattle.registry_desk.proofs.seat.Inside.apply.Goals as goal
 
 pub invariant_of-self : goal.invariant_of-self
 invariant_of-self g c = let e = c.in-Ok.ensures in let h = c.history-entries.ensures in
-    stays_answered _ _ _ _ _ _ c.self.invariant c.apply.new.self (record { session = c.self.inside.counts.session; call = c.args.call; reply = c.in-Ok.reply })
+    stays_answered _ _ _ _ _ _ c.self.invariant c.apply.new.self (entry_of c.self.inside.counts.session c.args.call c.in-Ok.reply)
     (subst (λ (x : Stay). x.unused ≡ true) (sym c.self.view_is) c.requires.unused) (subst (λ (x : Stay). x.view.session ≢ 0) (sym c.self.view_is) c.requires.session)
     refl e.entry e.limit h.lawful h.fits
 
