@@ -1,13 +1,8 @@
 -- Bytes that go out piece after piece.
-use Rattle.std.proofs.Common.{◌≡◌, ℕ, ◌+◌, ◌-◌, List, take, drop, length, append_assoc, arith}
+use Rattle.std.proofs.Common.{ℕ, ◌+◌, List, take, drop, append_assoc}
 use Rattle.std.specs.Prelude.{Option, Some, None}
 use Rattle.std.specs.Io.KnownBytes.{Appends}
 use Rattle.std.proofs.Math.Seq.{take-add}
-use Rattle.std.proofs.lemmas.Grind.{common_steps}
-
--- the slice of a list from an index on
-pub rest_from : (i : ℕ) (xs : List ℕ) → take (length xs - i) (drop i xs) ≡ drop i xs
-rest_from i xs = grind (arith, common_steps)
 
 -- the first i bytes went out, and then n bytes more
 pub Appends-more : (old mid new : Option (List ℕ)) (i n : ℕ) (bytes : List ℕ) →

@@ -1,8 +1,7 @@
 -- What a check writes, piece by piece.
-use Rattle.std.proofs.Common.{◌≡◌, ◌∙◌, ℕ, ◌+◌, ◌<◌, Bool, true, false, cond, List, [], ◌∷◌, ◌++◌, length, drop, get_or, ap, sym, append_assoc, arith}
+use Rattle.std.proofs.Common.{◌≡◌, ◌∙◌, ℕ, ◌+◌, ◌<◌, Bool, true, false, cond, List, [], ◌∷◌, ◌++◌, length, drop, get_or, ap, sym, refl, arith}
 use Rattle.std.specs.Prelude.{codes, ◌==◌}
 use Rattle.std.specs.List.{flat_map}
-use Rattle.std.specs.Fmt.{decimal}
 use Rattle.std.proofs.lemmas.List.{drop_more}
 use Rattle.std.proofs.lemmas.List.Sums.{sum_by-cons}
 use Rattle.cwr_field.specs.Number.{number_text}
@@ -12,22 +11,15 @@ use Rattle.cwr_grammar.specs.RawParts.{RawParts, raws_of}
 use Rattle.cwr_call.specs.declared.transaction_fault.Fault.{Fault}
 use Rattle.cwr_call.specs.CallValue.{CallValue}
 use Rattle.cwr_rules.specs.Calls.{call_of}
-use Rattle.cwr_check.specs.CheckText.{fault_text, verdict_text, place_text, transaction_line, faults_in, has_faults, faulty_count, total_line, check_lines, submitter_of, IsCheckOfFile}
-
--- one piece, and what follows it
-pub then : (out mid new a b : List ℕ) → mid ≡ out ++ a → new ≡ mid ++ b → new ≡ out ++ (a ++ b)
-then out mid new a b e f = f ∙ ap (λ text. text ++ b) e ∙ append_assoc out a b
-
--- what is written next is what the rest began with
-pub moved : (out new piece left total : List ℕ) → new ≡ out ++ piece → out ++ (piece ++ left) ≡ total → new ++ left ≡ total
-moved out new piece left total wrote so_far = ap (λ text. text ++ left) wrote ∙ append_assoc out piece left ∙ so_far
+use Rattle.cwr_check.specs.CheckText.{fault_text, verdict_text, place_text, transaction_line, faults_in, has_faults, faulty_count, check_lines, submitter_of, IsCheckOfFile}
+use Rattle.cwr_field.proofs.lemmas.Pieces.{then, moved}
 
 pub fault_more : (faults : List Fault) (i : ℕ) (d : Fault) (out new total : List ℕ) → i < length faults
     → new ≡ out ++ fault_text (get_or faults i d)
     → out ++ flat_map fault_text (drop i faults) ≡ total
     → new ++ flat_map fault_text (drop (i + 1) faults) ≡ total
 fault_more faults i d out new total lt wrote so_far =
-    moved out new (fault_text (get_or faults i d)) (flat_map fault_text (drop (i + 1) faults)) total wrote
+    moved out new (fault_text (get_or faults i d)) _ (flat_map fault_text (drop (i + 1) faults)) total wrote refl
     (ap (λ (fs : List Fault). out ++ flat_map fault_text fs) (sym (drop_more faults i d lt)) ∙ so_far)
 
 -- group id, transaction sequence and kind, a blank after each
@@ -45,13 +37,6 @@ place_written t out a b c d e f p q r u v w =
     let E = then out d e (x ++ blank ++ y ++ blank) z D v in
     then out e f (x ++ blank ++ y ++ blank ++ z) blank E w
 
-pub total_written : (all faulty : ℕ) (out a b c d : List ℕ) → a ≡ out ++ decimal all → b ≡ a ++ codes " transactions, "
-    → c ≡ b ++ decimal faulty → d ≡ c ++ codes " with faults\n" → d ≡ out ++ total_line all faulty
-total_written all faulty out a b c d p q r s =
-    let between = codes " transactions, " in
-    then out c d (decimal all ++ between ++ decimal faulty) (codes " with faults\n")
-    (then out b c (decimal all ++ between) (decimal faulty) (then out a b (decimal all) between p q) r) s
-
 -- the place, the verdict and the end of a transaction's line
 pub line_written : (submitter : List ℕ) (t : RawParts) (call : CallValue) (faults : List Fault) (out a b c : List ℕ) → call ≡ call_of submitter t
     → faults ≡ call.faults → a ≡ out ++ place_text t → b ≡ a ++ verdict_text faults → c ≡ b ++ 10 ∷ [] → c ≡ out ++ transaction_line submitter t
@@ -65,7 +50,7 @@ pub transaction_more : (submitter : List ℕ) (t : RawParts) (left rest : List R
     → new ≡ out ++ transaction_line submitter t → out ++ flat_map (transaction_line submitter) left ≡ total
     → new ++ flat_map (transaction_line submitter) rest ≡ total
 transaction_more submitter t left rest out new total is wrote so_far =
-    moved out new (transaction_line submitter t) (flat_map (transaction_line submitter) rest) total wrote
+    moved out new (transaction_line submitter t) _ (flat_map (transaction_line submitter) rest) total wrote refl
     (ap (λ (ts : List RawParts). out ++ flat_map (transaction_line submitter) ts) (sym is) ∙ so_far)
 
 count_more : (submitter : List ℕ) (t : RawParts) (left rest : List RawParts) (n : ℕ) → left ≡ t ∷ rest

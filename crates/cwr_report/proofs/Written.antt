@@ -1,6 +1,6 @@
 -- Pieces that are written one after the other.
 use Rattle.std.proofs.Common.{◌≡◌, ℕ, List, ◌++◌}
-use Rattle.cwr_check.proofs.CheckSteps.{then}
+use Rattle.cwr_field.proofs.lemmas.Pieces.{then}
 
 pub three : (out b c new x y z : List ℕ) → b ≡ out ++ x → c ≡ b ++ y → new ≡ c ++ z → new ≡ out ++ (x ++ y ++ z)
 three out b c new x y z p q r = then out c new (x ++ y) z (then out b c x y p q) r

@@ -1,8 +1,9 @@
 -- What is told of findings: lines for a person, each with LF at its end.
-use Rattle.std.specs.Prelude.{ℕ, ◌-◌, ◌/◌, ◌%◌, ◌&&◌, ◌||◌, ◌==◌, nat_lt, nat_le, List, [], ◌++◌, Option, Some, None, codes, drop, take, map, if◌then◌else◌}
+use Rattle.std.specs.Prelude.{ℕ, ◌-◌, ◌/◌, ◌%◌, ◌&&◌, ◌||◌, ◌==◌, nat_le, List, [], ◌++◌, Option, Some, None, codes, drop, take, map, if◌then◌else◌}
 use Rattle.std.specs.List.{flat_map}
 use Rattle.std.specs.Fmt.{decimal}
 use Rattle.std.specs.Str.{bytes_eq}
+use Rattle.cwr_field.specs.Layout.{is_control}
 use Rattle.cwr_field.specs.Number.{number_text}
 use Rattle.cwr_record.specs.declared.columns.Column.{Column}
 use Rattle.cwr_acknowledgement.specs.Messages.{message_text}
@@ -38,7 +39,7 @@ name_text name.Territory = codes "TIS numeric code"
 
 -- a byte below 32, and 127, is shown as a question mark
 abbrev pub shown : ℕ → ℕ
-shown byte = if nat_lt byte 32 || (byte == 127) then 63 else byte
+shown byte = if is_control byte || (byte == 127) then 63 else byte
 
 -- the bytes that a line has in a column
 abbrev pub stands_at : List ℕ → Column → List ℕ

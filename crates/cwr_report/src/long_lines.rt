@@ -5,7 +5,7 @@ ghost use Rattle.cwr_report.specs.LongText.{shown, stands_at, spot_text, spots_t
 use crate::finding::{Expected, Finding, Spot};
 use crate::words::{followers_text, name_text, rule_text};
 use cwr_acknowledgement::message_text;
-use cwr_field::{Memory, put_digits};
+use cwr_field::{LEAST_PRINTABLE, Memory, put_digits};
 use cwr_record::Column;
 use cwr_rules::{Over, Totals};
 use itoa::Buffer;
@@ -130,7 +130,7 @@ fn put_shown<A: Allocator>(out: &mut Vec<u8, A>, bytes: &[u8]) -> Result<(), Mem
 fn shown(byte: u8) -> u8
     ensures { result ≡ shown byte }
 {
-    if byte < 32 || byte == 127 { b'?' } else { byte }
+    if byte < LEAST_PRINTABLE || byte == 127 { b'?' } else { byte }
 }
 
 /// Appends what the rule with this number asked for.

@@ -1,5 +1,6 @@
 use Rattle.std.proofs.Common.{rules}
-use Rattle.byte_streams.proofs.Sending.{rest_from, Appends-more}
+use Rattle.byte_streams.proofs.Sending.{Appends-more}
+use Rattle.byte_streams.proofs.lemmas.Rest.{rest_from}
 use Rattle.byte_streams.proofs.sink.write_out.Goals as goal
 
 pub loop-sent-preserved : goal.loop-sent-preserved

@@ -1,4 +1,4 @@
-use Rattle.cwr_check.proofs.CheckSteps.{then}
+use Rattle.cwr_field.proofs.lemmas.Pieces.{then}
 use Rattle.cwr_report.proofs.long_lines.put_digit.Goals as goal
 
 pub returns : goal.returns

@@ -1,5 +1,5 @@
 use Rattle.std.proofs.Common.{rules}
-use Rattle.byte_streams.proofs.Sending.{rest_from}
+use Rattle.byte_streams.proofs.lemmas.Rest.{rest_from}
 use Rattle.kept_file.proofs.Drafting.{Becomes-more}
 use Rattle.kept_file.proofs.keeping.write_draft.Goals as goal
 
