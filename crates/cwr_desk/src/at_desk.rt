@@ -2,11 +2,12 @@
 ghost use Rattle.std.specs.Prelude.{◌≡◌, ◌≢◌, ◌≤◌, ◌↔◌, ◌+◌, ◌-◌, ◌∷◌, [], Some, true, IfOk, IfErr, OnOk, OnErr};
 ghost use Rattle.registry_desk.specs.Standing.{DeskId};
 ghost use Rattle.registry_desk.specs.Views.{most_turns};
+ghost use Rattle.work_registry.specs.EntryValue.{entry_of};
 ghost use Rattle.work_registry.specs.Numbers.{IsNumbered};
 ghost use Rattle.work_registry.specs.Refusals.{is_for_limit};
 ghost use Rattle.work_registry.specs.declared.refused.WhyRefused.TheVariants.{Full};
 ghost use Rattle.cwr_engine.specs.Causes.{marked_by};
-ghost use Rattle.cwr_engine.specs.Handing.{HasGained, entry_with};
+ghost use Rattle.cwr_engine.specs.Handing.{HasGained};
 ghost use Rattle.cwr_desk.specs.Sights.{entries_of, saw_full};
 
 use cwr_engine::Window;

@@ -1,9 +1,9 @@
 //! One job at a seat of the running desk.
 ghost use Rattle.std.specs.Prelude.{◌≡◌, ◌≢◌, ◌≤◌, ◌+◌, Some, false};
 ghost use Rattle.registry_desk.specs.Views.{most_turns};
-ghost use Rattle.cwr_engine.specs.Account.{JobAccount};
+ghost use Rattle.cwr_engine.specs.Account.{JobAccount, ends_of};
 ghost use Rattle.cwr_engine.specs.Causes.{ends_full, marked_by};
-ghost use Rattle.cwr_engine.specs.Handing.{IsWorked};
+ghost use Rattle.cwr_engine.specs.Handing.{IsWorked, most_handed};
 ghost use Rattle.cwr_desk.specs.Ran.{MayWork, HasWorked};
 ghost use Rattle.cwr_desk.specs.Sights.{entries_of, saw_full};
 
@@ -39,25 +39,15 @@ pub fn work<T: Wait, R: Source, W: Sink, G: Gate, A: Allocator + Copy + Drop>(
     requires desk { seat.desk ≡ desk.now }
     requires guest { seat.view.session ≢ 0 }
     requires worker { seat.view.session ≡ worker }
-    requires turns { seat.view.turns + 99999995 ≤ most_turns }
+    requires turns { seat.view.turns + most_handed ≤ most_turns }
     requires reads { R.has_failed reader.old ≡ false }
     requires writes { W.has_failed writer.old ≡ false }
     ensures desk { result.0.desk ≡ desk.now }
     ensures session { result.0.view.session ≡ seat.view.session }
     ensures limit { result.0.view.limit ≡ seat.view.limit }
     ensures marked { Some result.0.view.marked ≡ marked_by (ends_full result.1) (Some seat.view.marked) }
-    ensures worked { IsWorked seat.view.session (record {
-      left_before = R.left reader.old;
-      left_after = R.left reader.new;
-      reads_before = R.reads reader.old;
-      reads_after = R.reads reader.new;
-      taken_before = W.taken writer.old;
-      taken_after = W.taken writer.new;
-      read_failed = R.has_failed reader.new;
-      write_failed = W.has_failed writer.new;
-      full = saw_full seat.view.limit result.0.view.front;
-      may_shut = G.may_shut gate.now;
-    }) stamp.now result.1 (entries_of seat.view) (entries_of result.0.view) }
+    ensures worked { IsWorked seat.view.session (ends_of R.has_failed W.has_failed R.left R.reads W.taken reader.old reader.new
+        writer.old writer.new (saw_full seat.view.limit result.0.view.front) (G.may_shut gate.now)) stamp.now result.1 (entries_of seat.view) (entries_of result.0.view) }
 {
     let window = AtDesk { rt, desk, seat };
     let (window, outcome) = work_file(alloc, window, gate, worker, reader, writer, stamp);

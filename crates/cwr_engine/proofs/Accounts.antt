@@ -10,7 +10,7 @@ use Rattle.byte_streams.specs.GivenBytes.{HasGiven}
 use Rattle.cwr_record.specs.Stamp.{StampParts}
 use Rattle.cwr_record.specs.declared.control.Header.{Header}
 use Rattle.cwr_acknowledgement.specs.AckItem.{Item, told_faults, is_rejected}
-use Rattle.cwr_acknowledgement.specs.Acknowledgement.{ack_text, told_count}
+use Rattle.cwr_acknowledgement.specs.Acknowledgement.{ack_text, told_count, most_told}
 use Rattle.cwr_grammar.specs.File.{File, IsFile}
 use Rattle.cwr_grammar.specs.RawParts.{RawParts, IsPlaced, lines_in}
 use Rattle.cwr_grammar.specs.Submitted.{IsSubmission, IsBounded}
@@ -20,14 +20,14 @@ use Rattle.cwr_rules.specs.Calls.{call_of}
 use Rattle.work_registry.specs.EntryValue.{EntryValue}
 use Rattle.work_registry.specs.Replay.{calls_of}
 use Rattle.work_registry.specs.Told.{status_in}
-use Rattle.cwr_engine.specs.Account.{most, Ends, Account, IsAccount, IsRead, IsMadeOf, IsMadeOfAll, Gives}
-use Rattle.cwr_engine.specs.Causes.{cause_of, ends_full, IsCause}
+use Rattle.cwr_engine.specs.Account.{most, Ends, Account, IsRead, IsMadeOf, IsMadeOfAll, Gives}
+use Rattle.cwr_engine.specs.Causes.{cause_of, IsCause}
 use Rattle.cwr_engine.specs.Handing.{Entries, AreAnswered, IsWorked}
 use Rattle.cwr_engine.specs.Items.{item_of, items_of, calls_in}
 use Rattle.byte_streams.specs.declared.reading.ReadRefused.{ReadRefused}
 use Rattle.byte_streams.specs.declared.reading.ReadRefused.TheVariants as unread
 use Rattle.cwr_engine.specs.declared.outcome.FileOutcome.{FileOutcome}
-use Rattle.cwr_engine.specs.declared.outcome.FileOutcome.TheVariants.{Acked, Refused, Stopped}
+use Rattle.cwr_engine.specs.declared.outcome.FileOutcome.TheVariants.{Acked, Stopped}
 use Rattle.cwr_engine.specs.declared.outcome.Why.{Why}
 use Rattle.cwr_engine.specs.declared.outcome.Why.TheVariants.{Memory, Full, Read, TooLong, Gate, Write}
 use Rattle.cwr_engine.proofs.Answering.{gained_none}
@@ -87,11 +87,11 @@ told_in submitter (t ∷ ts) (e ∷ made) all is =
 
 -- the acknowledgement of what was handed in has eight digits for its records
 pub few_told : (session : ℕ) (head : Header) (ts : List RawParts) (items : List Item) (before after : Entries)
-    → IsBounded most head ts → AreAnswered session head.sender ts items before after → length items + told_count items ≤ 99999995
+    → IsBounded most head ts → AreAnswered session head.sender ts items before after → length items + told_count items ≤ most_told
 few_told session head ts items before after bounds so_far =
     let few = told_in head.sender ts so_far.made bounds.placed so_far.calls in
     let all = few_in_all head ts bounds in
-    subst (λ (l : List Item). length l + told_count l ≤ 99999995) (sym so_far.told) (omega (arith, few, all))
+    subst (λ (l : List Item). length l + told_count l ≤ most_told) (sym so_far.told) (omega (arith, few, all))
 
 -- ---- what is known of the ends
 
@@ -220,48 +220,3 @@ module _ (session : ℕ) (ends : Ends) (stamp : StampParts) (before after : Entr
             front = ap (take k) told;
           },
         )
-
--- ---- the history, in an account
-
--- an account of a time at which the history was full is one of any later time
-module _ (left rest before after : Option (List ℕ)) (reads more : ℕ) (read_failed write_failed may_shut : Bool) where
-  abbrev ends_by : Bool → Ends
-  ends_by full = record {
-    left_before = left;
-    left_after = rest;
-    reads_before = reads;
-    reads_after = more;
-    taken_before = before;
-    taken_after = after;
-    read_failed = read_failed;
-    write_failed = write_failed;
-    full = full;
-    may_shut = may_shut;
-  }
-
-  pub account_full : (a b : Bool) (stamp : StampParts) (o : FileOutcome) (made : List EntryValue) → (a ≡ true → b ≡ true)
-      → IsAccount (ends_by a) stamp o made → IsAccount (ends_by b) stamp o made
-  account_full a b stamp o made h r =
-      record { input = r.input; written = r.written; given = r.given; read_on = r.read_on; few_reads = r.few_reads; appended = r.appended; account = by o r.account } where
-        by : (o : FileOutcome) → Account (ends_by a) stamp r.input o r.written made → Account (ends_by b) stamp r.input o r.written made
-        by (Acked n) x = x
-        by (Refused fault line) x = x
-        by (Stopped n Memory) x = x
-        by (Stopped n Full) x = (x.0, (x.1.0, x.1.1, h x.1.2))
-        by (Stopped n Gate) x = x
-        by (Stopped n Read) x = x
-        by (Stopped n TooLong) x = x
-        by (Stopped n (Write sent)) x = x
-
--- a job that was stopped for a full book found the history full
-pub account_found : (ends : Ends) (stamp : StampParts) (o : FileOutcome) (made : List EntryValue) → ends_full o ≡ true → IsAccount ends stamp o made → ends.full ≡ true
-account_found ends stamp o made stopped r = by o stopped r.account where
-  by : (o : FileOutcome) → ends_full o ≡ true → Account ends stamp r.input o r.written made → ends.full ≡ true
-  by (Acked n) e x = absurd cc
-  by (Refused fault line) e x = absurd cc
-  by (Stopped n Memory) e x = absurd cc
-  by (Stopped n Full) e x = x.1.2
-  by (Stopped n Gate) e x = absurd cc
-  by (Stopped n Read) e x = absurd cc
-  by (Stopped n TooLong) e x = absurd cc
-  by (Stopped n (Write sent)) e x = absurd cc

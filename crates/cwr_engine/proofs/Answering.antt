@@ -5,6 +5,8 @@ use Rattle.std.specs.Char.{is_ascii_uppercase}
 use Rattle.std.specs.List.{list_all, AllByRecursion}
 use Rattle.std.specs.Option.{ForSome}
 use Rattle.std.proofs.lemmas.Bool.Decides.{nat_tests}
+use Rattle.cwr_field.specs.Number.{most_count}
+use Rattle.cwr_field.proofs.lemmas.Tests.{parts}
 use Rattle.cwr_record.specs.declared.works.WorkKind.{WorkKind}
 use Rattle.cwr_acknowledgement.specs.AckItem.{Item, is_rejected}
 use Rattle.cwr_acknowledgement.specs.Acknowledgement.{FitsItem, FitsFault}
@@ -13,19 +15,19 @@ use Rattle.cwr_record.specs.declared.status.Status.{Status}
 use Rattle.cwr_call.specs.declared.transaction_fault.Fault.{Fault}
 use Rattle.cwr_call.specs.CallValue.{CallValue}
 use Rattle.cwr_rules.specs.Calls.{call_of}
-use Rattle.cwr_call.specs.Lawful.{are_faults, is_fault, rises}
-use Rattle.work_registry.specs.EntryValue.{EntryValue}
-use Rattle.work_registry.specs.Numbers.{IsNumbered}
+use Rattle.cwr_call.specs.Lawful.{most_faults, are_faults, is_fault, rises}
+use Rattle.work_registry.specs.EntryValue.{EntryValue, entry_of}
+use Rattle.work_registry.specs.Numbers.{most_entries, IsNumbered}
 use Rattle.work_registry.specs.Replay.{calls_of, replay, entry_for}
 use Rattle.work_registry.specs.Told.{status_in, work_in}
 use Rattle.work_registry.specs.declared.reply.Reply.{Reply}
 use Rattle.work_registry.specs.declared.reply.Reply.TheVariants.{Accepted, Duplicate, Conflict, Rejected}
 use Rattle.cwr_engine.specs.Items.{item_of, items_of, calls_in}
-use Rattle.cwr_engine.specs.Handing.{entry_with, Follows, Entries, HasGained, IsAnswered, AreAnswered}
+use Rattle.cwr_engine.specs.Handing.{Follows, Entries, HasGained, IsAnswered, AreAnswered}
 
 -- ---- an item fits its line
 
-named : (w x : ℕ) → w ≤ 99999999 → Some w ≡ Some x → x < 10 ^ 8
+named : (w x : ℕ) → w ≤ most_entries → Some w ≡ Some x → x < 10 ^ 8
 named w x le is = let same : w ≡ x = cc in omega (arith, le, same)
 
 work_fits : (r : Reply) → IsNumbered r → ForSome (work_in r) (λ work. work < 10 ^ 8)
@@ -34,26 +36,19 @@ work_fits (Duplicate w) n = λ x is. named w x n.1 is
 work_fits (Conflict w) n = λ x is. named w x n.1 is
 work_fits Rejected n = λ x is. absurd cc
 
-pub first_true : (a b : Bool) → (a && b) ≡ true → a ≡ true
-first_true true b e = refl
-first_true false b e = absurd cc
-
-pub second_true : (a b : Bool) → (a && b) ≡ true → b ≡ true
-second_true true b e = e
-second_true false b e = absurd cc
-
 fault_fits : (f : Fault) → is_fault f ≡ true → FitsFault f
 fault_fits f e =
-    let numbers = first_true (nat_le f.sequence 99999999 && (nat_le 1 f.number && nat_le f.number 15)) (list_all is_ascii_uppercase f.rtype) e in
-    let a : nat_le f.sequence 99999999 ≡ true = first_true (nat_le f.sequence 99999999) (nat_le 1 f.number && nat_le f.number 15) numbers in
-    let b = second_true (nat_le f.sequence 99999999) (nat_le 1 f.number && nat_le f.number 15) numbers in
-    let low : nat_le 1 f.number ≡ true = first_true (nat_le 1 f.number) (nat_le f.number 15) b in
-    let high : nat_le f.number 15 ≡ true = second_true (nat_le 1 f.number) (nat_le f.number 15) b in
+    let numbers = (parts (nat_le f.sequence most_count && (nat_le 1 f.number && nat_le f.number 15)) (list_all is_ascii_uppercase f.rtype) e).0 in
+    let a = parts (nat_le f.sequence most_count) (nat_le 1 f.number && nat_le f.number 15) numbers in
+    let b = parts (nat_le 1 f.number) (nat_le f.number 15) a.1 in
+    let small = a.0 in
+    let low = b.0 in
+    let high = b.1 in
     record { sequence = grind (arith, nat_tests); first = grind (arith, nat_tests); last = grind (arith, nat_tests) }
 
 faults_fit : (fs : List Fault) → list_all is_fault fs ≡ true → AllByRecursion FitsFault fs
 faults_fit [] e = tt
-faults_fit (f ∷ fs) e = (fault_fits f (first_true (is_fault f) (list_all is_fault fs) e), faults_fit fs (second_true (is_fault f) (list_all is_fault fs) e))
+faults_fit (f ∷ fs) e = let p = parts (is_fault f) (list_all is_fault fs) e in (fault_fits f p.0, faults_fit fs p.1)
 
 told_fit : (rejected : Bool) (fs : List Fault) → AllByRecursion FitsFault fs → AllByRecursion FitsFault (cond rejected fs [])
 told_fit true fs h = h
@@ -61,8 +56,8 @@ told_fit false fs h = tt
 
 item_fits : (t : RawParts) (e : EntryValue) → IsPlaced t → IsNumbered e.reply → are_faults e.call.faults ≡ true → FitsItem (item_of t e)
 item_fits t e placed numbered lawful =
-    let most = nat_le (length e.call.faults) 999999999 in
-    let all = second_true most (list_all is_fault e.call.faults) (first_true (most && list_all is_fault e.call.faults) (rises e.call.faults) lawful) in
+    let few = nat_le (length e.call.faults) most_faults in
+    let all = (parts few (list_all is_fault e.call.faults) (parts (few && list_all is_fault e.call.faults) (rises e.call.faults) lawful).0).1 in
     record {
       group = placed.group;
       sequence = placed.sequence;
@@ -75,18 +70,18 @@ item_fits t e placed numbered lawful =
 -- its item, from the parts that the item was made of
 pub answered : (s : ℕ) (submitter : List ℕ) (t : RawParts) (call : CallValue) (r : Reply) (before after : Entries)
     (group sequence : ℕ) (kind : WorkKind) (title number : List ℕ) (status : Status) (work : Option ℕ) (faults : List Fault)
-    → call ≡ call_of submitter t → HasGained s (entry_with s call r ∷ []) before after
+    → call ≡ call_of submitter t → HasGained s (entry_of s call r ∷ []) before after
     → group ≡ t.group → sequence ≡ t.sequence → kind ≡ call.kind → title ≡ call.title → number ≡ call.number → status ≡ status_in r → work ≡ work_in r
     → faults ≡ call.faults → IsPlaced t → IsNumbered r → IsTrue (are_faults call.faults)
     → IsAnswered s submitter t (record { group = group; sequence = sequence; kind = kind; title = title; number = number; status = status; work = work; faults = faults }) before after
 answered s submitter t call r before after group sequence kind title number status work faults is gained a b c d e f g h placed numbered lawful =
     let item : Item = record { group = group; sequence = sequence; kind = kind; title = title; number = number; status = status; work = work; faults = faults } in
-    let told : item ≡ item_of t (entry_with s call r) = λ i. record { group = a i; sequence = b i; kind = c i; title = d i; number = e i; status = f i; work = g i; faults = h i } in
-    let entry : EntryValue = entry_with s call r in
+    let told : item ≡ item_of t (entry_of s call r) = λ i. record { group = a i; sequence = b i; kind = c i; title = d i; number = e i; status = f i; work = g i; faults = h i } in
+    let entry : EntryValue = entry_of s call r in
     record {
       reply = r;
-      gained = subst (λ (x : CallValue). HasGained s (entry_with s x r ∷ []) before after) is gained;
-      told = subst (λ (x : CallValue). item ≡ item_of t (entry_with s x r)) is told;
+      gained = subst (λ (x : CallValue). HasGained s (entry_of s x r ∷ []) before after) is gained;
+      told = subst (λ (x : CallValue). item ≡ item_of t (entry_of s x r)) is told;
       fits = subst FitsItem (sym told) (item_fits t entry placed numbered lawful);
     }
 
@@ -150,7 +145,7 @@ pub answered_next : (s s' : ℕ) (submitter : List ℕ) (ts rest : List RawParts
     → AreAnswered s submitter ts items before between → IsAnswered s' submitter t item between after → AreAnswered s submitter ts items' before after
 answered_next s s' submitter ts rest t i before between after items items' item same at count is so_far now' =
     let now : IsAnswered s submitter t item between after = subst (λ (k : ℕ). IsAnswered k submitter t item between after) same now' in
-    let e : EntryValue = entry_with s (call_of submitter t) now.reply in
+    let e : EntryValue = entry_of s (call_of submitter t) now.reply in
     let made : List EntryValue = so_far.made in
     let long : i ≡ length made = sym count ∙ so_far.count in
     let at' : drop (length made) ts ≡ t ∷ rest = subst (λ (k : ℕ). drop k ts ≡ t ∷ rest) long at in

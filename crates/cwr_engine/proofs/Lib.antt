@@ -3,3 +3,4 @@ pub mod Answering
 pub mod Accounts
 pub mod Turns
 pub mod FullBooks
+pub mod lemmas

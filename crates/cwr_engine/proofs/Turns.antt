@@ -3,28 +3,19 @@ use Rattle.std.proofs.Common.{◌≡◌, ◌≢◌, ◌∙◌, ℕ, zero, suc, �
 use Rattle.std.specs.Prelude.{◌==◌, slice_index_or}
 use Rattle.std.proofs.lemmas.Bool.Decides.{nat_tests}
 use Rattle.std.proofs.lemmas.List.{reverse-reverse, append_cancel_left}
-use Rattle.std.proofs.lemmas.List.Elements.{filter-append, All-nil, All-cons}
+use Rattle.std.proofs.lemmas.List.Elements.{filter-append}
 use Rattle.cwr_call.specs.CallValue.{CallValue}
 use Rattle.work_registry.specs.BookValue.{BookValue}
-use Rattle.work_registry.specs.EntryValue.{EntryValue}
+use Rattle.work_registry.specs.EntryValue.{EntryValue, entry_of}
 use Rattle.work_registry.specs.History.{IsHistory}
 use Rattle.work_registry.specs.Replay.{entry_for, replay, calls_of, made, is_opening}
 use Rattle.work_registry.specs.declared.reply.Reply.{Reply}
 use Rattle.cwr_engine.specs.Causes.{ends_full}
-use Rattle.cwr_engine.specs.Handing.{entry_with}
 use Rattle.cwr_engine.specs.declared.outcome.FileOutcome.{FileOutcome}
 use Rattle.cwr_engine.specs.Whole.{Accounts, is_full, IsRun, InTurn, IsWorkedAlone, TookTurns}
-use Rattle.cwr_engine.proofs.Answering.{first_true, second_true}
+use Rattle.work_registry.proofs.lemmas.Sessions.{none_made, all_inside}
 
 -- ---- the entries of a session
-
--- all entries of the opening are of session 0
-none_made : (h : List EntryValue) (session : ℕ) → 1 ≤ session → is_opening h ≡ true → made h session ≡ []
-none_made [] session le e = refl
-none_made (x ∷ xs) session le e =
-    let opening : (x.session == 0) ≡ true = first_true (x.session == 0) (is_opening xs) e in
-    let other : (x.session == session) ≡ false = grind (arith, nat_tests) in
-    ap (λ (b : Bool). cond b (x ∷ made xs session) (made xs session)) other ∙ none_made xs session le (second_true (x.session == 0) (is_opening xs) e)
 
 replay_own : (s : ℕ) (h : List EntryValue) (cs : List CallValue) → made (replay s h cs) s ≡ replay s h cs
 replay_own s h [] = refl
@@ -41,10 +32,10 @@ replay_other s t h (c ∷ cs) ne =
     ap (λ (b : Bool). cond b (entry_for s h c ∷ made rest t) (made rest t)) other ∙ replay_other s t (h ++ entry_for s h c ∷ []) cs ne
 
 -- one more entry of the session
-pub made_more : (s : ℕ) (h h' : List EntryValue) (c : CallValue) (r : Reply) → h' ≡ h ++ entry_with s c r ∷ [] → made h' s ≡ made h s ++ entry_with s c r ∷ []
+pub made_more : (s : ℕ) (h h' : List EntryValue) (c : CallValue) (r : Reply) → h' ≡ h ++ entry_of s c r ∷ [] → made h' s ≡ made h s ++ entry_of s c r ∷ []
 made_more s h h' c r is =
     let own : (s == s) ≡ true = grind (arith, nat_tests) in
-    ap (λ l. made l s) is ∙ (filter-append (λ e. e.session == s) h (entry_with s c r ∷ []) ∙ ap (λ (b : Bool). made h s ++ cond b (entry_with s c r ∷ []) []) own)
+    ap (λ l. made l s) is ∙ (filter-append (λ e. e.session == s) h (entry_of s c r ∷ []) ∙ ap (λ (b : Bool). made h s ++ cond b (entry_of s c r ∷ []) []) own)
 
 -- ---- a list of which the last is taken
 
@@ -67,28 +58,6 @@ pub rest_holds : {J : Type 0} (P : J → Type 0) (all rest : List J) (x : J) →
 rest_holds P all rest x h is = λ k d lt.
     (let long = ap length is in let more = length-append rest (x ∷ []) in
     subst P (ap (λ l. slice_index_or l k d) is ∙ at_front rest x d k lt) (h k d (omega (arith, long, more, lt))))
-
--- ---- entries of no session outside the first n
-
-none_rest : (b : Bool) (x : EntryValue) (l : List EntryValue) → cond b (x ∷ l) l ≡ [] → (b ≡ false) × (l ≡ [])
-none_rest true x l e = absurd (let f = ap length e in omega arith)
-none_rest false x l e = (refl, e)
-
-inside : (s n : ℕ) → (s ≡ 0 → ⊥) → (n < s → ⊥) → (1 ≤ s) × (s ≤ n)
-inside zero n f g = absurd (f refl)
-inside (suc s) n f g = (omega arith, by (nat_le (suc s) n) refl) where
-  by : (b : Bool) → nat_le (suc s) n ≡ b → suc s ≤ n
-  by true e = grind (arith, nat_tests)
-  by false e = absurd (g (grind (arith, nat_tests)))
-
-pub all_inside : (n : ℕ) (es : List EntryValue) → made es 0 ≡ [] → ((s : ℕ) → n < s → made es s ≡ []) → All (λ e. (1 ≤ e.session) × (e.session ≤ n)) es
-all_inside n [] none more = All-nil _
-all_inside n (x ∷ es) none more =
-    let own : (x.session == x.session) ≡ true = grind (arith, nat_tests) in
-    let not_none : made (x ∷ es) x.session ≡ [] → ⊥ = λ e. (let t = none_rest (x.session == x.session) x (made es x.session) e in let f = t.0 in cc) in
-    All-cons (λ e. (1 ≤ e.session) × (e.session ≤ n)) x es
-    (inside x.session n (λ z. not_none (ap (made (x ∷ es)) z ∙ none)) (λ lt. not_none (more x.session lt)))
-    (all_inside n es (none_rest (x.session == 0) x (made es 0) none).1 (λ s lt. (none_rest (x.session == s) x (made es s) (more s lt)).1))
 
 -- ---- one job, and all jobs
 

@@ -1,6 +1,6 @@
 -- The account of a job: what its input, its outcome, the bytes that it wrote and the entries that it made have to do
 -- with one another.
-use Rattle.std.specs.Prelude.{◌≡◌, ℕ, ◌+◌, ◌≤◌, ◌<◌, nat_le, Bool, true, false, List, [], length, take, Option, Some, None, ⊤}
+use Rattle.std.specs.Prelude.{◌≡◌, ℕ, ◌+◌, ◌≤◌, ◌<◌, Bool, true, List, [], length, take, Option, Some, None, ⊤}
 use Rattle.std.specs.Io.KnownBytes.{Appends}
 use Rattle.std.specs.Str.Lines.{lines}
 use Rattle.byte_streams.specs.GivenBytes.{HasGiven}
@@ -13,7 +13,7 @@ use Rattle.cwr_grammar.specs.Faults.{IsLeastFault}
 use Rattle.cwr_grammar.specs.File.{File, IsFile}
 use Rattle.cwr_grammar.specs.RawParts.{RawParts, raws_of}
 use Rattle.work_registry.specs.EntryValue.{EntryValue}
-use Rattle.work_registry.specs.Replay.{calls_of, replay}
+use Rattle.work_registry.specs.Replay.{calls_of}
 use Rattle.cwr_engine.specs.Items.{items_of, calls_in}
 use Rattle.cwr_engine.specs.declared.jobs.Job.{Job}
 use Rattle.cwr_engine.specs.declared.outcome.FileOutcome.{FileOutcome}
@@ -125,27 +125,24 @@ pub record IsAccount (ends : Ends) (stamp : StampParts) (outcome : FileOutcome) 
   pub appended : Appends ends.taken_before ends.taken_after written
   pub account : Account ends stamp input outcome written made
 
--- The account of a job, from what its reader and its writer were and what they are. What these show (a failure, the
--- bytes left or taken) is given by functions, so that it serves every kind of reader and writer.
-abbrev pub JobAccount : {R W : Type 0} → (R → Bool) → (W → Bool) → (R → Option (List ℕ)) → (R → ℕ) → (W → Option (List ℕ)) → StampParts → Bool
-    → Job R W → Job R W → FileOutcome → Bool → List EntryValue → Type 0
-JobAccount read_failed write_failed left reads taken stamp may_shut before after outcome full made = IsAccount (record {
-  left_before = left before.reader;
-  left_after = left after.reader;
-  reads_before = reads before.reader;
-  reads_after = reads after.reader;
-  taken_before = taken before.writer;
-  taken_after = taken after.writer;
-  read_failed = read_failed after.reader;
-  write_failed = write_failed after.writer;
+-- What the ends of a job show, from what its reader and its writer were and are. What these show (a failure, the bytes
+-- left or taken) is given by functions, so that it serves every kind of reader and writer.
+abbrev pub ends_of : {R W : Type 0} → (R → Bool) → (W → Bool) → (R → Option (List ℕ)) → (R → ℕ) → (W → Option (List ℕ)) → R → R → W → W → Bool → Bool → Ends
+ends_of read_failed write_failed left reads taken reader_before reader_after writer_before writer_after full may_shut = record {
+  left_before = left reader_before;
+  left_after = left reader_after;
+  reads_before = reads reader_before;
+  reads_after = reads reader_after;
+  taken_before = taken writer_before;
+  taken_after = taken writer_after;
+  read_failed = read_failed reader_after;
+  write_failed = write_failed writer_after;
   full = full;
   may_shut = may_shut;
-}) stamp outcome made
+}
 
--- One file into an empty book of 99,999,999 entries: its account holds, with the entries that session 1 makes by
--- handing in their calls from the empty history on. The ends are given but for whether the history is full, which
--- these entries tell.
-pub record IsAcknowledged (ends : Bool → Ends) (stamp : StampParts) (outcome : FileOutcome) : Type 0 where
-  pub made : List EntryValue
-  pub replayed : made ≡ replay 1 [] (calls_of made)
-  pub account : IsAccount (ends (nat_le 99999999 (length made))) stamp outcome made
+-- the account of a job, from what it was and what it is
+abbrev pub JobAccount : {R W : Type 0} → (R → Bool) → (W → Bool) → (R → Option (List ℕ)) → (R → ℕ) → (W → Option (List ℕ)) → StampParts → Bool
+    → Job R W → Job R W → FileOutcome → Bool → List EntryValue → Type 0
+JobAccount read_failed write_failed left reads taken stamp may_shut before after outcome full made =
+    IsAccount (ends_of read_failed write_failed left reads taken before.reader after.reader before.writer after.writer full may_shut) stamp outcome made

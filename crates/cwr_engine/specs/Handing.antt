@@ -1,20 +1,20 @@
 -- Transactions handed in at a window: what becomes of the entries of its session and of the history.
 use Rattle.std.specs.Prelude.{◌≡◌, ℕ, List, [], ◌∷◌, ◌++◌, length, take, Option, Some, None, ⊤}
 use Rattle.cwr_acknowledgement.specs.AckItem.{Item}
-use Rattle.cwr_acknowledgement.specs.Acknowledgement.{FitsItem}
+use Rattle.cwr_acknowledgement.specs.Acknowledgement.{FitsItem, most_told}
 use Rattle.cwr_grammar.specs.RawParts.{RawParts}
 use Rattle.cwr_record.specs.Stamp.{StampParts}
-use Rattle.cwr_call.specs.CallValue.{CallValue}
 use Rattle.cwr_rules.specs.Calls.{call_of}
-use Rattle.work_registry.specs.EntryValue.{EntryValue}
+use Rattle.work_registry.specs.EntryValue.{EntryValue, entry_of}
 use Rattle.work_registry.specs.Replay.{calls_of, replay}
 use Rattle.work_registry.specs.declared.reply.Reply.{Reply}
 use Rattle.cwr_engine.specs.Account.{Ends, IsAccount}
 use Rattle.cwr_engine.specs.Items.{item_of, items_of, calls_in}
 use Rattle.cwr_engine.specs.declared.outcome.FileOutcome.{FileOutcome}
 
-abbrev pub entry_with : ℕ → CallValue → Reply → EntryValue
-entry_with session call reply = record { session = session; call = call; reply = reply }
+-- the most transactions that a job hands in: as many as its acknowledgement can tell
+abbrev pub most_handed : ℕ
+most_handed = most_told
 
 -- A history that nobody else writes, where it is known, has grown by what these entries' calls get when they are
 -- handed in one after the other. Of one that others write too nothing is said.
@@ -36,8 +36,8 @@ pub record HasGained (session : ℕ) (made : List EntryValue) (before after : En
 -- a transaction was handed in and got a reply, which the item tells
 pub record IsAnswered (session : ℕ) (submitter : List ℕ) (transaction : RawParts) (item : Item) (before after : Entries) : Type 0 where
   pub reply : Reply
-  pub gained : HasGained session (entry_with session (call_of submitter transaction) reply ∷ []) before after
-  pub told : item ≡ item_of transaction (entry_with session (call_of submitter transaction) reply)
+  pub gained : HasGained session (entry_of session (call_of submitter transaction) reply ∷ []) before after
+  pub told : item ≡ item_of transaction (entry_of session (call_of submitter transaction) reply)
   pub fits : FitsItem item
 
 -- as many of the transactions as there are items were handed in and got replies, in order

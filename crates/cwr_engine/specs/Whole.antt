@@ -3,6 +3,7 @@ use Rattle.std.specs.Prelude.{◌≡◌, ℕ, ◌+◌, ◌≤◌, Bool, true, na
 use Rattle.work_registry.specs.BookValue.{BookValue}
 use Rattle.work_registry.specs.EntryValue.{EntryValue}
 use Rattle.work_registry.specs.History.{IsHistory}
+use Rattle.work_registry.specs.Numbers.{most_entries}
 use Rattle.work_registry.specs.Replay.{calls_of, replay, made}
 use Rattle.cwr_engine.specs.Causes.{ends_full}
 use Rattle.cwr_engine.specs.declared.outcome.FileOutcome.{FileOutcome}
@@ -52,6 +53,10 @@ pub record IsWorkedAlone {J : Type 0} (P : J → J → FileOutcome → Bool → 
   pub grown : after.history ≡ before.history ++ entries
   pub limit : after.limit ≡ before.limit
   pub account : P j k outcome (is_full after) entries
+
+-- one job was worked alone as session 1, at an empty book of as many entries as a book may have
+abbrev pub IsWorkedFirst : {J : Type 0} → (J → J → FileOutcome → Bool → List EntryValue → Type 0) → J → J → FileOutcome → Type 0
+IsWorkedFirst P j k outcome = (kept : BookValue) × IsWorkedAlone P 1 (record { history = []; limit = most_entries }) kept j k outcome
 
 -- jobs were worked one after the other at one book, the first of them being the given session
 abbrev pub TookTurns : {J : Type 0} → (J → J → FileOutcome → Bool → List EntryValue → Type 0) → ℕ → List J → List J → List FileOutcome → BookValue → BookValue

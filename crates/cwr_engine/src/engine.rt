@@ -6,9 +6,9 @@ ghost use Rattle.cwr_acknowledgement.specs.Acknowledgement.{FitsItem};
 ghost use Rattle.cwr_grammar.specs.RawParts.{IsPlaced};
 ghost use Rattle.cwr_grammar.specs.Submitted.{IsBounded};
 ghost use Rattle.cwr_call.specs.Lawful.{is_clean};
-ghost use Rattle.cwr_engine.specs.Account.{most, Ends, IsRead};
+ghost use Rattle.cwr_engine.specs.Account.{most, Ends, IsRead, ends_of};
 ghost use Rattle.cwr_engine.specs.Causes.{cause_of, ends_full, is_for_full, marked_by, IsCause};
-ghost use Rattle.cwr_engine.specs.Handing.{AreAnswered, IsWorked};
+ghost use Rattle.cwr_engine.specs.Handing.{AreAnswered, IsWorked, most_handed};
 
 use crate::decision::{InHand, decide};
 use crate::gates::Gate;
@@ -82,7 +82,7 @@ fn work_submission<H: Window<Call<A>>, G: Gate, W: Sink, A: Allocator + Copy + D
     stamp: &Stamp,
 ) -> (H, FileOutcome)
     requires writes { W.has_failed writer.old ≡ false }
-    requires turns { 99999995 ≤ H.turns_left window }
+    requires turns { most_handed ≤ H.turns_left window }
     requires bounds { IsBounded most file.now.header file.now.transactions }
     ensures session { H.session result.0 ≡ H.session window }
     ensures limit { H.limit result.0 ≡ H.limit window }
@@ -133,23 +133,13 @@ pub fn work_file<H: Window<Call<A>>, G: Gate, R: Source, W: Sink, A: Allocator +
 ) -> (H, FileOutcome)
     requires reads { R.has_failed reader.old ≡ false }
     requires writes { W.has_failed writer.old ≡ false }
-    requires turns { 99999995 ≤ H.turns_left window }
+    requires turns { most_handed ≤ H.turns_left window }
     ensures session { H.session result.0 ≡ H.session window }
     ensures limit { H.limit result.0 ≡ H.limit window }
     ensures home { H.home result.0 ≡ H.home window }
     ensures marked { H.mark result.0 ≡ marked_by (ends_full result.1) (H.mark window) }
-    ensures worked { IsWorked (H.session window) (record {
-      left_before = R.left reader.old;
-      left_after = R.left reader.new;
-      reads_before = R.reads reader.old;
-      reads_after = R.reads reader.new;
-      taken_before = W.taken writer.old;
-      taken_after = W.taken writer.new;
-      read_failed = R.has_failed reader.new;
-      write_failed = W.has_failed writer.new;
-      full = H.full result.0;
-      may_shut = G.may_shut gate.now;
-    }) stamp.now result.1 (H.entries window) (H.entries result.0) }
+    ensures worked { IsWorked (H.session window) (ends_of R.has_failed W.has_failed R.left R.reads W.taken reader.old reader.new
+        writer.old writer.new (H.full result.0) (G.may_shut gate.now)) stamp.now result.1 (H.entries window) (H.entries result.0) }
 {
     let text = match read_file(alloc, reader, MOST_BYTES) {
         Ok(text) => text,

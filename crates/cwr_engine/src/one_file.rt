@@ -1,5 +1,6 @@
 ghost use Rattle.std.specs.Prelude.{◌≡◌, false};
-ghost use Rattle.cwr_engine.specs.Account.{IsAcknowledged};
+ghost use Rattle.cwr_engine.specs.Account.{JobAccount};
+ghost use Rattle.cwr_engine.specs.Whole.{IsWorkedFirst};
 
 use crate::engine::work_file;
 use crate::gates::OpenGate;
@@ -25,18 +26,8 @@ pub fn acknowledge<R: Source, W: Sink, A: Allocator + Copy + Drop>(
 ) -> FileOutcome
     requires reads { R.has_failed reader.old ≡ false }
     requires writes { W.has_failed writer.old ≡ false }
-    ensures { IsAcknowledged (λ full. record {
-      left_before = R.left reader.old;
-      left_after = R.left reader.new;
-      reads_before = R.reads reader.old;
-      reads_after = R.reads reader.new;
-      taken_before = W.taken writer.old;
-      taken_after = W.taken writer.new;
-      read_failed = R.has_failed reader.new;
-      write_failed = W.has_failed writer.new;
-      full = full;
-      may_shut = false;
-    }) stamp.now result }
+    ensures { IsWorkedFirst (JobAccount R.has_failed W.has_failed R.left R.reads W.taken stamp.now false)
+        (record { reader = reader.old; writer = writer.old }) (record { reader = reader.new; writer = writer.new }) result }
 {
     let window = Own {
         book: Book::new(alloc, MOST_ENTRIES),

@@ -1,12 +1,13 @@
 //! Where a worker hands calls in.
 ghost use Rattle.std.specs.Prelude.{◌≡◌, ◌<◌, ◌≤◌, ◌↔◌, ◌+◌, ◌∷◌, [], ℕ, Bool, Option, None, Some, true, nat_le, length, IfOk, IfErr, OnOk, OnErr};
 ghost use Rattle.cwr_call.specs.CallValue.{CallValue};
+ghost use Rattle.work_registry.specs.EntryValue.{entry_of};
 ghost use Rattle.work_registry.specs.Numbers.{IsNumbered};
 ghost use Rattle.work_registry.specs.Refusals.{is_for_limit};
 ghost use Rattle.work_registry.specs.Replay.{made};
 ghost use Rattle.work_registry.specs.declared.refused.WhyRefused.TheVariants.{Full};
 ghost use Rattle.cwr_engine.specs.Causes.{marked_by};
-ghost use Rattle.cwr_engine.specs.Handing.{Entries, HasGained, entry_with};
+ghost use Rattle.cwr_engine.specs.Handing.{Entries, HasGained};
 
 use std::alloc::Allocator;
 use work_registry::{Book, Call, Reply, WhyRefused};
@@ -57,7 +58,7 @@ pub trait Window<C: Asks>: Drop {
         ensures limit { limit result.0 ≡ limit self }
         ensures home { home result.0 ≡ home self }
         ensures turns { turns_left self ≤ turns_left result.0 + 1 }
-        ensures gained { IfOk result.1 (λ r. HasGained (session self) (entry_with (session self) (C.asked call) r ∷ []) (entries self) (entries result.0)) }
+        ensures gained { IfOk result.1 (λ r. HasGained (session self) (entry_of (session self) (C.asked call) r ∷ []) (entries self) (entries result.0)) }
         ensures numbered { IfOk result.1 IsNumbered }
         ensures kept { OnErr result.1 (entries result.0 ≡ entries self) }
         ensures full { IfErr result.1 (λ why. (why ≡ Full) ↔ (full result.0 ≡ true)) }

@@ -2,7 +2,7 @@ use Rattle.std.proofs.Common.{◌≡◌, ◌∙◌, ◌+◌, false, rules, [], l
 use Rattle.std.proofs.lemmas.List.Sorted.{All-permutation}
 use Rattle.registry_desk.specs.Standing.{Standing}
 use Rattle.cwr_engine.specs.Account.{JobAccount}
-use Rattle.cwr_engine.proofs.Accounts.{account_full}
+use Rattle.cwr_engine.proofs.lemmas.FullHistory.{account_full}
 use Rattle.cwr_desk.specs.Ran.{MayRun}
 use Rattle.cwr_desk.proofs.Runs.{Ran-whole, Ran-length, whole_run}
 use Rattle.cwr_desk.proofs.serving.serve.Goals as goal
