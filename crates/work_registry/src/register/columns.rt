@@ -17,6 +17,8 @@ pub(super) const MARK: Column = column!(1, 3);
 
 /// The first line: the number of entries.
 pub(super) const COUNT: Column = column!(4, 8);
+/// How many bytes its fields take.
+pub(super) const COUNT_WIDTH: usize = COUNT.start + COUNT.width - 1;
 
 /// The place of the entry in the register, from 1.
 pub(super) const INDEX: Column = column!(4, 8);
@@ -44,6 +46,8 @@ pub(super) const WORK: Column = column!(149, 8);
 pub(super) const VERSION: Column = column!(157, 8);
 /// How many faults follow.
 pub(super) const FAULTS: Column = column!(165, 9);
+/// How many bytes the fields of fixed place take.
+pub(super) const HEAD_WIDTH: usize = FAULTS.start + FAULTS.width - 1;
 
 /// Of a fault: the record sequence.
 pub(super) const FAULT_SEQUENCE: Column = column!(1, 8);
@@ -51,3 +55,5 @@ pub(super) const FAULT_SEQUENCE: Column = column!(1, 8);
 pub(super) const FAULT_NUMBER: Column = column!(9, 2);
 /// Of a fault: the type of its record.
 pub(super) const FAULT_RECORD_TYPE: Column = column!(11, 3);
+/// How many bytes a fault takes.
+pub(super) const FAULT_WIDTH: usize = FAULT_RECORD_TYPE.start + FAULT_RECORD_TYPE.width - 1;

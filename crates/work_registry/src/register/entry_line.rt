@@ -4,16 +4,14 @@ ghost use Rattle.std.specs.Prelude.{◌≡◌, [], ◌∷◌, ◌++◌, Some, is
 ghost use Rattle.cwr_call.specs.Lawful.{is_lawful};
 ghost use Rattle.work_registry.specs.RegisterLine.{EntryLine, IsEntryLine, line_from};
 
-use super::faults::{FAULT_WIDTH, read_faults};
+use super::columns::{FAULT_WIDTH, HEAD_WIDTH};
+use super::faults::read_faults;
 use super::head::{Head, read_head};
 use cwr_call::{Call, Faults};
 use cwr_field::Memory;
 use cwr_record::Status;
 use std::alloc::Allocator;
 use std::marker::Model;
-
-/// How many bytes the fields of fixed place take.
-const HEAD_WIDTH: usize = 173;
 
 /// What a line says of an entry.
 #[derive(Drop)]

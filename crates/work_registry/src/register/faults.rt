@@ -7,14 +7,11 @@ ghost use Rattle.cwr_record.specs.Lines.{IsWhole, line_of};
 ghost use Rattle.work_registry.specs.RegisterLine.{fault, IsTyped};
 ghost use Rattle.cwr_call.specs.declared.transaction_fault.Fault.{Fault};
 
-use super::columns;
+use super::columns::{self, FAULT_WIDTH};
 use cwr_call::{Fault, Faults};
 use cwr_field::Memory;
 use cwr_record::{digits_at, field_at};
 use std::alloc::Allocator;
-
-/// How many bytes a fault takes.
-pub(super) const FAULT_WIDTH: usize = 13;
 
 /// The fault that 13 bytes are.
 fn read_fault(bytes: &[u8]) -> Option<Fault>

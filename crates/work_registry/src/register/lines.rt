@@ -5,7 +5,7 @@ ghost use Rattle.std.specs.List.{position};
 ghost use Rattle.work_registry.specs.Register.{count_line};
 ghost use Rattle.work_registry.specs.RegisterFaults.{lines, has_end};
 
-use super::columns;
+use super::columns::{self, COUNT_WIDTH};
 use cwr_record::{digits_at, field_at};
 
 /// The index of the first LF.
@@ -32,7 +32,7 @@ pub(super) fn count_in(line: &[u8]) -> Option<u32>
     ensures fits { IfSome result (λ count. count < 10 ^ 8) }
     ensures none { IfNone result ((count : ℕ) → count < 10 ^ 8 → line.now ++ 10 ∷ [] ≡ count_line count → ⊥) }
 {
-    if line.len() != 11 {
+    if line.len() != COUNT_WIDTH {
         return None;
     }
     if field_at(line, columns::MARK).bytes() != *b"REG" {

@@ -4,10 +4,11 @@ ghost use Rattle.std.specs.Prelude.{◌≡◌, ◌++◌, ◌∷◌, [], ◌<◌,
 ghost use Rattle.std.specs.List.{flat_map, AllByRecursion};
 ghost use Rattle.cwr_call.specs.Lawful.{is_lawful};
 ghost use Rattle.cwr_record.specs.Lines.{Fits, line_of};
+ghost use Rattle.work_registry.specs.RegisterColumns.{count_width, head_width, fault_width};
 ghost use Rattle.work_registry.specs.RegisterLine.{head, fault, head_of, IsTyped};
 ghost use Rattle.work_registry.specs.Register.{line_for, entry_line, entry_lines, count_line, register_text, FitsEntry, IsWholeEntry};
 
-use super::columns;
+use super::columns::{self, COUNT_WIDTH, FAULT_WIDTH, HEAD_WIDTH};
 use super::head::Head;
 use crate::entry::Entry;
 use cwr_call::Fault;
@@ -130,16 +131,16 @@ fn put_count<A: Allocator>(out: &mut Vec<u8, A>, count: usize) -> Result<(), Mem
     Ok(())
 }
 
-/// The length of the text. Its first line has 12 bytes; a line has 174 and 13 for each fault.
+/// The length of the text. A line is its fields, its faults and LF.
 fn text_len<A: Allocator>(entries: &[Entry<A>]) -> usize
     requires { length entries.now < 10 ^ 8 }
-    ensures { result ≡ 12 + 174 * length entries.now + 13 * sum_by (λ e. length e.call.faults) entries.now }
+    ensures { result ≡ count_width + 1 + (head_width + 1) * length entries.now + fault_width * sum_by (λ e. length e.call.faults) entries.now }
 {
     let mut faults = 0;
     for entry in entries {
         faults += entry.call().faults().len();
     }
-    12 + 174 * entries.len() + 13 * faults
+    COUNT_WIDTH + 1 + (HEAD_WIDTH + 1) * entries.len() + FAULT_WIDTH * faults
 }
 
 /// The register of these entries. All memory is asked for at once.

@@ -17,4 +17,4 @@ pub returns-in_err-digits_at-clause-none : goal.returns-in_err-digits_at-clause-
 returns-in_err-digits_at-clause-none c = if_none c.from_residual.result _ (λ n small e. no_number (field_at c.args.line.now column.count) n c.in_err-digits_at.ensures.value (count_stands c.args.line.now n small e).1.0)
 
 pub returns-clause-some : goal.returns-clause-some
-returns-clause-some c = count_says c.args.line.now c.in_ok-digits_at.field-0 c.if-line-ne11.false (mark_read c.bytes.result _ (codes "REG") (c.bytes.ensures ∙ c.field_at.ensures.value) c.if-ne.ensures, (number_read (field_at c.args.line.now column.count) c.in_ok-digits_at.field-0 c.in_ok-digits_at.ensures.value, tt))
+returns-clause-some c = count_says c.args.line.now c.in_ok-digits_at.field-0 c.if-line-ne-COUNT_WIDTH.false (mark_read c.bytes.result _ (codes "REG") (c.bytes.ensures ∙ c.field_at.ensures.value) c.if-ne.ensures, (number_read (field_at c.args.line.now column.count) c.in_ok-digits_at.field-0 c.in_ok-digits_at.ensures.value, tt))
