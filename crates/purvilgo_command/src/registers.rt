@@ -1,6 +1,7 @@
 //! Registers that lie in files.
 
 ghost use Rattle.std.specs.Prelude.{◌≡◌, true, IfSome};
+ghost use Rattle.work_registry.specs.Numbers.{most_entries};
 ghost use Rattle.work_registry.specs.Replay.{is_opening};
 
 use crate::files::{InputFile, bytes_of};
@@ -35,7 +36,7 @@ pub(crate) fn opening_book<R: AllocGlobal + Eprint + Files>(
     verbose: bool,
 ) -> Option<Book>
     ensures opening { IfSome result (λ book. is_opening book.history ≡ true) }
-    ensures limit { IfSome result (λ book. book.limit ≡ 99999999) }
+    ensures limit { IfSome result (λ book. book.limit ≡ most_entries) }
 {
     match from {
         None => Some(Book::new(rt.alloc(), MOST_ENTRIES)),
@@ -46,7 +47,7 @@ pub(crate) fn opening_book<R: AllocGlobal + Eprint + Files>(
 /// The book of a register. One that is refused is told on standard error.
 fn book_in<R: AllocGlobal + Eprint + Files>(rt: &R, path: &str, verbose: bool) -> Option<Book>
     ensures opening { IfSome result (λ book. is_opening book.history ≡ true) }
-    ensures limit { IfSome result (λ book. book.limit ≡ 99999999) }
+    ensures limit { IfSome result (λ book. book.limit ≡ most_entries) }
 {
     let bytes = match register_bytes(rt, path, verbose) {
         Ok(bytes) => bytes,
