@@ -1,7 +1,7 @@
 //! Where the bytes of a file come from and go.
 //!
 //! A [`Source`] gives bytes and a [`Sink`] takes them, a few at a time. [`Through`] is both over a reader or a writer
-//! of std; [`Feed`] and [`Room`] lie in memory, and contracts see their bytes. [`read_file`] reads a source to its end,
+//! of std; [`Feed`], [`Room`] and [`Spool`] lie in memory, and contracts see their bytes. [`read_file`] reads a source to its end,
 //! up to a limit, and [`write_out`] sends a whole text into a sink.
 #![tactic(auto)]
 
@@ -12,6 +12,7 @@ mod reads;
 mod room;
 mod sink;
 mod source;
+mod spool;
 mod through;
 
 pub use cwr_field::Memory;
@@ -22,4 +23,5 @@ pub use reads::ReadCount;
 pub use room::Room;
 pub use sink::{Sink, WriteStopped, write_out};
 pub use source::Source;
+pub use spool::Spool;
 pub use through::{MOST_REPEATS, Through};

@@ -1,21 +1,21 @@
 //! Submission files worked into one book of works: read, checked, decided and acknowledged.
 //!
 //! A [`Job`] is a reader and a writer. [`serve`] works up to 63 jobs on threads, [`serve_in_turn`] on one, [`work`] one at
-//! a seat, [`acknowledge`] one into an empty book; each ends in a [`FileOutcome`]. [`check_text`] tells the faults of a
-//! file without a book.
+//! a seat, [`work_alone`] one at a book of one's own, [`acknowledge`] one into an empty book; each ends in a
+//! [`FileOutcome`]. [`check_text`] tells the faults of a file without a book.
 #![tactic(auto)]
 
 mod at_desk;
 mod serving;
 mod working;
 
-pub use byte_streams::{Failed, Feed, ReadRefused, Room, Sink, Source, Through, read_file};
+pub use byte_streams::{Failed, Feed, ReadRefused, Room, Sink, Source, Spool, Through, read_file};
 pub use cwr_check::{Checked, check_text};
 pub use cwr_engine::{
     FileOutcome, Gate, Job, MOST_BYTES, MOST_ENTRIES, OpenGate, Run, ServeRefused, Shut, Why,
-    acknowledge, outcome_line, serve_in_turn,
+    acknowledge, outcome_line, serve_in_turn, work_alone,
 };
-pub use cwr_field::Memory;
+pub use cwr_field::{Clock, Day, Memory, cut, date, time};
 pub use cwr_record::Stamp;
 pub use registry_desk::{Desk, Seat};
 pub use run_words::{RunFault, run_fault, words_fault};

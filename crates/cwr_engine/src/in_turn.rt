@@ -90,8 +90,11 @@ fn turn_from<R: Source + Drop, W: Sink + Drop, A: Allocator + Copy + Drop>(
     }
 }
 
-/// Works a job at a book that nobody else writes.
-fn work_alone<R: Source + Drop, W: Sink + Drop, A: Allocator + Copy + Drop>(
+/// Works one job at a book that nobody else writes, as a session from 0 to 63.
+///
+/// The book and the job come back with the outcome. It takes no memory for a run, and one session may work job after
+/// job: so a book serves as many files as its limit allows, each decided after all that came before.
+pub fn work_alone<R: Source + Drop, W: Sink + Drop, A: Allocator + Copy + Drop>(
     alloc: A,
     book: Book<A>,
     session: u32,

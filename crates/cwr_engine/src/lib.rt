@@ -2,7 +2,7 @@
 //!
 //! A [`Job`] is a reader and a writer; each ends in a [`FileOutcome`]. Calls are handed in at a [`Window`]: a book of
 //! one's own, or a place at one that others use too. [`work_file`] works one file at a window, [`acknowledge`] one into
-//! an empty book, [`serve_in_turn`] many at one book, one after the other.
+//! an empty book, [`work_alone`] one at a book of one's own, [`serve_in_turn`] many at one book, one after the other.
 #![tactic(auto)]
 
 mod decision;
@@ -18,7 +18,7 @@ mod window;
 
 pub use engine::work_file;
 pub use gates::{Gate, OpenGate, Shut};
-pub use in_turn::serve_in_turn;
+pub use in_turn::{serve_in_turn, work_alone};
 pub use jobs::{Job, Run, ServeRefused};
 pub use limits::{MOST_BYTES, MOST_ENTRIES};
 pub use lines::outcome_line;

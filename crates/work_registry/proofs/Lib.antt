@@ -7,6 +7,7 @@ pub mod OtherKeys
 pub mod LaterHistories
 pub mod Decided
 pub mod GrowingBooks
+pub mod ReopenedBooks
 pub mod RegisterFields
 pub mod HandedOn
 pub mod RegisterFits

@@ -1,4 +1,4 @@
-ghost use Rattle.std.specs.Prelude.{◌≡◌, ◌==◌, ◌&&◌, ◌≤◌, ◌<◌, ◌↔◌, ◌∷◌, [], ◌++◌, true, length, vec_len, vec_capacity, IfOk, IfErr, OnOk, OnErr};
+ghost use Rattle.std.specs.Prelude.{◌≡◌, ◌==◌, ◌&&◌, ◌≤◌, ◌<◌, ◌↔◌, ◌∷◌, [], ◌++◌, true, length, map, vec_len, vec_capacity, IfOk, IfErr, OnOk, OnErr};
 ghost use Rattle.std.specs.List.{AllByRecursion};
 ghost use Rattle.work_registry.specs.EntryValue.{entry_of};
 ghost use Rattle.work_registry.specs.Rows.{rows_of};
@@ -8,6 +8,7 @@ ghost use Rattle.work_registry.specs.Reply.{reply_to};
 ghost use Rattle.work_registry.specs.Numbers.{most_entries, IsNumbered};
 ghost use Rattle.work_registry.specs.History.{IsHistory, IsShared, IsNamedOnce};
 ghost use Rattle.work_registry.specs.Replay.{is_opening};
+ghost use Rattle.work_registry.specs.Register.{opened};
 ghost use Rattle.work_registry.specs.Refusals.{is_full};
 ghost use Rattle.work_registry.specs.Indexes.{decision_on};
 ghost use Rattle.work_registry.specs.declared.refused.WhyRefused.TheVariants.{Memory};
@@ -173,6 +174,17 @@ impl<A: Allocator + Copy + Drop> Book<A> {
         self.opening
     }
 
+    /// The same book with every entry of the opening, session 0, so that it serves one run more.
+    ///
+    /// Nothing is copied, and no memory is asked for.
+    pub fn reopened(mut self) -> Book<A>
+        ensures { result ≡ record { history = map opened self.history; limit = self.limit } }
+    {
+        open_entries(&mut self.history);
+        self.opening = true;
+        self
+    }
+
     /// What is registered under a submitter's number of a work; `None` where no call under it was accepted.
     ///
     /// The submitter is sender type and sender id of HDR, and the number the submitter work number of NWR or REV, each as it
@@ -214,6 +226,15 @@ fn is_still_opening(opening: bool, session: u32) -> bool
     ensures { result ≡ (opening && (session == 0)) }
 {
     opening && session == 0
+}
+
+/// Makes every entry one of the opening.
+fn open_entries<A: Allocator>(history: &mut [Entry<A>])
+    ensures { history.new ≡ map opened history.old }
+{
+    for entry in history.iter_mut() {
+        entry.session = 0;
+    }
 }
 
 /// Writes an entry as the last. No memory is asked for.
