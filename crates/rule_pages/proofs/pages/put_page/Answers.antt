@@ -1,0 +1,17 @@
+use Rattle.std.proofs.Common.{◌≡◌, ◌∙◌, ℕ, List, ◌++◌, ap}
+use Rattle.std.specs.Prelude.{codes}
+use Rattle.rule_pages.specs.Pages.{line_text}
+use Rattle.rule_pages.proofs.Steps.{four}
+use Rattle.rule_pages.proofs.pages.put_page.Goals as goal
+
+pub returns : goal.returns
+returns g c =
+    let heading : List ℕ = c.put_heading.new.out.items in
+    let asks : List ℕ = c.put_line.new.out.items in
+    let broken : List ℕ = c.put_line-2.new.out.items in
+    four c.args.out.now.items heading asks broken c.put_line-3.new.out.items
+    _ _ _ _
+    c.in_ok-put_heading.ensures
+    (c.in_ok-put_line.ensures ∙ ap (λ (text : List ℕ). heading ++ line_text (codes "asks") text) c.asks.ensures)
+    (c.in_ok-put_line-2.ensures ∙ ap (λ (text : List ℕ). asks ++ line_text (codes "broken by") text) c.broken.ensures)
+    (c.in_ok-put_line-3.ensures ∙ ap (λ (text : List ℕ). broken ++ line_text (codes "mended by") text) c.mended.ensures)

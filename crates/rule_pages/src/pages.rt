@@ -1,0 +1,57 @@
+//! The pages of rules.
+
+ghost use Rattle.std.specs.Prelude.{◌≡◌, ◌++◌, IfOk, OnOk};
+ghost use Rattle.rule_pages.specs.Pages.{heading_text, line_text, page_text, pages_text};
+
+use crate::rule::{Rule, name_of};
+use crate::texts::{asks, broken, mended, title};
+use cwr_field::Memory;
+use std::alloc::Allocator;
+
+/// The pages of these rules, in their order.
+///
+/// A page is a line with the rule's name and what a fault of it is called, and a line each for what it asks, an example of what
+/// breaks it, and how to mend that. Each line has LF at its end. Where memory is refused there is no text.
+pub fn pages_text<A: Allocator>(alloc: A, rules: &[Rule]) -> Result<Vec<u8, A>, Memory>
+    ensures { IfOk result (λ text. text.items ≡ pages_text rules.now) }
+{
+    let mut text = Vec::new(alloc);
+    for rule in rules {
+        put_page(&mut text, *rule)?;
+    }
+    Ok(text)
+}
+
+/// Appends the page of a rule.
+fn put_page<A: Allocator>(out: &mut Vec<u8, A>, rule: Rule) -> Result<(), Memory>
+    ensures { OnOk result (out.new.items ≡ out.old.items ++ page_text rule) }
+{
+    put_heading(out, rule)?;
+    put_line(out, b"asks", asks(rule))?;
+    put_line(out, b"broken by", broken(rule))?;
+    put_line(out, b"mended by", mended(rule))?;
+    Ok(())
+}
+
+/// Appends the name of a rule, and what a fault of it is called.
+fn put_heading<A: Allocator>(out: &mut Vec<u8, A>, rule: Rule) -> Result<(), Memory>
+    ensures { OnOk result (out.new.items ≡ out.old.items ++ heading_text rule) }
+{
+    out.extend_from_slice(name_of(rule))?;
+    out.extend_from_slice(b" ")?;
+    out.extend_from_slice(title(rule))?;
+    out.extend_from_slice(b"\n")?;
+    Ok(())
+}
+
+/// Appends a line of a page.
+fn put_line<A: Allocator>(out: &mut Vec<u8, A>, label: &[u8], text: &[u8]) -> Result<(), Memory>
+    ensures { OnOk result (out.new.items ≡ out.old.items ++ line_text label.now text.now) }
+{
+    out.extend_from_slice(b"  ")?;
+    out.extend_from_slice(label)?;
+    out.extend_from_slice(b": ")?;
+    out.extend_from_slice(text)?;
+    out.extend_from_slice(b"\n")?;
+    Ok(())
+}
