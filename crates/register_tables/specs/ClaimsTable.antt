@@ -1,0 +1,64 @@
+-- The table of the current claims.
+use Rattle.std.specs.Prelude.{ℕ, ◌==◌, ◌&&◌, Bool, false, List, [], ◌∷◌, ◌++◌, Option, Some, None, codes, filter, slice_index}
+use Rattle.std.specs.List.{flat_map}
+use Rattle.std.specs.Fmt.{decimal}
+use Rattle.work_registry.specs.declared.claim.Claim.{Claim}
+use Rattle.work_registry.specs.EntryValue.{EntryValue}
+use Rattle.work_registry.specs.Rows.{Row, key_of, rows_of}
+use Rattle.work_registry.specs.Claims.{claim_of}
+use Rattle.work_registry.specs.Told.{work_in, version_in}
+use Rattle.register_tables.specs.declared.wanted.Wanted.{Wanted}
+use Rattle.register_tables.specs.Rows.{csv_line, number_field, iswc_field}
+use Rattle.register_tables.specs.Wanted.{is_wanted}
+
+-- there is a version, and it is that of the claim
+abbrev pub is_version_of : Option Claim → Option ℕ → Bool
+is_version_of None version = false
+is_version_of (Some claim) None = false
+is_version_of (Some claim) (Some version) = claim.version == version
+
+-- the claim in force under the entry's key is the one that the entry made
+abbrev pub is_current : List Row → EntryValue → Bool
+is_current rows e = is_version_of (claim_of (key_of e.call) rows) (version_in e.reply)
+
+-- the entries of a history that made the claims in force, in their order
+abbrev pub current_entries : List EntryValue → List EntryValue
+current_entries history = filter (is_current (rows_of history)) history
+
+abbrev pub claims_header : List (List ℕ)
+claims_header =
+    codes "submitter"
+    ∷ codes "number"
+    ∷ codes "work"
+    ∷ codes "version"
+    ∷ codes "title"
+    ∷ codes "iswc"
+    ∷ codes "performing"
+    ∷ codes "mechanical"
+    ∷ codes "synchronization"
+    ∷ []
+
+-- a claim: whose it is, for which work, its version, and what the call said
+abbrev pub claim_fields : EntryValue → List (List ℕ)
+claim_fields e =
+    e.call.submitter
+    ∷ e.call.number
+    ∷ number_field (work_in e.reply)
+    ∷ number_field (version_in e.reply)
+    ∷ e.call.title
+    ∷ iswc_field e.call.iswc
+    ∷ decimal (slice_index e.call.control 0)
+    ∷ decimal (slice_index e.call.control 1)
+    ∷ decimal (slice_index e.call.control 2)
+    ∷ []
+
+abbrev pub claim_line : EntryValue → List ℕ
+claim_line e = csv_line (claim_fields e)
+
+-- the current claims that are wanted
+abbrev pub is_listed : Wanted → List Row → EntryValue → Bool
+is_listed wanted rows e = is_current rows e && is_wanted wanted e
+
+-- a header line, and a line for each current claim that is wanted, in the order of their entries
+abbrev pub claims_text : Wanted → List EntryValue → List ℕ
+claims_text wanted history = csv_line claims_header ++ flat_map claim_line (filter (is_listed wanted (rows_of history)) history)

@@ -1,0 +1,5 @@
+pub mod Rows
+pub mod Wanted
+pub mod ClaimsTable
+pub mod HistoryTable
+pub mod WorksTable

@@ -1,0 +1,103 @@
+-- The table of the works.
+use Rattle.std.specs.Prelude.{ℕ, ◌==◌, ◌&&◌, ◌≡◌, ◌+◌, ◌-◌, ◌^◌, ◌<◌, Bool, false, List, [], ◌∷◌, ◌++◌, Option, Some, None, codes, count_by, filter, if◌then◌else◌, IsTrue, length, max, min, nat_le, nat_lt, slice_index, slice_index_or, slice_set}
+use Rattle.std.specs.List.{flat_map, range_with_len}
+use Rattle.std.specs.Fmt.{decimal}
+use Rattle.cwr_call.specs.Lawful.{is_iswc}
+use Rattle.work_registry.specs.declared.reply.Reply.{Reply}
+use Rattle.work_registry.specs.declared.reply.Reply.TheVariants.{Accepted, Duplicate, Conflict, Rejected}
+use Rattle.work_registry.specs.EntryValue.{EntryValue}
+use Rattle.work_registry.specs.Rows.{Row, rows_of}
+use Rattle.work_registry.specs.Works.{control_of, iswc_of}
+use Rattle.work_registry.specs.Told.{work_in}
+use Rattle.work_registry.specs.Indexes.{newer}
+use Rattle.register_tables.specs.declared.wanted.Wanted.{Wanted}
+use Rattle.register_tables.specs.declared.works.KeptWork.{KeptWork}
+use Rattle.register_tables.specs.Rows.{csv_line, iswc_field}
+use Rattle.register_tables.specs.Wanted.{fits_number}
+use Rattle.register_tables.specs.ClaimsTable.{is_current}
+
+-- the greatest of a number and of the works of rows
+abbrev pub greatest : ℕ → List Row → ℕ
+greatest found [] = found
+greatest found (r ∷ rs) = greatest (max found r.work) rs
+
+-- The greatest number that was given to a work. Works are numbered from 1, in the order in which they were first accepted,
+-- so there are as many.
+abbrev pub last_work : List Row → ℕ
+last_work rows = greatest 0 rows
+
+abbrev pub is_on : ℕ → Option ℕ → Bool
+is_on work None = false
+is_on work (Some n) = n == work
+
+-- a current claim on a work
+abbrev pub is_claim_on : List Row → ℕ → EntryValue → Bool
+is_claim_on rows work e = is_on work (work_in e.reply) && is_current rows e
+
+-- of a work: its ISWC, and how many of these entries are current claims on it
+abbrev pub kept_of : List Row → ℕ → List EntryValue → KeptWork
+kept_of rows work entries = record { iswc = iswc_of work (rows_of entries); claims = count_by (is_claim_on rows work) entries }
+
+abbrev pub works_header : List (List ℕ)
+works_header =
+    codes "work"
+    ∷ codes "iswc"
+    ∷ codes "performing"
+    ∷ codes "mechanical"
+    ∷ codes "synchronization"
+    ∷ codes "claims"
+    ∷ []
+
+-- a work: its number, its ISWC, its control of the three rights, and how many current claims there are on it
+abbrev pub work_fields : ℕ → KeptWork → List ℕ → List (List ℕ)
+work_fields work kept control =
+    decimal work
+    ∷ iswc_field kept.iswc
+    ∷ decimal (slice_index control 0)
+    ∷ decimal (slice_index control 1)
+    ∷ decimal (slice_index control 2)
+    ∷ decimal kept.claims
+    ∷ []
+
+abbrev pub work_line : List EntryValue → ℕ → List ℕ
+work_line history work = csv_line (work_fields work (kept_of (rows_of history) work history) (control_of work (rows_of history)))
+
+abbrev pub is_wanted_work : Wanted → ℕ → Bool
+is_wanted_work wanted work = fits_number wanted.work (Some work)
+
+-- the lines of the works that are wanted, in the order of their numbers
+abbrev pub work_lines : Wanted → List EntryValue → List ℕ
+work_lines wanted history =
+    flat_map (work_line history) (filter (is_wanted_work wanted) (range_with_len 1 (last_work (rows_of history))))
+
+-- a header line, and these lines
+abbrev pub works_text : Wanted → List EntryValue → List ℕ
+works_text wanted history = csv_line works_header ++ work_lines wanted history
+
+-- What is gathered of the works, entry by entry, with the claims that are current after all rows.
+
+-- nothing yet
+abbrev pub blank_work : KeptWork
+blank_work = record { iswc = None; claims = 0 }
+
+-- one entry more on a work, with this ISWC, which made a current claim or did not
+abbrev pub grown : KeptWork → Option ℕ → Bool → KeptWork
+grown kept iswc current = record { iswc = newer iswc kept.iswc; claims = if current then min (kept.claims + 1) (2 ^ 64 - 1) else kept.claims }
+
+-- the works after one entry more
+abbrev pub noted : List KeptWork → Option ℕ → Bool → Reply → List KeptWork
+noted works iswc current (Accepted work version) =
+    if nat_lt 0 work && nat_le work (length works) then slice_set works (work - 1) (grown (slice_index_or works (work - 1) blank_work) iswc current) else works
+noted works iswc current (Duplicate work) = works
+noted works iswc current (Conflict work) = works
+noted works iswc current Rejected = works
+
+-- so many works are kept as these entries say
+pub record AreKept (rows : List Row) (count : ℕ) (entries : List EntryValue) (works : List KeptWork) : Type 0 where
+  pub size : length works ≡ count
+  pub each : (w : ℕ) (d : KeptWork) → w < length works → slice_index_or works w d ≡ kept_of rows (w + 1) entries
+  pub codes : (w : ℕ) (d : KeptWork) → w < length works → IsTrue (is_iswc (slice_index_or works w d).iswc)
+
+-- the line of a work, where it is wanted
+abbrev pub wanted_line : Wanted → ℕ → KeptWork → List ℕ → List ℕ
+wanted_line wanted work kept control = if is_wanted_work wanted work then csv_line (work_fields work kept control) else []

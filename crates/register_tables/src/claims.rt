@@ -1,0 +1,143 @@
+//! The table of the current claims.
+
+ghost use Rattle.std.specs.Prelude.{◌≡◌, [], if◌then◌else◌, filter, IfOk, OnOk};
+ghost use Rattle.std.specs.List.{flat_map};
+ghost use Rattle.std.specs.Io.KnownBytes.{Appends};
+ghost use Rattle.csv.specs.Writing.{text_written};
+ghost use Rattle.work_registry.specs.Rows.{rows_of};
+ghost use Rattle.register_tables.specs.Rows.{csv_line, IsAtRow};
+ghost use Rattle.register_tables.specs.ClaimsTable.{is_current, claims_header, claim_fields, claim_line, is_listed, claims_text};
+
+use crate::rows::{Unwritten, ended, iswc_field, number_field, put_row, rows_to};
+use crate::wanted::{Wanted, is_wanted};
+use csv::Writer;
+use itoa::Buffer;
+use std::alloc::Global;
+use std::io::Write;
+use work_registry::{Book, Entry};
+
+/// Writes the current claims of a book that are wanted, in the order of their entries, and gives back what it wrote to.
+///
+/// A header line comes first. A claim is a line of its submitter (sender type and sender id of HDR), the submitter work number,
+/// the registry's number of the work, the version, the work title, the ISWC of the transaction or nothing, and the control of the
+/// performing, the mechanical and the synchronization right in hundredths of one per cent. Texts stand as the register has
+/// them, blanks included. A line ends with LF.
+pub fn claims_text<W: Write + Drop>(
+    alloc: Global,
+    to: W,
+    book: &Book,
+    wanted: &Wanted,
+) -> Result<W, Unwritten>
+    ensures { IfOk result (λ told. Appends (W.contents to) (W.contents told) (claims_text wanted.now book.now.history)) }
+{
+    let mut out = rows_to(to);
+    put_header(&mut out)?;
+    put_claims(alloc, &mut out, book, wanted)?;
+    ended(out)
+}
+
+fn put_header<W: Write + Drop>(out: &mut Writer<W>) -> Result<(), Unwritten>
+    requires { IsAtRow out.old }
+    ensures ready { OnOk result (IsAtRow out.new) }
+    ensures text { OnOk result (Appends (text_written W.contents out.old) (text_written W.contents out.new) (csv_line claims_header)) }
+{
+    put_row(
+        out,
+        &[
+            b"submitter",
+            b"number",
+            b"work",
+            b"version",
+            b"title",
+            b"iswc",
+            b"performing",
+            b"mechanical",
+            b"synchronization",
+        ],
+    )
+}
+
+fn put_claims<W: Write + Drop>(
+    alloc: Global,
+    out: &mut Writer<W>,
+    book: &Book,
+    wanted: &Wanted,
+) -> Result<(), Unwritten>
+    requires { IsAtRow out.old }
+    ensures ready { OnOk result (IsAtRow out.new) }
+    ensures text { OnOk result (Appends (text_written W.contents out.old) (text_written W.contents out.new) (flat_map claim_line (filter (is_listed wanted.now (rows_of book.now.history)) book.now.history))) }
+{
+    let entries = book.history();
+    for entry in entries {
+        put_listed(alloc, out, book, entry, wanted)?;
+    }
+    Ok(())
+}
+
+/// Writes the claim that an entry made, where it is in force and wanted.
+#[tactic(auto, using(crate::proofs::Steps::nothing))]
+fn put_listed<W: Write + Drop>(
+    alloc: Global,
+    out: &mut Writer<W>,
+    book: &Book,
+    entry: &Entry,
+    wanted: &Wanted,
+) -> Result<(), Unwritten>
+    requires { IsAtRow out.old }
+    ensures ready { OnOk result (IsAtRow out.new) }
+    ensures text { OnOk result (Appends (text_written W.contents out.old) (text_written W.contents out.new) (if is_listed wanted.now (rows_of book.now.history) entry.now then claim_line entry.now else [])) }
+{
+    if is_current(book, entry) && is_wanted(wanted, entry) {
+        put_claim(alloc, out, entry)?;
+    }
+    Ok(())
+}
+
+/// Whether an entry made the claim in force under its key.
+pub(crate) fn is_current(book: &Book, entry: &Entry) -> bool
+    ensures { result ≡ is_current (rows_of book.now.history) entry.now }
+{
+    let call = entry.call();
+    match (
+        book.claim(&call.submitter(), &call.number()),
+        entry.reply().version(),
+    ) {
+        (Some(claim), Some(version)) => claim.version == version,
+        (Some(_), None) | (None, _) => false,
+    }
+}
+
+fn put_claim<W: Write + Drop>(
+    alloc: Global,
+    out: &mut Writer<W>,
+    entry: &Entry,
+) -> Result<(), Unwritten>
+    requires { IsAtRow out.old }
+    ensures ready { OnOk result (IsAtRow out.new) }
+    ensures text { OnOk result (Appends (text_written W.contents out.old) (text_written W.contents out.new) (claim_line entry.now)) }
+{
+    let (mut work, mut version) = (Buffer::new(), Buffer::new());
+    let (mut performing, mut mechanical, mut synchronization) = (
+        Buffer::new(),
+        Buffer::new(),
+        Buffer::new(),
+    );
+    let (call, reply) = (entry.call(), entry.reply());
+    let (submitter, number, title) = (call.submitter(), call.number(), call.title());
+    let iswc = iswc_field(alloc, call.iswc())?;
+    let control = call.control();
+    put_row(
+        out,
+        &[
+            &submitter,
+            &number,
+            number_field(&mut work, reply.work()),
+            number_field(&mut version, reply.version()),
+            &title,
+            &iswc,
+            performing.format(control[0]).as_bytes(),
+            mechanical.format(control[1]).as_bytes(),
+            synchronization.format(control[2]).as_bytes(),
+        ],
+    )
+}

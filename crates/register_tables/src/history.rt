@@ -1,0 +1,186 @@
+//! The table of every entry.
+
+ghost use Rattle.std.specs.Prelude.{◌≡◌, ◌++◌, ◌<◌, ◌^◌, IfOk, OnOk};
+ghost use Rattle.std.specs.Io.KnownBytes.{Appends};
+ghost use Rattle.csv.specs.Writing.{text_written};
+ghost use Rattle.register_tables.specs.Rows.{csv_line, IsAtRow};
+ghost use Rattle.register_tables.specs.HistoryTable.{fault_text, more_fault_text, faults_field, history_header, entry_fields, entry_row, entry_rows, history_text};
+ghost use Rattle.std.specs.List.{flat_map};
+ghost use Rattle.std.specs.Fmt.{decimal};
+
+use crate::rows::{Unwritten, ended, iswc_field, number_field, put_row, rows_to};
+use crate::wanted::{Wanted, is_wanted};
+use csv::Writer;
+use itoa::Buffer;
+use std::alloc::{AllocError, Global};
+use std::io::Write;
+use work_registry::{Book, Entry, Fault};
+
+/// Writes the entries of a book that are wanted, in order, and gives back what it wrote to.
+///
+/// A header line comes first. An entry is a line of its index from 1, its submitter (sender type and sender id of HDR), `NWR` or
+/// `REV`, the submitter work number, the work title, the ISWC or nothing, the control of the performing, the mechanical and the
+/// synchronization right in hundredths of one per cent, the status `AS`, `DU`, `CO` or `RJ`, the registry's number of the work
+/// (nothing with `RJ`), the version (with `AS` alone), and the faults, each as record sequence, colon, `J` and number, with
+/// a blank between two. Texts stand as the register has them, blanks included. A line ends with LF.
+pub fn history_text<W: Write + Drop>(
+    alloc: Global,
+    to: W,
+    book: &Book,
+    wanted: &Wanted,
+) -> Result<W, Unwritten>
+    ensures { IfOk result (λ told. Appends (W.contents to) (W.contents told) (history_text wanted.now book.now.history)) }
+{
+    let mut out = rows_to(to);
+    put_header(&mut out)?;
+    put_entries(alloc, &mut out, book.history(), wanted)?;
+    ended(out)
+}
+
+fn put_header<W: Write + Drop>(out: &mut Writer<W>) -> Result<(), Unwritten>
+    requires { IsAtRow out.old }
+    ensures ready { OnOk result (IsAtRow out.new) }
+    ensures text { OnOk result (Appends (text_written W.contents out.old) (text_written W.contents out.new) (csv_line history_header)) }
+{
+    put_row(
+        out,
+        &[
+            b"entry",
+            b"submitter",
+            b"kind",
+            b"number",
+            b"title",
+            b"iswc",
+            b"performing",
+            b"mechanical",
+            b"synchronization",
+            b"status",
+            b"work",
+            b"version",
+            b"faults",
+        ],
+    )
+}
+
+fn put_entries<W: Write + Drop>(
+    alloc: Global,
+    out: &mut Writer<W>,
+    entries: &[Entry],
+    wanted: &Wanted,
+) -> Result<(), Unwritten>
+    requires { IsAtRow out.old }
+    ensures ready { OnOk result (IsAtRow out.new) }
+    ensures text { OnOk result (Appends (text_written W.contents out.old) (text_written W.contents out.new) (entry_rows wanted.now 1 entries.now)) }
+{
+    for (before, entry) in entries.iter().enumerate() {
+        put_wanted(alloc, out, before as u64 + 1, entry, wanted)?;
+    }
+    Ok(())
+}
+
+/// Writes an entry, where it is wanted.
+#[tactic(auto, using(crate::proofs::Steps::nothing))]
+fn put_wanted<W: Write + Drop>(
+    alloc: Global,
+    out: &mut Writer<W>,
+    index: u64,
+    entry: &Entry,
+    wanted: &Wanted,
+) -> Result<(), Unwritten>
+    requires { IsAtRow out.old }
+    ensures ready { OnOk result (IsAtRow out.new) }
+    ensures text { OnOk result (Appends (text_written W.contents out.old) (text_written W.contents out.new) (entry_row wanted.now index entry.now)) }
+{
+    if is_wanted(wanted, entry) {
+        put_entry(alloc, out, index, entry)?;
+    }
+    Ok(())
+}
+
+fn put_entry<W: Write + Drop>(
+    alloc: Global,
+    out: &mut Writer<W>,
+    index: u64,
+    entry: &Entry,
+) -> Result<(), Unwritten>
+    requires { IsAtRow out.old }
+    ensures ready { OnOk result (IsAtRow out.new) }
+    ensures text { OnOk result (Appends (text_written W.contents out.old) (text_written W.contents out.new) (csv_line (entry_fields index entry.now))) }
+{
+    let (mut place, mut work, mut version) = (Buffer::new(), Buffer::new(), Buffer::new());
+    let (mut performing, mut mechanical, mut synchronization) = (
+        Buffer::new(),
+        Buffer::new(),
+        Buffer::new(),
+    );
+    let (call, reply) = (entry.call(), entry.reply());
+    let (submitter, number, title) = (call.submitter(), call.number(), call.title());
+    let iswc = iswc_field(alloc, call.iswc())?;
+    let control = call.control();
+    let faults = faults_field(alloc, call.faults())?;
+    put_row(
+        out,
+        &[
+            place.format(index).as_bytes(),
+            &submitter,
+            call.kind().code(),
+            &number,
+            &title,
+            &iswc,
+            performing.format(control[0]).as_bytes(),
+            mechanical.format(control[1]).as_bytes(),
+            synchronization.format(control[2]).as_bytes(),
+            reply.status().code(),
+            number_field(&mut work, reply.work()),
+            number_field(&mut version, reply.version()),
+            &faults,
+        ],
+    )
+}
+
+/// The faults of a call, with a blank between two.
+fn faults_field(alloc: Global, faults: &[Fault]) -> Result<Vec<u8>, Unwritten>
+    ensures { IfOk result (λ text. text.items ≡ faults_field faults.now) }
+{
+    let mut text = Vec::new(alloc);
+    match put_faults(&mut text, faults) {
+        Ok(()) => Ok(text),
+        Err(_) => Err(Unwritten::Memory),
+    }
+}
+
+fn put_faults(out: &mut Vec<u8>, faults: &[Fault]) -> Result<(), AllocError>
+    ensures { OnOk result (out.new.items ≡ out.old.items ++ faults_field faults.now) }
+{
+    let Some((first, others)) = faults.split_first() else {
+        return Ok(());
+    };
+    put_fault(out, first)?;
+    put_more_faults(out, others)
+}
+
+fn put_more_faults(out: &mut Vec<u8>, faults: &[Fault]) -> Result<(), AllocError>
+    ensures { OnOk result (out.new.items ≡ out.old.items ++ flat_map more_fault_text faults.now) }
+{
+    for fault in faults {
+        out.extend_from_slice(b" ")?;
+        put_fault(out, fault)?;
+    }
+    Ok(())
+}
+
+fn put_fault(out: &mut Vec<u8>, fault: &Fault) -> Result<(), AllocError>
+    ensures { OnOk result (out.new.items ≡ out.old.items ++ fault_text fault.now) }
+{
+    put_decimal(out, fault.sequence as u64)?;
+    out.extend_from_slice(b":J")?;
+    put_decimal(out, fault.number as u64)
+}
+
+/// Appends a number without leading zeros.
+fn put_decimal(out: &mut Vec<u8>, number: u64) -> Result<(), AllocError>
+    ensures { OnOk result (out.new.items ≡ out.old.items ++ decimal number) }
+{
+    let mut digits = Buffer::new();
+    out.extend_from_slice(digits.format(number).as_bytes())
+}

@@ -1,0 +1,82 @@
+//! Rows, which the kit's writer of CSV writes.
+
+ghost use Rattle.std.specs.Prelude.{◌≡◌, [], IfOk, OnOk, map, IsTrue};
+ghost use Rattle.std.specs.Io.KnownBytes.{Appends, Keeps};
+ghost use Rattle.csv.specs.Writing.{text_written, writer_pending, writer_under};
+ghost use Rattle.cwr_call.specs.Lawful.{is_iswc};
+ghost use Rattle.register_tables.specs.Rows.{csv_line, number_field, iswc_field, IsAtRow};
+
+use csv::{Writer, WriterBuilder};
+use cwr_field::Memory;
+use cwr_record::{Piece, put_line};
+use itoa::Buffer;
+use std::alloc::Global;
+use std::io::Write;
+
+/// Why a table was not written whole.
+#[derive(Clone, Copy, Debug, PartialEq, Eq)]
+pub enum Unwritten {
+    /// Memory was refused.
+    Memory,
+    /// A write failed or took nothing. What was written before it stands.
+    Write,
+}
+
+/// A writer of rows.
+pub(crate) fn rows_to<W: Write + Drop>(to: W) -> Writer<W>
+    ensures ready { IsAtRow result }
+    ensures under { writer_under result ≡ to }
+    ensures empty { Appends (W.contents to) (text_written W.contents result) [] }
+{
+    WriterBuilder::new().from_writer(to)
+}
+
+/// Writes a row.
+pub(crate) fn put_row<W: Write + Drop>(
+    out: &mut Writer<W>,
+    fields: &[&[u8]],
+) -> Result<(), Unwritten>
+    requires { IsAtRow out.old }
+    ensures ready { OnOk result (IsAtRow out.new) }
+    ensures text { OnOk result (Appends (text_written W.contents out.old) (text_written W.contents out.new) (csv_line (map (λ f. f.now) fields.now))) }
+{
+    match out.write_fields(fields) {
+        Ok(()) => Ok(()),
+        Err(_) => Err(Unwritten::Write),
+    }
+}
+
+/// What the rows were written to, with all of them.
+pub(crate) fn ended<W: Write + Drop>(out: Writer<W>) -> Result<W, Unwritten>
+    ensures { IfOk result (λ to. Keeps (text_written W.contents out) (W.contents to)) }
+{
+    match out.into_inner() {
+        Ok(to) => Ok(to),
+        Err(_) => Err(Unwritten::Write),
+    }
+}
+
+/// A number without leading zeros, or an empty field.
+pub(crate) fn number_field(digits: &mut Buffer, number: Option<u32>) -> &[u8]
+    ensures { result.now ≡ number_field number }
+{
+    match number {
+        Some(number) => digits.format(number as u64).as_bytes(),
+        None => b"",
+    }
+}
+
+/// The eleven bytes of an ISWC, or an empty field.
+pub(crate) fn iswc_field(alloc: Global, iswc: Option<u64>) -> Result<Vec<u8>, Unwritten>
+    requires { IsTrue (is_iswc iswc) }
+    ensures { IfOk result (λ text. text.items ≡ iswc_field iswc) }
+{
+    let mut text = Vec::new(alloc);
+    if iswc.is_some() {
+        match put_line(&mut text, &[Piece::Code(iswc)]) {
+            Ok(()) => {}
+            Err(Memory) => return Err(Unwritten::Memory),
+        }
+    }
+    Ok(text)
+}
