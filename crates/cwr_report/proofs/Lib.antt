@@ -1,3 +1,4 @@
 pub mod Walking
 pub mod Reported
 pub mod Written
+pub mod Counting

@@ -7,3 +7,6 @@ three out b c new x y z p q r = then out c new (x ++ y) z (then out b c x y p q)
 
 pub four : (out b c d new x y z w : List ℕ) → b ≡ out ++ x → c ≡ b ++ y → d ≡ c ++ z → new ≡ d ++ w → new ≡ out ++ (x ++ y ++ z ++ w)
 four out b c d new x y z w p q r s = then out d new (x ++ y ++ z) w (three out b c d x y z p q r) s
+
+pub five : (out b c d e new x y z w v : List ℕ) → b ≡ out ++ x → c ≡ b ++ y → d ≡ c ++ z → e ≡ d ++ w → new ≡ e ++ v → new ≡ out ++ (x ++ y ++ z ++ w ++ v)
+five out b c d e new x y z w v p q r s t = then out e new (x ++ y ++ z ++ w) v (four out b c d e x y z w p q r s) t

@@ -1,11 +1,61 @@
--- What is told of the first fault of a file.
-use Rattle.std.specs.Prelude.{ℕ, List, [], ◌∷◌, ◌++◌}
-use Rattle.cwr_grammar.specs.FaultText.{refused_text}
+-- What is found at the first fault of a file: where it stands, and what was expected there.
+use Rattle.std.specs.Prelude.{ℕ, ◌+◌, ◌-◌, not, ◌||◌, ◌==◌, nat_lt, Bool, List, [], ◌∷◌, Option, Some, None, option_map, slice_index, if◌then◌else◌}
+use Rattle.std.specs.List.{position}
+use Rattle.std.specs.Str.Lines.{lines}
+use Rattle.cwr_record.specs.Columns.{field_at, every_record_type}
+use Rattle.cwr_record.specs.RecordTypes.{type_of}
+use Rattle.cwr_report.specs.declared.before.Before.{Before}
 use Rattle.cwr_report.specs.declared.file_finding.FileFinding.{FileFinding}
+use Rattle.cwr_report.specs.declared.file_finding.Place.{Place}
+use Rattle.cwr_report.specs.declared.file_finding.Place.TheVariants.{End, AfterTrailer}
+use Rattle.cwr_report.specs.declared.file_finding.WrongByte.{WrongByte}
+use Rattle.cwr_report.specs.Before.{before_of, here, place_in}
+use Rattle.cwr_report.specs.BytesBefore.{bytes_before}
+use Rattle.cwr_report.specs.FileExpected.{file_expected, fields_of_file}
+use Rattle.cwr_report.specs.Walks.{lines_before}
 
--- the fault with this number in this line of the file
-abbrev pub file_finding : List (List ℕ) → ℕ → ℕ → FileFinding
-file_finding text number line = record { number = number; line = line }
+-- the bytes that name the record type of a line; blanks where there is no line
+abbrev pub type_at : Option (List ℕ) → List ℕ
+type_at None = 32 ∷ 32 ∷ 32 ∷ []
+type_at (Some line) = field_at line every_record_type
 
-abbrev pub file_text : List (List ℕ) → FileFinding → List ℕ
-file_text text f = refused_text f.number f.line ++ 10 ∷ []
+-- where a line with this fault stands, after the lines before it; a line has F11 after TRL alone
+abbrev pub place_of : ℕ → Before → Option (List ℕ) → Place
+place_of number b None = End
+place_of number b (Some line) = if number == 11 then AfterTrailer else place_in b (type_of line)
+
+-- the byte at an index of a line that stands after so many bytes
+abbrev pub byte_at : ℕ → List ℕ → ℕ → WrongByte
+byte_at start line index = record { byte = slice_index line index; in_line = index + 1; in_file = start + index + 1 }
+
+-- the first byte that passes, in a line that stands after so many bytes
+abbrev pub first_byte : (ℕ → Bool) → ℕ → List ℕ → Option WrongByte
+first_byte p start line = option_map (byte_at start line) (position p line)
+
+-- F2: the first byte below 32; F11 after TRL: the first that is no blank and no byte 26
+abbrev pub wrong_byte_in : ℕ → ℕ → List ℕ → Option WrongByte
+wrong_byte_in number start line =
+    if number == 2 then first_byte (λ b. nat_lt b 32) start line
+    else if number == 11 then first_byte (λ b. not (b == 32 || b == 26)) start line
+    else None
+
+abbrev pub wrong_byte : List ℕ → ℕ → ℕ → Option (List ℕ) → Option WrongByte
+wrong_byte bytes number line None = None
+wrong_byte bytes number line (Some found) = wrong_byte_in number (bytes_before (line - 1) bytes) found
+
+-- of the fault with this number, in this line of the file, after what the lines before say
+abbrev pub finding_at_line : List ℕ → ℕ → ℕ → Before → Option (List ℕ) → FileFinding
+finding_at_line bytes number line b found = record {
+  number = number;
+  line = line;
+  rtype = type_at found;
+  place = place_of number b found;
+  byte = wrong_byte bytes number line found;
+  fields = fields_of_file found (file_expected number b found);
+  expected = file_expected number b found;
+}
+
+-- of the fault with this number, in this line of the file
+abbrev pub file_finding : List ℕ → ℕ → ℕ → FileFinding
+file_finding bytes number line =
+    finding_at_line bytes number line (before_of (lines_before (lines bytes) (line - 1))) (here (lines bytes) (line - 1))

@@ -3,5 +3,9 @@ pub mod Latest
 pub mod Walks
 pub mod Findings
 pub mod LongText
+pub mod Before
+pub mod BytesBefore
+pub mod FileExpected
 pub mod FileFindings
+pub mod FileText
 pub mod Report

@@ -36,6 +36,16 @@ name_text name.MechanicalCollection = codes "MR collection share"
 name_text name.SynchronizationCollection = codes "SR collection share"
 name_text name.Indicator = codes "inclusion/exclusion indicator"
 name_text name.Territory = codes "TIS numeric code"
+name_text name.CreationDate = codes "creation date"
+name_text name.CreationTime = codes "creation time"
+name_text name.TransmissionDate = codes "transmission date"
+name_text name.TransactionType = codes "transaction type"
+name_text name.GroupId = codes "group ID"
+name_text name.TransactionSequence = codes "transaction sequence"
+name_text name.RecordSequence = codes "record sequence"
+name_text name.GroupCount = codes "group count"
+name_text name.TransactionCount = codes "transaction count"
+name_text name.RecordCount = codes "record count"
 
 -- a byte below 32, and 127, is shown as a question mark
 abbrev pub shown : ℕ → ℕ

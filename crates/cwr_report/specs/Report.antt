@@ -1,5 +1,6 @@
 -- The report on a file: its findings, or its first fault.
 use Rattle.std.specs.Prelude.{ℕ, ◌≡◌, ◌⊎◌, Bool, ◌&&◌, ◌==◌, List, [], length, Option, Some, None, is_none}
+use Rattle.std.specs.Str.Lines.{lines}
 use Rattle.cwr_grammar.specs.Faults.{IsLeastFault}
 use Rattle.cwr_grammar.specs.File.{File, IsFile}
 use Rattle.cwr_grammar.specs.RawParts.{raws_of}
@@ -7,7 +8,8 @@ use Rattle.cwr_check.specs.CheckText.{submitter_of, faulty_count}
 use Rattle.cwr_report.specs.declared.finding.Finding.{Finding}
 use Rattle.cwr_report.specs.declared.file_finding.FileFinding.{FileFinding}
 use Rattle.cwr_report.specs.Findings.{findings_after}
-use Rattle.cwr_report.specs.FileFindings.{file_finding, file_text}
+use Rattle.cwr_report.specs.FileFindings.{file_finding}
+use Rattle.cwr_report.specs.FileText.{file_text}
 use Rattle.cwr_report.specs.LongText.{long_text}
 
 -- of a well-formed file: every fault of every transaction, in order, and how many transactions there are, and have faults
@@ -20,30 +22,30 @@ pub record IsReportOfFile (text : List (List ℕ)) (findings : List Finding) (al
   pub not_refused : refused ≡ None
 
 -- of any other file: its first fault alone
-pub record IsReportOfFault (text : List (List ℕ)) (findings : List Finding) (all faulty : ℕ) (refused : Option FileFinding) : Type 0 where
+pub record IsReportOfFault (bytes : List ℕ) (findings : List Finding) (all faulty : ℕ) (refused : Option FileFinding) : Type 0 where
   pub number : ℕ
   pub line : ℕ
-  pub fault : IsLeastFault text line number
-  pub refused_is : refused ≡ Some (file_finding text number line)
+  pub fault : IsLeastFault (lines bytes) line number
+  pub refused_is : refused ≡ Some (file_finding bytes number line)
   pub none : findings ≡ []
   pub all_is : all ≡ 0
   pub faulty_is : faulty ≡ 0
 
-abbrev pub IsReport : List (List ℕ) → List Finding → ℕ → ℕ → Option FileFinding → Type 0
-IsReport text findings all faulty refused =
-    IsReportOfFile text findings all faulty refused ⊎ IsReportOfFault text findings all faulty refused
+abbrev pub IsReport : List ℕ → List Finding → ℕ → ℕ → Option FileFinding → Type 0
+IsReport bytes findings all faulty refused =
+    IsReportOfFile (lines bytes) findings all faulty refused ⊎ IsReportOfFault bytes findings all faulty refused
 
 -- what is told of a report on a file with these lines
 abbrev pub report_text : List (List ℕ) → List Finding → ℕ → ℕ → Option FileFinding → List ℕ
 report_text text findings all faulty None = long_text text findings all faulty
 report_text text findings all faulty (Some refused) = file_text text refused
 
--- what a check tells a person of a file with these lines; it is clean where nothing is refused and nothing has faults
-pub record IsLongCheck (text : List (List ℕ)) (told : List ℕ) (clean : Bool) : Type 0 where
+-- what a check tells a person of a file with these bytes; it is clean where nothing is refused and nothing has faults
+pub record IsLongCheck (bytes : List ℕ) (told : List ℕ) (clean : Bool) : Type 0 where
   pub findings : List Finding
   pub all : ℕ
   pub faulty : ℕ
   pub refused : Option FileFinding
-  pub report : IsReport text findings all faulty refused
-  pub told_is : told ≡ report_text text findings all faulty refused
+  pub report : IsReport bytes findings all faulty refused
+  pub told_is : told ≡ report_text (lines bytes) findings all faulty refused
   pub clean_is : clean ≡ (is_none refused && (faulty == 0))

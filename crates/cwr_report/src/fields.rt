@@ -30,14 +30,14 @@ pub(crate) fn fields_of(number: u8, line: &[u8]) -> [Option<Spot>; 3]
     }
 }
 
-fn one_field(name: FieldName, column: Column) -> [Option<Spot>; 3]
+pub(crate) fn one_field(name: FieldName, column: Column) -> [Option<Spot>; 3]
     ensures { result ≡ one_field name column }
 {
     [Some(Spot { name, column }), None, None]
 }
 
 /// The field, where it breaks the rule.
-fn spot_where(broken: bool, name: FieldName, column: Column) -> Option<Spot>
+pub(crate) fn spot_where(broken: bool, name: FieldName, column: Column) -> Option<Spot>
     ensures { result ≡ spot_where broken name column }
 {
     broken.then_some(Spot { name, column })

@@ -64,6 +64,26 @@ pub enum FieldName {
     Indicator,
     /// TIS numeric code of SPT and SWT.
     Territory,
+    /// Creation date of HDR.
+    CreationDate,
+    /// Creation time of HDR.
+    CreationTime,
+    /// Transmission date of HDR.
+    TransmissionDate,
+    /// Transaction type of GRH.
+    TransactionType,
+    /// Group ID of GRH and GRT.
+    GroupId,
+    /// Transaction sequence of each record of a transaction.
+    TransactionSequence,
+    /// Record sequence of each record of a transaction.
+    RecordSequence,
+    /// Group count of TRL.
+    GroupCount,
+    /// Transaction count of GRT and TRL.
+    TransactionCount,
+    /// Record count of GRT and TRL.
+    RecordCount,
 }
 
 /// What a rule asks for, where it says more than its number.

@@ -1,9 +1,14 @@
 //! What a check of a submission file tells a person: where each fault stands, what stands there, and what was expected.
 #![tactic(auto)]
 
+mod before;
+mod bytes_before;
 mod expected;
 mod fields;
+mod file_expected;
 mod file_finding;
+mod file_lines;
+mod file_words;
 mod finding;
 mod findings;
 mod latest;
@@ -16,9 +21,9 @@ mod words;
 pub use cwr_call::Fault;
 pub use cwr_check::Checked;
 pub use cwr_field::Memory;
-pub use cwr_record::Column;
+pub use cwr_record::{Column, WorkKind};
 pub use cwr_rules::{Over, Totals};
-pub use file_finding::FileFinding;
+pub use file_finding::{FileExpected, FileFinding, Place, WrongByte};
 pub use finding::{Expected, FieldName, Finding, Spot};
 pub use reporting::{Report, report_on};
 pub use telling::{check_long, long_text};

@@ -73,7 +73,7 @@ fn message_of(number: u8) -> &'static [u8]
     }
 }
 
-fn put_spots<A: Allocator>(
+pub(crate) fn put_spots<A: Allocator>(
     out: &mut Vec<u8, A>,
     line: &[u8],
     spots: &[Option<Spot>],
@@ -118,7 +118,7 @@ fn stands_at(line: &[u8], column: Column) -> &[u8]
 }
 
 /// Appends bytes, with a question mark for each below 32 and each 127.
-fn put_shown<A: Allocator>(out: &mut Vec<u8, A>, bytes: &[u8]) -> Result<(), Memory>
+pub(crate) fn put_shown<A: Allocator>(out: &mut Vec<u8, A>, bytes: &[u8]) -> Result<(), Memory>
     ensures { OnOk result (out.new.items ≡ out.old.items ++ map shown bytes.now) }
 {
     for byte in bytes {
@@ -164,7 +164,7 @@ fn put_wanted<A: Allocator>(
     }
 }
 
-fn put_text<A: Allocator>(out: &mut Vec<u8, A>, text: &[u8]) -> Result<(), Memory>
+pub(crate) fn put_text<A: Allocator>(out: &mut Vec<u8, A>, text: &[u8]) -> Result<(), Memory>
     ensures { OnOk result (out.new.items ≡ out.old.items ++ text.now) }
 {
     out.extend_from_slice(text)?;

@@ -32,7 +32,7 @@ pub struct Report<A: Allocator = Global> {
 /// within a record by the number of the rule. Of any other file it tells the first fault. Where memory is refused
 /// nothing is told.
 pub fn report_on<A: Allocator + Copy>(alloc: A, bytes: &[u8]) -> Result<Report<A>, Memory>
-    ensures { IfOk result (λ r. IsReport (lines bytes.now) r.findings.items r.transactions r.faulty r.refused) }
+    ensures { IfOk result (λ r. IsReport bytes.now r.findings.items r.transactions r.faulty r.refused) }
 {
     match parse_file(alloc, bytes) {
         Ok(file) => report_of_file(alloc, bytes, &file),
@@ -64,7 +64,7 @@ fn report_of_file<A: Allocator + Copy>(
 /// The report on a file that has a fault.
 fn report_of_fault<A: Allocator + Copy>(alloc: A, bytes: &[u8], number: u8, line: u64) -> Report<A>
     requires { IsLeastFault (lines bytes.now) line number }
-    ensures { IsReportOfFault (lines bytes.now) result.findings.items result.transactions result.faulty result.refused }
+    ensures { IsReportOfFault bytes.now result.findings.items result.transactions result.faulty result.refused }
 {
     Report {
         findings: Vec::new(alloc),

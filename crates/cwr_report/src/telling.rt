@@ -2,12 +2,13 @@ ghost use Rattle.std.specs.Prelude.{◌≡◌, ◌-◌, ◌++◌, IfOk, OnOk};
 ghost use Rattle.std.specs.List.{flat_map};
 ghost use Rattle.std.specs.Str.Lines.{lines};
 ghost use Rattle.cwr_check.specs.CheckText.{total_line};
-ghost use Rattle.cwr_report.specs.FileFindings.{file_text};
+ghost use Rattle.cwr_report.specs.FileText.{file_text};
 ghost use Rattle.cwr_report.specs.LongText.{finding_text, long_text};
 ghost use Rattle.cwr_report.specs.Report.{report_text, IsLongCheck};
 ghost use Rattle.cwr_report.specs.Walks.{IsWalk};
 
 use crate::file_finding::FileFinding;
+use crate::file_lines::put_file_finding;
 use crate::finding::Finding;
 use crate::long_lines::{put_decimal, put_finding};
 use crate::reporting::{Report, report_on};
@@ -21,7 +22,7 @@ use std::alloc::Allocator;
 ///
 /// It is clean where `check_text` finds it so. Where memory is refused nothing is told.
 pub fn check_long<A: Allocator + Copy>(alloc: A, bytes: &[u8]) -> Result<Checked<A>, Memory>
-    ensures { IfOk result (λ checked. IsLongCheck (lines bytes.now) checked.text.items checked.clean) }
+    ensures { IfOk result (λ checked. IsLongCheck bytes.now checked.text.items checked.clean) }
 {
     let report = report_on(alloc, bytes)?;
     let text = long_text(alloc, bytes, &report)?;
@@ -34,7 +35,7 @@ pub fn check_long<A: Allocator + Copy>(alloc: A, bytes: &[u8]) -> Result<Checked
 /// What is told of a report to a person, with what stands in the file that it is a report on.
 ///
 /// Each fault has a line with its place and its rule, a line for each field that breaks the rule, and a line with what
-/// was expected; a last line tells how many transactions have faults. Each line has LF at its end. Where memory is
+/// was expected; a last line tells how many transactions have faults, or that the file is refused. Each line has LF at its end. Where memory is
 /// refused nothing is told.
 pub fn long_text<A: Allocator + Copy>(
     alloc: A,
@@ -59,11 +60,22 @@ fn put_refused<A: Allocator>(
 ) -> Result<(), Memory>
     ensures { OnOk result (out.new.items ≡ out.old.items ++ file_text (lines bytes.now) refused.now) }
 {
-    out.extend_from_slice(b"refused F")?;
-    put_decimal(out, refused.number as u64)?;
-    out.extend_from_slice(b" at line ")?;
-    put_decimal(out, refused.line)?;
-    out.extend_from_slice(b"\n")?;
+    let mut walk = Walk::new(Lines::of(bytes));
+    walk.go_to(Lines::of(bytes), refused.line.saturating_sub(1));
+    put_refused_at(out, bytes, &walk, refused)
+}
+
+/// Appends what is told of the fault of a file, where the walk has gone to its line.
+fn put_refused_at<A: Allocator>(
+    out: &mut Vec<u8, A>,
+    bytes: &[u8],
+    walk: &Walk,
+    refused: &FileFinding,
+) -> Result<(), Memory>
+    requires { IsWalk walk.now (lines bytes.now) (refused.now.line - 1) }
+    ensures { OnOk result (out.new.items ≡ out.old.items ++ file_text (lines bytes.now) refused.now) }
+{
+    put_file_finding(out, walk.line(), refused)?;
     Ok(())
 }
 

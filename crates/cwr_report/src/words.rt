@@ -24,6 +24,16 @@ pub(crate) fn name_text(name: FieldName) -> &'static [u8]
         FieldName::SynchronizationCollection => b"SR collection share",
         FieldName::Indicator => b"inclusion/exclusion indicator",
         FieldName::Territory => b"TIS numeric code",
+        FieldName::CreationDate => b"creation date",
+        FieldName::CreationTime => b"creation time",
+        FieldName::TransmissionDate => b"transmission date",
+        FieldName::TransactionType => b"transaction type",
+        FieldName::GroupId => b"group ID",
+        FieldName::TransactionSequence => b"transaction sequence",
+        FieldName::RecordSequence => b"record sequence",
+        FieldName::GroupCount => b"group count",
+        FieldName::TransactionCount => b"transaction count",
+        FieldName::RecordCount => b"record count",
     }
 }
 

@@ -1,0 +1,8 @@
+use Rattle.cwr_report.proofs.Written.{five}
+use Rattle.cwr_report.proofs.file_lines.put_file_finding.Goals as goal
+
+pub returns : goal.returns
+returns g c =
+    five c.args.out.now.items c.put_file_place.new.out.items c.put_byte.new.out.items c.put_spots.new.out.items c.put_file_expected.new.out.items c.put_refused_line.new.out.items
+    _ _ _ _ _
+    c.in_ok-put_file_place.ensures c.in_ok-put_byte.ensures c.in_ok-put_spots.ensures c.in_ok-put_file_expected.ensures c.in_ok-put_refused_line.ensures
