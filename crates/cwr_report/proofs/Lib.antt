@@ -2,3 +2,4 @@ pub mod Walking
 pub mod Reported
 pub mod Written
 pub mod Counting
+pub mod NoFloats

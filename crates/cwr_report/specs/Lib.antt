@@ -8,4 +8,5 @@ pub mod BytesBefore
 pub mod FileExpected
 pub mod FileFindings
 pub mod FileText
+pub mod Json
 pub mod Report

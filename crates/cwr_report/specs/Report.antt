@@ -10,6 +10,7 @@ use Rattle.cwr_report.specs.declared.file_finding.FileFinding.{FileFinding}
 use Rattle.cwr_report.specs.Findings.{findings_after}
 use Rattle.cwr_report.specs.FileFindings.{file_finding}
 use Rattle.cwr_report.specs.FileText.{file_text}
+use Rattle.cwr_report.specs.Json.{report_json}
 use Rattle.cwr_report.specs.LongText.{long_text}
 
 -- of a well-formed file: every fault of every transaction, in order, and how many transactions there are, and have faults
@@ -48,4 +49,14 @@ pub record IsLongCheck (bytes : List ℕ) (told : List ℕ) (clean : Bool) : Typ
   pub refused : Option FileFinding
   pub report : IsReport bytes findings all faulty refused
   pub told_is : told ≡ report_text (lines bytes) findings all faulty refused
+  pub clean_is : clean ≡ (is_none refused && (faulty == 0))
+
+-- what a check tells as JSON of a file with these bytes; it is clean where nothing is refused and nothing has faults
+pub record IsJsonCheck (bytes : List ℕ) (told : List ℕ) (clean : Bool) : Type 0 where
+  pub findings : List Finding
+  pub all : ℕ
+  pub faulty : ℕ
+  pub refused : Option FileFinding
+  pub report : IsReport bytes findings all faulty refused
+  pub told_is : told ≡ report_json (lines bytes) findings all faulty refused
   pub clean_is : clean ≡ (is_none refused && (faulty == 0))

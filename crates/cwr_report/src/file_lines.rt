@@ -172,7 +172,11 @@ fn put_in_transaction<A: Allocator>(
 }
 
 /// Appends words and a number.
-fn put_counted<A: Allocator>(out: &mut Vec<u8, A>, words: &[u8], number: u64) -> Result<(), Memory>
+pub(crate) fn put_counted<A: Allocator>(
+    out: &mut Vec<u8, A>,
+    words: &[u8],
+    number: u64,
+) -> Result<(), Memory>
     ensures { OnOk result (out.new.items ≡ out.old.items ++ counted words.now number) }
 {
     out.extend_from_slice(words)?;

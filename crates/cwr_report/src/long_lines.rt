@@ -63,7 +63,7 @@ fn put_broken<A: Allocator>(out: &mut Vec<u8, A>, number: u8) -> Result<(), Memo
     Ok(())
 }
 
-fn message_of(number: u8) -> &'static [u8]
+pub(crate) fn message_of(number: u8) -> &'static [u8]
     ensures { result.now ≡ message_of number }
 {
     if 1 <= number && number <= 15 {
@@ -110,7 +110,7 @@ fn put_spot<A: Allocator>(
 }
 
 /// The bytes that a line has in a column.
-fn stands_at(line: &[u8], column: Column) -> &[u8]
+pub(crate) fn stands_at(line: &[u8], column: Column) -> &[u8]
     ensures { result.now ≡ stands_at line.now column }
 {
     let rest = line.get(column.start.saturating_sub(1)..).unwrap_or(&[]);
@@ -147,7 +147,7 @@ fn put_expected<A: Allocator>(
     Ok(())
 }
 
-fn put_wanted<A: Allocator>(
+pub(crate) fn put_wanted<A: Allocator>(
     out: &mut Vec<u8, A>,
     number: u8,
     expected: &Expected,
