@@ -1,22 +1,10 @@
 -- No count passes the number of lines.
-use Rattle.std.proofs.Common.{◌≡◌, ◌≤◌, ◌<◌, ◌^◌, Bool, true, false, cond, List, [], ◌∷◌, length, arith}
-use Rattle.std.specs.List.{filter}
+use Rattle.std.proofs.Common.{◌≡◌, ◌<◌, ◌^◌, List, length, arith}
 use Rattle.cwr_grammar.specs.declared.role.Role.{Role}
 use Rattle.cwr_grammar.specs.declared.file_counts.FileCounts.{FileCounts}
-use Rattle.cwr_grammar.specs.Before.{since, group_lines, is_group_header, is_transaction_header}
+use Rattle.cwr_grammar.specs.Before.{group_lines, is_group_header, is_transaction_header}
 use Rattle.cwr_grammar.specs.Counted.{counts_of, AreSmall}
-
-pub length-since-le : (p : Role → Bool) (before : List Role) → length (since p before) ≤ length before
-length-since-le p [] = omega arith
-length-since-le p (line ∷ before) =
-    let h = length-since-le p before in
-    elim (p line) as (λ b. length (cond b [] (line ∷ since p before)) ≤ length (line ∷ before)) [ true ↦ omega arith | false ↦ omega arith ]
-
-length-filter-le : (p : Role → Bool) (before : List Role) → length (filter p before) ≤ length before
-length-filter-le p [] = omega arith
-length-filter-le p (line ∷ before) =
-    let h = length-filter-le p before in
-    elim (p line) as (λ b. length (cond b (line ∷ filter p before) (filter p before)) ≤ length (line ∷ before)) [ true ↦ omega arith | false ↦ omega arith ]
+use Rattle.cwr_grammar.proofs.lemmas.Few.{length-since-le, length-filter-le}
 
 pub are_small : (before : List Role) → length before < 2 ^ 63 → AreSmall (counts_of before)
 are_small before lt = record {

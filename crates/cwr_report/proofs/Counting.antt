@@ -8,18 +8,12 @@ use Rattle.std.proofs.lemmas.List.Sums.{length-filter}
 use Rattle.cwr_grammar.specs.Faults.{HasFault, IsLeastFault}
 use Rattle.cwr_grammar.specs.Before.{is_group_header, is_transaction_header, group_lines}
 use Rattle.cwr_grammar.specs.Roles.{role_of}
-use Rattle.cwr_grammar.proofs.Small.{length-since-le}
+use Rattle.cwr_grammar.proofs.lemmas.Few.{length-since-le, length-filter-le}
 use Rattle.cwr_report.specs.declared.before.Before.{Before}
 use Rattle.cwr_report.specs.Before.{before_of, AreFew, IsPassed}
 use Rattle.cwr_report.specs.BytesBefore.{first_size, bytes_before}
 use Rattle.cwr_report.specs.Walks.{lines_before}
 use Rattle.cwr_report.proofs.Walking.{rest_more, rest_end, before_more, before_end}
-
-kept_few : {X : Type 0} (p : X → Bool) (xs : List X) → length (filter p xs) ≤ length xs
-kept_few p [] = omega arith
-kept_few p (x ∷ xs) =
-    let h = kept_few p xs in
-    elim (p x) as (λ b. length (cond b (x ∷ filter p xs) (filter p xs)) ≤ length (x ∷ xs)) [ true ↦ omega arith | false ↦ omega arith ]
 
 pub are_few : (before : List (List ℕ)) → length before ≤ 2 ^ 63 → AreFew (before_of before)
 are_few before few =
@@ -29,10 +23,10 @@ are_few before few =
     let transaction = length-since-le is_transaction_header (group_lines roles) in
     record {
       lines = few;
-      groups = omega (arith, kept_few is_group_header roles, size);
-      all = omega (arith, kept_few is_transaction_header roles, size);
+      groups = omega (arith, length-filter-le is_group_header roles, size);
+      all = omega (arith, length-filter-le is_transaction_header roles, size);
       group_lines = omega (arith, group, size);
-      transactions = omega (arith, kept_few is_transaction_header (group_lines roles), group, size);
+      transactions = omega (arith, length-filter-le is_transaction_header (group_lines roles), group, size);
       details = omega (arith, transaction, group, size);
     }
 
@@ -90,7 +84,7 @@ parts_few (part ∷ []) = elim (eqb (length part) 0) as (λ b. length (cond b []
 parts_few (part ∷ next ∷ parts) = omega (arith, parts_few (next ∷ parts))
 
 counted_few : {X : Type 0} (p : X → Bool) (xs : List X) → count_by p xs ≤ length xs
-counted_few p xs = omega (arith, kept_few p xs, length-filter p xs)
+counted_few p xs = omega (arith, length-filter-le p xs, length-filter p xs)
 
 few_lines : (bytes : List ℕ) → length (lines bytes) ≤ length bytes + 1
 few_lines bytes =

@@ -130,7 +130,11 @@ pub(crate) fn put_shown<A: Allocator>(out: &mut Vec<u8, A>, bytes: &[u8]) -> Res
 fn shown(byte: u8) -> u8
     ensures { result ≡ shown byte }
 {
-    if byte < LEAST_PRINTABLE || byte == 127 { b'?' } else { byte }
+    if byte < LEAST_PRINTABLE || byte == 127 {
+        b'?'
+    } else {
+        byte
+    }
 }
 
 /// Appends what the rule with this number asked for.
