@@ -1,6 +1,8 @@
 -- Lines without a fault are those of an envelope.
 use Rattle.std.proofs.Common.{◌≡◌, ℕ, suc, ◌+◌, Bool, true, false, ◌&&◌, not, cond, List, [], ◌∷◌, ◌++◌, length, Option, Some, None, arith, refl, sym, ap, ◌∙◌, map, append_assoc}
 use Rattle.std.proofs.lemmas.Bool.Decides.{nat_tests}
+use Rattle.std.proofs.Math.Bool.{and-false}
+use Rattle.std.proofs.lemmas.Bool.{not-false}
 use Rattle.std.specs.List.{list_any, range_with_len}
 use Rattle.cwr_grammar.proofs.Envelope.{Group, transactions_from, size, all_transactions_of, all_lines_of, groups_from, envelope, first_role_fault}
 use Rattle.cwr_grammar.specs.Before.{in_group, in_transaction, group_kind, groups, transactions, all_transactions, group_lines, transaction_lines, is_file_trailer, is_nil}
@@ -30,10 +32,6 @@ both : (a b : Bool) → not (a && b) ≡ false → (a ≡ true) × (b ≡ true)
 both true true e = (refl, refl)
 both true false e = absurd cc
 both false b e = absurd cc
-
-is_so : (b : Bool) → not b ≡ false → b ≡ true
-is_so true e = refl
-is_so false e = absurd cc
 
 number_is : (o : Option ℕ) (n : ℕ) → is_number o n ≡ true → o ≡ Some n
 number_is None n e = absurd cc
@@ -80,7 +78,7 @@ head_is before k t r e =
     let f = passes _ 6 _ c.1 in
     let d = passes _ 8 _ f.1 in
     let numbers = both _ _ d.0 in
-    (is_so _ c.0, kind_is k (group_kind before) (is_so _ f.0), number_is t _ numbers.0, number_is r _ numbers.1)
+    (not-false _ c.0, kind_is k (group_kind before) (not-false _ f.0), number_is t _ numbers.0, number_is r _ numbers.1)
 
 pub group_head_is : (before : List Role) (k : Option WorkKind) (i : Option ℕ) → role_fault before (GroupHeader k i) ≡ None
     → (in_group before ≡ false) × (a : WorkKind) × (k ≡ Some a) × (i ≡ Some (groups before + 1))
@@ -91,7 +89,7 @@ group_head_is before k i e =
     let f = passes _ 5 _ c.1 in
     let d = passes _ 7 _ f.1 in
     let kind = some_kind k i f.0 in
-    (c.0, kind.0, kind.1, number_is i _ (is_so _ d.0))
+    (c.0, kind.0, kind.1, number_is i _ (not-false _ d.0))
 
 pub group_end_is : (before : List Role) (i t r : Option ℕ) → role_fault before (GroupTrailer i t r) ≡ None
     → (in_group before ≡ true) × (i ≡ Some (groups before)) × (t ≡ Some (transactions before)) × (r ≡ Some (length (group_lines before) + 2))
@@ -102,7 +100,7 @@ group_end_is before i t r e =
     let f = passes _ 7 _ c.1 in
     let d = passes _ 9 _ f.1 in
     let numbers = both _ _ d.0 in
-    (is_so _ c.0, number_is i _ (is_so _ f.0), number_is t _ numbers.0, number_is r _ numbers.1)
+    (not-false _ c.0, number_is i _ (not-false _ f.0), number_is t _ numbers.0, number_is r _ numbers.1)
 
 three : (a b c : Bool) → not (a && b && c) ≡ false → (a ≡ true) × (b ≡ true) × (c ≡ true)
 three true true true e = (refl, refl, refl)
@@ -218,10 +216,6 @@ end_is k (line ∷ before) e =
 false_true : {A : Type 0} (b : Bool) → b ≡ true → b ≡ false → A
 false_true b p q = absurd (let h : true ≡ false = sym p ∙ q in cc)
 
-pub and_false : (b : Bool) → (b && false) ≡ false
-and_false true = refl
-and_false false = refl
-
 -- what stands after the lines before, where these have no fault
 abbrev Group-after : List Role → List Role → Type 0
 Group-after before lines = (k : WorkKind) → in_group before ≡ true → group_kind before ≡ Some k
@@ -255,7 +249,7 @@ file_head_first before valid e some =
     let b = passes _ 1 _ a.1 in
     let c = passes _ 3 _ b.1 in
     let d = passes _ 4 _ c.1 in
-    false_true _ (is_so _ d.0) some
+    false_true _ (not-false _ d.0) some
 
 some_none : {A : Type 0} (n : ℕ) → Some n ≡ None → A
 some_none n e = absurd cc
@@ -329,7 +323,7 @@ continues (GroupTrailer i t r ∷ rest) before e goes some =
     let f = group_end_is before i t r s.0 in
     let more = continues rest (GroupTrailer i t r ∷ before) s.1 goes refl in
     in_a_group before (GroupTrailer i t r ∷ rest) f.0
-    (λ k g is. group_line _ _ _ _ _ _ _ _ rest (group_end_line _ _ _ _ _ _ f.1 f.2 f.3) (end_joins k (groups before) (all_transactions before) (length before) (transactions before) (length (group_lines before)) rest (more.between (and_false _))))
+    (λ k g is. group_line _ _ _ _ _ _ _ _ rest (group_end_line _ _ _ _ _ _ f.1 f.2 f.3) (end_joins k (groups before) (all_transactions before) (length before) (transactions before) (length (group_lines before)) rest (more.between (and-false _))))
 continues (FileTrailer g t r ∷ rest) before e goes some =
     let s = clear_step before rest (FileTrailer g t r) e in
     let f = file_end_is before g t r s.0 in

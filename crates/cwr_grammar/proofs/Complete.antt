@@ -1,5 +1,6 @@
 -- An envelope has no fault.
 use Rattle.std.proofs.Common.{◌≡◌, ℕ, zero, suc, ◌+◌, eqb, true, false, List, [], ◌∷◌, ◌++◌, length, Option, Some, None, arith, refl, ap, ◌∙◌, append_assoc, eq-eqb}
+use Rattle.std.proofs.Math.Bool.{and-false}
 use Rattle.std.specs.List.{list_any}
 use Rattle.cwr_grammar.specs.declared.role.Role.{Role}
 use Rattle.cwr_grammar.specs.declared.role.Role.TheVariants.{FileHeader, GroupHeader, TransactionHeader, Detail, GroupTrailer, FileTrailer}
@@ -9,7 +10,7 @@ use Rattle.cwr_grammar.specs.Before.{in_group, in_transaction, group_kind, group
 use Rattle.cwr_grammar.specs.FaultTests.{same_kind}
 use Rattle.cwr_grammar.specs.FirstFault.{role_fault}
 use Rattle.cwr_grammar.proofs.Envelope.{first_role_fault, Group, transaction, transactions_from, size, all_transactions_of, all_lines_of, group_text, groups_from, envelope}
-use Rattle.cwr_grammar.proofs.Accepted.{details_from, and_false}
+use Rattle.cwr_grammar.proofs.Accepted.{details_from}
 
 -- a line without a fault
 pub step : (before rest : List Role) (line : Role) → role_fault before line ≡ None → first_role_fault before (line ∷ rest) ≡ first_role_fault (line ∷ before) rest
@@ -129,7 +130,7 @@ group_end_clear : (before : List Role) (k : WorkKind) (g a l t m : ℕ) → Open
 group_end_clear before k g a l t m h = rw (h.goes, h.some, h.group, h.groups, h.transactions, h.group_lines, same g, same t, same (m + 2)) refl
 
 group_end_next : (before : List Role) (k : WorkKind) (g a l t m : ℕ) (x y z : Option ℕ) → Opened before k g a l t m → Closed (GroupTrailer x y z ∷ before) g a (l + 1)
-group_end_next before k g a l t m x y z h = record { goes = h.goes; some = refl; group = and_false _; groups = h.groups; all = h.all; lines = omega (arith, h.lines) }
+group_end_next before k g a l t m x y z h = record { goes = h.goes; some = refl; group = and-false _; groups = h.groups; all = h.all; lines = omega (arith, h.lines) }
 
 closed_at : (before : List Role) (g a l g' a' l' : ℕ) → g ≡ g' → a ≡ a' → l ≡ l' → Closed before g a l → Closed before g' a' l'
 closed_at before g a l g' a' l' p q r h = rw (← p, ← q, ← r) h

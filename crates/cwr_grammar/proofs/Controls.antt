@@ -5,7 +5,7 @@ use Rattle.std.proofs.lemmas.Simd.{bitmask_splat, leading_from_mask_l, trailing_
 use Rattle.std.proofs.lemmas.List.{length-take, length-drop}
 use Rattle.std.proofs.lemmas.List.Sums.{position_or_len_is}
 use Rattle.std.proofs.lemmas.Bool.Decides.{nat_tests}
-use Rattle.std.proofs.lemmas.Bool.{cases_lt}
+use Rattle.std.proofs.lemmas.Bool.{cases_lt, not-false}
 use Rattle.std.proofs.Common.{eq-eqb, leb, not}
 use Rattle.std.specs.List.{slice_index}
 use Rattle.std.proofs.lemmas.List.{take-append-le}
@@ -102,11 +102,7 @@ pub no_control : (xs : List ℕ) → is_printable xs ≡ true → has_control xs
 no_control xs h = ap not h
 
 pub printable : (xs : List ℕ) → has_control xs ≡ false → is_printable xs ≡ true
-printable xs h = by (is_printable xs) h
-  where
-    by : (b : Bool) → not b ≡ false → b ≡ true
-    by true e = refl
-    by false e = absurd cc
+printable xs h = not-false (is_printable xs) h
 
 clean_front : (text : List ℕ) (end : ℕ) → end ≡ position_or_len is_control text → end ≤ length text → has_control (take end text) ≡ false
 clean_front text end is le =

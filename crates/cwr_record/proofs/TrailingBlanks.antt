@@ -1,5 +1,6 @@
 -- A blank at the end is removed, and what ends otherwise stays.
-use Rattle.std.proofs.Common.{◌≡◌, ℕ, ◌+◌, ◌-◌, ◌≤◌, Bool, true, false, ◌&&◌, List, [], ◌∷◌, ◌++◌, length, take, get_or, arith, refl, sym, ap, ◌∙◌}
+use Rattle.std.proofs.Common.{◌≡◌, ℕ, ◌+◌, ◌-◌, ◌≤◌, false, List, [], ◌∷◌, ◌++◌, length, take, get_or, arith, refl, sym, ap, ◌∙◌}
+use Rattle.std.proofs.Math.Bool.{and-true, and-false}
 use Rattle.std.specs.Prelude.{◌==◌}
 use Rattle.std.proofs.lemmas.Bool.Decides.{nat_tests}
 use Rattle.std.proofs.lemmas.List.{take_more}
@@ -8,19 +9,11 @@ use Rattle.std.proofs.Math.Seq.{take-length}
 use Rattle.cwr_field.specs.Layout.{is_blank}
 use Rattle.cwr_record.specs.Territory.{without_trailing}
 
-and_true : (b : Bool) → (b && true) ≡ b
-and_true true = refl
-and_true false = refl
-
-and_false : (b : Bool) → (b && false) ≡ false
-and_false true = refl
-and_false false = refl
-
 is_blank-push : (bytes : List ℕ) → is_blank (bytes ++ 32 ∷ []) ≡ is_blank bytes
-is_blank-push bytes = list_all-append (λ (b : ℕ). b == 32) bytes (32 ∷ []) ∙ and_true (is_blank bytes)
+is_blank-push bytes = list_all-append (λ (b : ℕ). b == 32) bytes (32 ∷ []) ∙ and-true (is_blank bytes)
 
 is_blank-push_other : (bytes : List ℕ) (c : ℕ) → (c == 32) ≡ false → is_blank (bytes ++ c ∷ []) ≡ false
-is_blank-push_other bytes c h = rw (list_all-append (λ (b : ℕ). b == 32) bytes (c ∷ []), h) (and_false (is_blank bytes))
+is_blank-push_other bytes c h = rw (list_all-append (λ (b : ℕ). b == 32) bytes (c ∷ []), h) (and-false (is_blank bytes))
 
 push_blank : (bytes : List ℕ) → without_trailing (bytes ++ 32 ∷ []) ≡ without_trailing bytes
 push_blank [] = refl
@@ -28,7 +21,7 @@ push_blank (b ∷ bytes) = rw (is_blank-push bytes, push_blank bytes) refl
 
 push_other : (bytes : List ℕ) (c : ℕ) → (c == 32) ≡ false → without_trailing (bytes ++ c ∷ []) ≡ bytes ++ c ∷ []
 push_other [] c h = rw h refl
-push_other (b ∷ bytes) c h = rw (is_blank-push_other bytes c h, and_false (b == 32), push_other bytes c h) refl
+push_other (b ∷ bytes) c h = rw (is_blank-push_other bytes c h, and-false (b == 32), push_other bytes c h) refl
 
 last_apart : (bytes : List ℕ) (j : ℕ) → j + 1 ≡ length bytes → take j bytes ++ get_or bytes j 0 ∷ [] ≡ bytes
 last_apart bytes j e = sym (take_more bytes j 0 (omega (arith, e))) ∙ rw e (take-length bytes)

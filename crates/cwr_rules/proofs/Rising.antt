@@ -9,7 +9,7 @@ use Rattle.cwr_record.specs.declared.works.WorkKind.{WorkKind}
 use Rattle.cwr_record.specs.Kinds.{work_kind_code}
 use Rattle.cwr_rules.specs.Rules.{name_of, publishers}
 use Rattle.cwr_rules.specs.Faults.{found, all_found, record_rules, faults_after, faults_of, head_rules}
-use Rattle.cwr_field.proofs.lemmas.Tests.{parts}
+use Rattle.cwr_field.proofs.lemmas.Tests.{both, parts}
 
 abbrev fault : ℕ → ℕ → List ℕ → Fault
 fault sequence number rtype = record { sequence = sequence; number = number; rtype = rtype }
@@ -26,12 +26,7 @@ record RisesAfter (s n : ℕ) (faults : List Fault) : Type 0 where
 
 chained : (s n : ℕ) (t : List ℕ) (faults : List Fault) → RisesAfter s n faults → rises_from (fault s n t) faults ≡ true
 chained s n t [] h = refl
-chained s n t (f ∷ faults) h = and_both (is_before (fault s n []) f) (rises_from f faults) h.begins h.goes_on
-  where
-    and_both : (a b : Bool) → a ≡ true → b ≡ true → (a && b) ≡ true
-    and_both true true p q = refl
-    and_both true false p q = absurd cc
-    and_both false b p q = absurd cc
+chained s n t (f ∷ faults) h = both (is_before (fault s n []) f) (rises_from f faults) h.begins h.goes_on
 
 weaker : (s n s' n' : ℕ) (f : Fault) → is_before (fault s' n' []) (fault s n []) ≡ true → is_before (fault s n []) f ≡ true → is_before (fault s' n' []) f ≡ true
 weaker s n s' n' f p q = grind (arith, nat_tests)

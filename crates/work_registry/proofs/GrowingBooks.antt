@@ -1,5 +1,6 @@
 -- a new book, and one with an entry more
-use Rattle.std.proofs.Common.{◌≡◌, ◌≤◌, ◌<◌, ◌∙◌, ap, Bool, true, false, ℕ, List, [], ◌∷◌, ◌++◌, length, length-append, refl, arith, append_assoc, append-nil, zero, suc, take, nat_eq}
+use Rattle.std.proofs.Common.{◌≡◌, ◌≤◌, ◌<◌, ◌∙◌, ap, ℕ, List, [], ◌∷◌, ◌++◌, length, length-append, refl, arith, append_assoc, append-nil, zero, suc, take, nat_eq}
+use Rattle.std.proofs.Math.Bool.{and-true}
 use Rattle.std.specs.Prelude.{◌==◌, ◌&&◌}
 use Rattle.std.proofs.lemmas.List.Folds.{list_all-append}
 use Rattle.std.specs.HashMap.{HashMap, get}
@@ -21,10 +22,6 @@ book-none limit least most = record { lawful = history-none; fits = omega arith;
 
 pub book-push : (h : List EntryValue) (e : EntryValue) (limit : ℕ) → IsBook h limit → length h < limit → e.reply ≡ reply_to (rows_of h) e.call → IsBook (h ++ e ∷ []) limit
 book-push h e limit b lt is = record { lawful = history-push h e b.lawful is; fits = omega (arith, lt, length-append h (e ∷ [])); least = b.least; most = b.most }
-
-and-true : (b : Bool) → (b && true) ≡ b
-and-true true = refl
-and-true false = refl
 
 pub opening-push : (h : List EntryValue) (e : EntryValue) → is_opening (h ++ e ∷ []) ≡ (is_opening h && (e.session == 0))
 opening-push h e = list_all-append (λ (x : EntryValue). x.session == 0) h (e ∷ []) ∙ ap (λ b. is_opening h && b) (and-true (e.session == 0))

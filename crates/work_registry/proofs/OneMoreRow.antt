@@ -1,5 +1,6 @@
 -- one more row
 use Rattle.std.proofs.Common.{◌≡◌, ◌≤◌, ℕ, ◌+◌, ◌==◌, Bool, true, false, List, [], ◌∷◌, ◌++◌, length, refl, sym, ap, ◌∙◌, arith, Option, Some, None, if◌then◌else◌, sum_by, ◌||◌, ◌&&◌, eqb-true, true≢false}
+use Rattle.std.proofs.Math.Bool.{or-true}
 use Rattle.std.specs.Option.{option_map, option_map_or, is_some}
 use Rattle.std.specs.List.{list_any}
 use Rattle.std.proofs.lemmas.Grind.{common_steps}
@@ -116,12 +117,8 @@ pub last_such-in : {X : Type 0} (p q : X → Bool) (xs : List X) (x : X) → las
 last_such-in p q [] x e h = absurd (cc)
 last_such-in {X} p q (y ∷ ys) x e h = by (last_such p ys) refl (p y) refl e (λ f. last_such-in p q ys x f h)
   where
-    later : (b : Bool) → (b || true) ≡ true
-    later true = refl
-    later false = refl
-
     by : (o : Option X) → last_such p ys ≡ o → (b : Bool) → p y ≡ b → or_else o (if b then Some y else None) ≡ Some x → (last_such p ys ≡ Some x → list_any q ys ≡ true) → (q y || list_any q ys) ≡ true
-    by (Some z) r b f e ih = ap (λ t. q y || t) (ih (r ∙ e)) ∙ later (q y)
+    by (Some z) r b f e ih = ap (λ t. q y || t) (ih (r ∙ e)) ∙ or-true (q y)
     by None r true f e ih = let same : y ≡ x = cc in ap (λ t. t || list_any q ys) (ap q same ∙ h)
     by None r false f e ih = absurd (cc)
 

@@ -1,5 +1,6 @@
 -- what the reply keeps true of the rows
 use Rattle.std.proofs.Common.{◌≡◌, ◌≤◌, ◌<◌, ℕ, ◌+◌, ◌==◌, Bool, true, false, not, List, [], ◌∷◌, ◌++◌, refl, sym, ap, ◌∙◌, arith, Option, Some, None, if◌then◌else◌, ◌||◌, ◌&&◌, eq-eqb, eqb-true, true≢false, zero, suc, nat_lt, slice_index, unwrap_or}
+use Rattle.std.proofs.lemmas.Bool.{not-false}
 use Rattle.std.specs.Option.{option_map, option_map_or, is_some}
 use Rattle.std.proofs.lemmas.Grind.{common_steps}
 use Rattle.work_registry.specs.declared.key.Key.{Key}
@@ -28,10 +29,6 @@ pub record Takes (rows : List Row) (r : Row) : Type 0 where
   pub place : has_work r.work rows ≡ false → r.work ≡ work_count rows + 1
   pub mine : (q : Row) → last_of_key r.key rows ≡ Some q → q.work ≡ r.work
   pub fits : (i : ℕ) → i < 3 → others_in i r.work r.key rows + slice_index r.control i ≤ most_control
-
-pub not-false : (b : Bool) → not b ≡ false → b ≡ true
-not-false true e = refl
-not-false false e = absurd (true≢false e)
 
 pub fits-each : (rows : List Row) (w : ℕ) (k : Key) (control : List ℕ) → is_over w k control rows ≡ false →
     (i : ℕ) → i < 3 → others_in i w k rows + slice_index control i ≤ most_control

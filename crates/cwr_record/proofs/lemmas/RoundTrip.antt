@@ -1,7 +1,8 @@
 -- A line that was written for a record is read as that record.
-use Rattle.std.proofs.Common.{◌≡◌, ℕ, ◌+◌, ◌-◌, ◌<◌, ◌≤◌, ◌^◌, leb, Bool, true, false, ◌||◌, List, [], ◌∷◌, ◌++◌, length, replicate, Option, Some, None, arith, refl, sym, ap, ◌∙◌, append_assoc, is_some, ◌⊎◌, inl, inr}
+use Rattle.std.proofs.Common.{◌≡◌, ℕ, ◌+◌, ◌-◌, ◌<◌, ◌≤◌, ◌^◌, leb, true, false, ◌||◌, List, [], ◌∷◌, ◌++◌, length, replicate, Option, Some, None, arith, refl, sym, ap, ◌∙◌, append_assoc, is_some, ◌⊎◌, inl, inr}
 use Rattle.std.proofs.lemmas.List.{take_at, drop_at, length-append, length-replicate, append-nil}
 use Rattle.std.proofs.lemmas.Bool.Decides.{nat_tests}
+use Rattle.std.proofs.Math.Bool.{or-true}
 use Rattle.std.specs.Str.{bytes_eq}
 use Rattle.std.proofs.lemmas.Slice.Eq.{bytes_eq-Decides}
 use Rattle.cwr_field.specs.Layout.{field, padded, is_blank}
@@ -61,13 +62,9 @@ day_not_none n h = grind (arith, nat_tests)
 same_bytes : (bytes : List ℕ) → bytes_eq bytes bytes ≡ true
 same_bytes bytes = (bytes_eq-Decides bytes bytes).1 refl
 
-or_true : (b : Bool) → (b || true) ≡ true
-or_true true = refl
-or_true false = refl
-
 one_is : (bytes first second : List ℕ) → (bytes ≡ first) ⊎ (bytes ≡ second) → (bytes_eq bytes first || bytes_eq bytes second) ≡ true
 one_is bytes first second (inl e) = rw (← e, same_bytes bytes) refl
-one_is bytes first second (inr e) = rw (← e, same_bytes bytes) (or_true (bytes_eq bytes first))
+one_is bytes first second (inr e) = rw (← e, same_bytes bytes) (or-true (bytes_eq bytes first))
 
 -- what is written for a value is read as that value
 value-spelling : (content : Content) (width : ℕ) (value : Value) → IsHeld content width value → value_of content (spelling content width value) ≡ Some value
