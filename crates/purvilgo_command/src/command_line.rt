@@ -13,7 +13,7 @@ pub(crate) fn command_line<'a>(alloc: Global) -> Result<Command<'a>, AllocError>
         .subcommand(audit_command(alloc)?)
 }
 
-/// `check [--long] [--verbose] FILE`. Its list of options leaves both out, and stays as it was.
+/// `check [--long] [--json] [--verbose] FILE`. Its list of options leaves them out, and stays as it was.
 fn check_command<'a>(alloc: Global) -> Result<Command<'a>, AllocError> {
     Command::new(alloc, "check")
         .about("Tells which rules a CWR 2.2 file breaks")
@@ -23,6 +23,11 @@ fn check_command<'a>(alloc: Global) -> Result<Command<'a>, AllocError> {
                 .help("a CWR 2.2 file"),
         )?
         .arg(flag(alloc, "long", "tell of each fault what is wrong").hide(true))?
+        .arg(
+            flag(alloc, "json", "tell it as one JSON object")
+                .hide(true)
+                .conflicts_with("long")?,
+        )?
         .arg(verbose_flag(alloc).hide(true))
 }
 

@@ -90,12 +90,14 @@ Usage: purvilgo check [OPTIONS] FILE
 Options:
   --long         tell of each fault its line, its field, what stands there and
                  what was expected
+  --json         tell the same as one JSON object, on one line
   -v, --verbose  tell steps and the system's reasons on standard error
   -h, --help     the words in short
 
 Reads: FILE, or standard input where FILE is -.
 Writes: on standard output a line for each transaction, or the file's first fault.
-With --long some lines for each fault, and none for a transaction without.
+With --long some lines for each fault, and none for a transaction without; with --json
+one object. The two are not taken together.
 Status: 0 no fault; 2 the words are not taken, or help; 1 else.
 
 Example:

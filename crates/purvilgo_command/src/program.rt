@@ -12,7 +12,7 @@ use cwr_check::{Checked, check_text};
 use cwr_desk::{FileOutcome, MOST_BYTES, acknowledge, outcome_line};
 use cwr_field::{Clock, Day, cut, date, time};
 use cwr_record::Stamp;
-use cwr_report::check_long;
+use cwr_report::{check_json, check_long};
 use kept_file::Exclusive;
 use std::process::ExitCode;
 use std::rt::{Env, Files};
@@ -23,8 +23,8 @@ use std::{env, io, str};
 /// Runs the program on its words, and answers its exit status.
 ///
 /// Without words it acknowledges standard input to standard output. `run` acknowledges files at one book, which may
-/// come from a register and go to one. `check FILE` tells on standard output which rules a file breaks, with `--long` also
-/// where and why, and `audit REGISTER` tells there how many entries a register has, or its first fault. `--version` tells
+/// come from a register and go to one. `check FILE` tells on standard output which rules a file breaks, with `--long` or
+/// `--json` also where and why, and `audit REGISTER` tells there how many entries a register has, or its first fault. `--version` tells
 /// there the program's version.
 ///
 /// The status is 0 without words where the input is acknowledged; of `run` where all files are, each outcome is told,
@@ -113,17 +113,39 @@ fn run_on_file<R: AllocGlobal + Input + Print + Eprint + Files>(
 ) -> ExitCode {
     let verbose = given.get_flag("verbose");
     match (name, given.get_str("FILE"), given.get_str("REGISTER")) {
-        ("check", Some(path), _) => check_file(rt, path, given.get_flag("long"), verbose),
+        ("check", Some(path), _) => check_file(rt, path, form_of(given), verbose),
         ("audit", _, Some(path)) => audit_file(rt, path, verbose),
         _ => bad_words(rt, "the command line is not taken"),
     }
 }
 
-/// Checks a file, or standard input for `-`, and tells on standard output what was found: in short, or all of it.
+/// How a check tells what it found.
+#[derive(Clone, Copy)]
+enum CheckForm {
+    /// A line for each transaction.
+    Short,
+    /// Lines for a person for each fault.
+    Long,
+    /// One JSON object, on one line.
+    Json,
+}
+
+/// The form that the words ask for.
+fn form_of(given: &ArgMatches) -> CheckForm {
+    if given.get_flag("json") {
+        CheckForm::Json
+    } else if given.get_flag("long") {
+        CheckForm::Long
+    } else {
+        CheckForm::Short
+    }
+}
+
+/// Checks a file, or standard input for `-`, and tells on standard output what was found, in the form that is asked for.
 fn check_file<R: AllocGlobal + Input + Print + Eprint + Files>(
     rt: &R,
     path: &str,
-    long: bool,
+    form: CheckForm,
     verbose: bool,
 ) -> ExitCode {
     let text = match bytes_of(rt, path, MOST_BYTES, verbose) {
@@ -133,10 +155,10 @@ fn check_file<R: AllocGlobal + Input + Print + Eprint + Files>(
             return ExitCode::FAILURE;
         }
     };
-    let checked = if long {
-        check_long(rt.alloc(), &text)
-    } else {
-        check_text(rt.alloc(), &text)
+    let checked = match form {
+        CheckForm::Short => check_text(rt.alloc(), &text),
+        CheckForm::Long => check_long(rt.alloc(), &text),
+        CheckForm::Json => check_json(rt.alloc(), &text),
     };
     match checked {
         Ok(checked) => tell_check(rt, &checked),

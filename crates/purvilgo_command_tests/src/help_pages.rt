@@ -58,6 +58,7 @@ fn tells_each_command_and_option(rt: HostRuntime) -> Result<(), Fail> {
             &["purvilgo", "help", "check"],
             &[
                 "--long",
+                "--json",
                 "-v, --verbose",
                 "-h, --help",
                 "standard input where FILE is -",
