@@ -16,11 +16,11 @@ use cwr_field::Memory;
 use cwr_record::Stamp;
 use kept_file::{Exclusive, FileNames};
 use run_words::RunFault;
-use std::fs;
 use std::process::ExitCode;
 use std::rt::Files;
 use std::sync::Wait;
 use std::thread::Threads;
+use std::{fs, str};
 
 /// Acknowledges the files that the words name, all at one book: each by a worker on a thread of its own, or one after
 /// another where the words ask for it.
@@ -98,6 +98,9 @@ where
         outcomes,
         jobs,
     } = run;
+    if words.verbose {
+        tell_ends(rt, words.files, &outcomes);
+    }
     let told = tell_outcomes(rt, words.files, &outcomes);
     let kept = keep_run(rt, &book, jobs, waiting, targets.register.as_ref(), words);
     if told && kept {
@@ -136,6 +139,28 @@ fn jobs_of<'a, R: AllocGlobal + Eprint + Files>(
         jobs.push(Job { reader, writer })?;
     }
     Ok(jobs)
+}
+
+/// Tells on standard error how each job ended whose file is not acknowledged. Where there is no memory, nothing.
+fn tell_ends<R: AllocGlobal + Eprint>(rt: &R, files: &[&str], outcomes: &[FileOutcome]) {
+    for (file, outcome) in files.iter().zip(outcomes) {
+        if !is_acknowledged(outcome) {
+            tell_end(rt, file, outcome);
+        }
+    }
+}
+
+/// Tells on standard error how a job ended.
+fn tell_end<R: AllocGlobal + Eprint>(rt: &R, file: &str, outcome: &FileOutcome) {
+    let Ok(name) = format!(in rt.alloc(); "{file}: ended") else {
+        return;
+    };
+    let Ok(line) = outcome_line(rt.alloc(), name.as_bytes(), outcome) else {
+        return;
+    };
+    if let Ok(text) = str::from_utf8(&line) {
+        let _ = eprint!(rt; "{text}");
+    }
 }
 
 /// Tells on standard output how each job ended, and answers whether all are acknowledged and told.

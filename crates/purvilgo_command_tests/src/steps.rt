@@ -1,6 +1,6 @@
 //! Steps and reasons, which `--verbose` tells before the fixed texts.
 
-use cwr_sheets::{file_of_lines, one_answer, plain_file, same};
+use cwr_sheets::{file_of_lines, miscounted, one_answer, plain_file, same};
 use program_runs::{Fake, FakeFile, expect, expect_held, expect_program, keeping, run_with};
 use std::process::ExitCode;
 use std::test::Fail;
@@ -92,7 +92,7 @@ fn tells_the_steps_of_a_run(rt: HostRuntime) -> Result<(), Fail> {
     let answer = one_answer(alloc, "AS")?;
     same("the acknowledgement's length", &answer.len(), &425)?;
     let steps = format!(in alloc;
-        "before: read, 12 bytes\nbefore: register read, 0 entries\na: read, {length} bytes\na.ack: written, 425 bytes\nabsent: No such file or directory\nb: read, {length} bytes\nb.ack: No such file or directory\nafter: written, 360 bytes\nafter: register kept, 2 entries\n"
+        "before: read, 12 bytes\nbefore: register read, 0 entries\na: read, {length} bytes\na.ack: written, 425 bytes\nabsent: No such file or directory\nb: read, {length} bytes\nb.ack: No such file or directory\nabsent: ended: stopped after 0: read\nb: ended: stopped after 1: write after 0 bytes\nafter: written, 360 bytes\nafter: register kept, 2 entries\n"
     )?;
     let told =
         "a: acknowledged 1\nabsent: stopped after 0: read\nb: stopped after 1: write after 0 bytes\n";
@@ -117,6 +117,28 @@ fn tells_why_a_register_is_not_read_or_kept(rt: HostRuntime) -> Result<(), Fail>
     let words = run_with(alloc, &["-v", "--to", "nowhere", "a"])?;
     let told = "a: stopped after 0: read\n";
     let complained =
-        "a: No such file or directory\nnowhere: No such file or directory\nregister: stopped: write after 0 bytes\n";
+        "a: No such file or directory\na: ended: stopped after 0: read\nnowhere: No such file or directory\nregister: stopped: write after 0 bytes\n";
     expect(&rt, &words, &[], &[], ExitCode::FAILURE, told, complained)
+}
+
+#[test]
+fn tells_how_a_refused_file_ends(rt: HostRuntime) -> Result<(), Fail> {
+    let alloc = rt.alloc();
+    let input = miscounted(alloc)?;
+    let length = input.len();
+    let files = [("a", FakeFile::Holds(&input))];
+    let words = run_with(alloc, &["-v", "a"])?;
+    let steps = format!(in alloc; "a: read, {length} bytes\na: ended: refused F9 at line 5\n")?;
+    let told = "a: refused F9 at line 5\n";
+    expect(
+        &rt,
+        &words,
+        &files,
+        &[],
+        ExitCode::FAILURE,
+        told,
+        steps.as_str(),
+    )?;
+    let words = run_with(alloc, &["a"])?;
+    expect(&rt, &words, &files, &[], ExitCode::FAILURE, told, "")
 }
