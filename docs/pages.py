@@ -15,6 +15,7 @@ What is tried of a page:
 - A block after a line `<!-- file: PATH -->` is that file of the repository, byte for byte.
 - Any other block of commands (`sh`, `bash`) must say why nobody runs it: `<!-- not run: REASON -->`.
 - A link leads to a file that is there; one with `#L20` to a line that has its text, and any other `#` to a heading.
+- The tables of rules in the guides have a row for each rule, with what `purvilgo explain` tells of it.
 - Each paragraph that `purvilgo help` and `purvilgo help COMMAND` print stands in the manual page docs/purvilgo.1.
 
 It says what differs, and the status is 1 then; 2 where there is nothing to try with; else 0."""
@@ -35,6 +36,8 @@ FENCE = re.compile(r"^```(\w*)\s*$")
 NOTE = re.compile(r"^<!-- (file|not run): (.*) -->$")
 LINK = re.compile(r"\[((?:[^\[\]]|\[[^\]]*\])*)\]\(([^()\s]+)\)")
 COMMAND = re.compile(r"^(\$|purvilgo|rt|\(cd) ")
+RULE_ROW = re.compile(r"^\| ([FJG]\d+) \| (.*) \| (.*) \| (.*) \|$")
+RULE_PAGES = ("docs/guide/checking.md", "docs/guide/auditing.md")
 END = "\x01"
 
 
@@ -232,6 +235,28 @@ def manual_faults(program):
     return pages, faults
 
 
+def rule_faults(program):
+    """The rules of which the guides' tables have no row, more than one, or another than `purvilgo explain` tells."""
+    told, rows, rule = {}, {}, None
+    pages = subprocess.run([program, "explain"], stdout=subprocess.PIPE, stderr=subprocess.STDOUT).stdout.decode()
+    for line in pages.splitlines():
+        if line.startswith("  "):
+            told[rule].append(line.partition(": ")[2])
+        else:
+            rule = line.split(" ")[0]
+            told[rule] = []
+    for page in RULE_PAGES:
+        for line in open(os.path.join(TOP, page), encoding="utf-8").read().split("\n"):
+            row = RULE_ROW.match(line)
+            if row:
+                cells = [LINK.sub(r"\1", cell).replace("`", "") for cell in row.groups()[1:]]
+                rows.setdefault(row[1], []).append(cells)
+    names = sorted(set(told) | set(rows))
+    faults = [f"the tables of rules have {rows.get(name)} of {name}, and purvilgo explain tells {told.get(name)}"
+              for name in names if rows.get(name) != [told.get(name)]]
+    return told, faults
+
+
 def main():
     parser = argparse.ArgumentParser(description=__doc__, formatter_class=argparse.RawDescriptionHelpFormatter)
     parser.add_argument("--program", default=os.path.join(TOP, "crates/purvilgo/out/purvilgo"))
@@ -261,6 +286,9 @@ def main():
         helped, faults = manual_faults(words.program)
         every_fault += faults
         print(f"docs/purvilgo.1: {len(helped)} pages of help")
+        told, faults = rule_faults(words.program)
+        every_fault += faults
+        print(f"{', '.join(RULE_PAGES)}: {len(told)} rules")
     for fault in every_fault:
         print(fault)
     if not words.pages and not all_commands:

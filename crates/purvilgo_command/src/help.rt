@@ -17,6 +17,10 @@ fn page_of(command: &str) -> Option<&'static str> {
         "run" => Some(RUN),
         "check" => Some(CHECK),
         "audit" => Some(AUDIT),
+        "explain" => Some(EXPLAIN),
+        "claims" => Some(CLAIMS),
+        "works" => Some(WORKS),
+        "history" => Some(HISTORY),
         _ => None,
     }
 }
@@ -30,10 +34,14 @@ Without a command it acknowledges a CWR 2.2 file from standard input to standard
 output, with a fixed stamp and into an empty history.
 
 Commands:
-  run    acknowledges CWR 2.2 files into one history
-  check  tells which rules a CWR 2.2 file breaks
-  audit  checks every decision of a register
-  help   prints this page, or the page of a command
+  run      acknowledges CWR 2.2 files into one history
+  check    tells which rules a CWR 2.2 file breaks
+  explain  tells what a rule asks, and how to mend what breaks it
+  audit    checks every decision of a register
+  claims   tells the current claims of a register, in CSV
+  works    tells the works of a register, in CSV
+  history  tells every entry of a register, in CSV
+  help     prints this page, or the page of a command
 
 Options:
   -h, --help     the words in short
@@ -119,4 +127,95 @@ Status: 0 no fault; 2 the words are not taken, or help; 1 else.
 
 Example:
   purvilgo audit 0042.register
+";
+
+const EXPLAIN: &str = "\
+Tells what a rule asks, an example of what breaks it, and how to mend that.
+
+Usage: purvilgo explain [RULE]...
+
+Options:
+  -h, --help  the words in short
+
+Rules: F1 to F12 of a file, J1 to J15 of a transaction, G1 to G4 of a register. Without
+words all of them are told.
+Writes: on standard output some lines for each rule, in the order of the words.
+Status: 0 told; 2 the words are not taken (a word that is no rule, as F13), or help; 1
+else.
+
+Example:
+  purvilgo explain F9 J11
+";
+
+const CLAIMS: &str = "\
+Tells the current claims of a register, in CSV: of each submitter's number of a work the
+last transaction that was accepted.
+
+Usage: purvilgo claims [OPTIONS] REGISTER
+
+Options:
+  --work N       those of this work alone: its number in the registry, as 1
+  --submitter S  those of this submitter alone: its type and ID, as PB000000123
+  --number W     those of this submitter work number alone, as W1
+  -v, --verbose  tell steps and the system's reasons on standard error
+  -h, --help     the words in short
+
+Reads: REGISTER, or standard input where REGISTER is -.
+Writes: on standard output a header line, and a line for each claim, in the order of the
+entries; or the register's first fault.
+Columns: submitter, number, work, version, title, iswc, performing, mechanical,
+synchronization. The last three are control in hundredths of one per cent. Texts stand as
+the register has them, blanks included.
+Status: 0 told; 2 the words are not taken, or help; 1 else.
+
+Example:
+  purvilgo claims --work 1 0042.register
+";
+
+const WORKS: &str = "\
+Tells the works of a register, in CSV.
+
+Usage: purvilgo works [OPTIONS] REGISTER
+
+Options:
+  --work N       this work alone: its number in the registry, as 1
+  -v, --verbose  tell steps and the system's reasons on standard error
+  -h, --help     the words in short
+
+Reads: REGISTER, or standard input where REGISTER is -.
+Writes: on standard output a header line, and a line for each work, by number; or the
+register's first fault.
+Columns: work, iswc, performing, mechanical, synchronization, claims. Control is what all
+claims on the work have together, in hundredths of one per cent; claims is how many
+current ones there are.
+Status: 0 told; 2 the words are not taken, or help; 1 else.
+
+Example:
+  purvilgo works 0042.register
+";
+
+const HISTORY: &str = "\
+Tells every entry of a register, in CSV.
+
+Usage: purvilgo history [OPTIONS] REGISTER
+
+Options:
+  --work N            those of this work alone: its number in the registry, as 1
+  --submitter S       those of this submitter alone: its type and ID, as PB000000123
+  --number W          those of this submitter work number alone, as W1
+  --status AS|DU|CO|RJ
+                      those with this status alone
+  -v, --verbose       tell steps and the system's reasons on standard error
+  -h, --help          the words in short
+
+Reads: REGISTER, or standard input where REGISTER is -.
+Writes: on standard output a header line, and a line for each entry, in order; or the
+register's first fault.
+Columns: entry, submitter, kind, number, title, iswc, performing, mechanical,
+synchronization, status, work, version, faults. A fault is a record sequence, a colon and
+a rule, as 4:J8.
+Status: 0 told; 2 the words are not taken, or help; 1 else.
+
+Example:
+  purvilgo history --status RJ 0042.register
 ";

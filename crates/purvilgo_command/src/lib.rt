@@ -3,7 +3,9 @@
 #![tactic(auto)]
 
 mod command_line;
+mod explain;
 mod files;
+mod further_commands;
 mod help;
 mod keeping;
 mod output;
@@ -13,6 +15,7 @@ mod run_command;
 mod running;
 mod same_files;
 mod status;
+mod tables;
 mod targets;
 mod telling;
 mod version;

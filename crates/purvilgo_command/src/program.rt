@@ -1,5 +1,6 @@
 use crate::command_line::command_line;
 use crate::files::bytes_of;
+use crate::further_commands::{further_line, names_further, run_further};
 use crate::help::page_asked_for;
 use crate::registers::audit_file;
 use crate::running::run_files;
@@ -24,14 +25,17 @@ use std::{env, io, str};
 ///
 /// Without words it acknowledges standard input to standard output. `run` acknowledges files at one book, which may
 /// come from a register and go to one. `check FILE` tells on standard output which rules a file breaks, with `--long` or
-/// `--json` also where and why, and `audit REGISTER` tells there how many entries a register has, or its first fault. `--version` tells
-/// there the program's version.
+/// `--json` also where and why, and `audit REGISTER` tells there how many entries a register has, or its first fault.
+/// `explain` tells there what rules ask, and `claims`, `works` and `history` tell a register as a table in CSV.
+/// `--version` tells there the program's version.
 ///
 /// The status is 0 without words where the input is acknowledged; of `run` where all files are, each outcome is told,
 /// and the register that is asked for is kept; of `check` and `audit` where there is no fault, and that is told; of
-/// `--version` where it is told. It is 2 where the words are not taken: one of them is not text, `clap` answers with a
-/// text of its own, help is asked for, or those of `run` have a [`RunFault`](run_words::RunFault) or name
-/// one file of the system twice. Else it is 1, also where memory is refused for the words.
+/// `explain` and `--version` where it is told; of a table where the register has no fault, and all rows are told. It is
+/// 2 where the words are not taken: one of them is not text, `clap` answers with a text of its own, help is asked for,
+/// a word of `explain` names no rule, the value of a table's option cannot be, or those of `run` have a
+/// [`RunFault`](run_words::RunFault) or name one file of the system twice. Else it is 1, also where memory is refused for
+/// the words.
 pub fn run_program<R: Env + AllocGlobal + Input + Print + Eprint + Files + Threads + Wait + Sync>(
     rt: &R,
 ) -> ExitCode
@@ -55,7 +59,12 @@ where
         let _ = eprint!(rt; "{page}");
         return ExitCode::from(BAD_WORDS);
     }
-    let Ok(command) = command_line(rt.alloc()) else {
+    let command = if names_further(&words) {
+        further_line(rt.alloc())
+    } else {
+        command_line(rt.alloc())
+    };
+    let Ok(command) = command else {
         return no_memory(rt);
     };
     match command.try_get_matches_from(words.as_slice()) {
@@ -101,7 +110,9 @@ where
     match matches.subcommand() {
         None => acknowledge_input(rt),
         Some(("run", given)) => run_files(rt, given),
-        Some((name, given)) => run_on_file(rt, name, given),
+        Some(("check", given)) => run_on_file(rt, "check", given),
+        Some(("audit", given)) => run_on_file(rt, "audit", given),
+        Some((name, given)) => run_further(rt, name, given),
     }
 }
 

@@ -34,7 +34,7 @@ pub(crate) fn run_command<'a>(alloc: Global) -> Result<Command<'a>, AllocError> 
 }
 
 /// An option with one value, which is given at most once.
-fn option<'a>(alloc: Global, name: &'a str, value: &'a str, help: &'a str) -> Arg<'a> {
+pub(crate) fn option<'a>(alloc: Global, name: &'a str, value: &'a str, help: &'a str) -> Arg<'a> {
     Arg::new(alloc, name)
         .long(name)
         .value_name(value)

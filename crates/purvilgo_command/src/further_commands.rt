@@ -1,0 +1,45 @@
+//! The command lines of `explain` and of the tables. They stand apart, so that the list of commands that the reader prints for
+//! `--help`, its other texts and its guesses stay as they were.
+
+use crate::explain::{explain_command, explain_rules};
+use crate::status::bad_words;
+use crate::tables::{Table, claims_command, history_command, tell_table, works_command};
+use clap::{ArgMatches, Command};
+use std::alloc::{AllocError, Global};
+use std::process::ExitCode;
+use std::rt::Files;
+
+/// Whether the word behind the program's name is one of these commands.
+pub(crate) fn names_further(words: &[String]) -> bool {
+    let Some(word) = words.get(1) else {
+        return false;
+    };
+    match word.as_str() {
+        "explain" | "claims" | "works" | "history" => true,
+        _ => false,
+    }
+}
+
+/// The program's name, and these commands.
+pub(crate) fn further_line<'a>(alloc: Global) -> Result<Command<'a>, AllocError> {
+    Command::new(alloc, "purvilgo")
+        .subcommand(explain_command(alloc)?)?
+        .subcommand(claims_command(alloc)?)?
+        .subcommand(works_command(alloc)?)?
+        .subcommand(history_command(alloc)?)
+}
+
+/// Runs the one that the words name.
+pub(crate) fn run_further<R: AllocGlobal + Input + Print + Eprint + Files>(
+    rt: &R,
+    name: &str,
+    given: &ArgMatches,
+) -> ExitCode {
+    match (name, given.get_str("REGISTER")) {
+        ("explain", _) => explain_rules(rt, given),
+        ("claims", Some(path)) => tell_table(rt, Table::Claims, path, given),
+        ("works", Some(path)) => tell_table(rt, Table::Works, path, given),
+        ("history", Some(path)) => tell_table(rt, Table::History, path, given),
+        _ => bad_words(rt, "the command line is not taken"),
+    }
+}
