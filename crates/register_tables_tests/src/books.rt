@@ -1,0 +1,139 @@
+//! Books, and what their tables must be.
+
+use cwr_sheets::same_bytes;
+use register_tables::{Unwritten, Wanted, claims_text, history_text, works_text};
+use std::alloc::Global;
+use std::test::Fail;
+use work_registry::{Book, Call, Fault, Faults, WorkKind};
+
+/// The submitters of the sample files.
+pub(crate) const ONE: [u8; 11] = *b"PB000000123";
+
+pub(crate) const OTHER: [u8; 11] = *b"PB000000456";
+
+pub(crate) const W1: [u8; 14] = *b"W1            ";
+
+pub(crate) const W7: [u8; 14] = *b"W7            ";
+
+pub(crate) const TITLE: [u8; 60] = *b"SONG ONE                                                    ";
+
+/// The nine digits of ISWC T0345246801.
+pub(crate) const ISWC: Option<u64> = Some(34524680);
+
+/// A transaction without faults: its submitter, kind, title, number, ISWC and control.
+pub(crate) type Told = (
+    [u8; 11],
+    WorkKind,
+    [u8; 60],
+    [u8; 14],
+    Option<u64>,
+    [u64; 3],
+);
+
+/// Hands in a transaction with these faults, which must be taken.
+pub(crate) fn hand_in(
+    alloc: Global,
+    book: &mut Book,
+    told: Told,
+    faults: &[Fault],
+) -> Result<(), Fail> {
+    let (submitter, kind, title, number, iswc, control) = told;
+    let faults = Faults::new(faults.to_vec(alloc)?);
+    let call = Call::of(submitter, kind, title, number, iswc, control, faults).ok_or("no call")?;
+    match book.apply(1, call) {
+        Ok(_) => Ok(()),
+        Err(_) => Err("the call was refused")?,
+    }
+}
+
+/// The book of the example in the profile's section on decisions: seven transactions of two submitters on one work.
+pub(crate) fn decisions(alloc: Global) -> Result<Book, Fail> {
+    let mut book = Book::new(alloc, 100);
+    let (nwr, rev, other) = (WorkKind::Nwr, WorkKind::Rev, Some(1));
+    let transactions: [Told; 6] = [
+        (ONE, rev, TITLE, W1, ISWC, [6000; 3]),
+        (OTHER, nwr, TITLE, W7, ISWC, [5000; 3]),
+        (ONE, rev, TITLE, W1, ISWC, [5000; 3]),
+        (OTHER, nwr, TITLE, W7, ISWC, [5000; 3]),
+        (ONE, rev, TITLE, W1, None, [5000; 3]),
+        (ONE, rev, TITLE, W1, other, [5000; 3]),
+    ];
+    for told in transactions {
+        hand_in(alloc, &mut book, told, &[])?;
+    }
+    let wrong = Fault {
+        sequence: 0,
+        number: 4,
+        rtype: *b"REV",
+    };
+    hand_in(
+        alloc,
+        &mut book,
+        (ONE, rev, TITLE, W1, None, [5000; 3]),
+        &[wrong],
+    )?;
+    Ok(book)
+}
+
+/// A table that must be whole.
+fn whole(table: Result<Vec<u8>, Unwritten>) -> Result<Vec<u8>, Fail> {
+    match table {
+        Ok(text) => Ok(text),
+        Err(_) => Err("the table was not written")?,
+    }
+}
+
+/// What is wanted of the claims must be these lines, after their header.
+pub(crate) fn expect_claims(
+    alloc: Global,
+    book: &Book,
+    wanted: &Wanted,
+    lines: &[u8],
+) -> Result<(), Fail> {
+    let text = whole(claims_text(alloc, Vec::new(alloc), book, wanted))?;
+    expect_lines(
+        alloc,
+        &text,
+        b"submitter,number,work,version,title,iswc,performing,mechanical,synchronization\n",
+        lines,
+    )
+}
+
+/// What is wanted of the works must be these lines, after their header.
+pub(crate) fn expect_works(
+    alloc: Global,
+    book: &Book,
+    wanted: &Wanted,
+    lines: &[u8],
+) -> Result<(), Fail> {
+    let text = whole(works_text(alloc, Vec::new(alloc), book, wanted))?;
+    expect_lines(
+        alloc,
+        &text,
+        b"work,iswc,performing,mechanical,synchronization,claims\n",
+        lines,
+    )
+}
+
+/// What is wanted of the history must be these lines, after their header.
+pub(crate) fn expect_history(
+    alloc: Global,
+    book: &Book,
+    wanted: &Wanted,
+    lines: &[u8],
+) -> Result<(), Fail> {
+    let text = whole(history_text(alloc, Vec::new(alloc), book, wanted))?;
+    expect_lines(
+        alloc,
+        &text,
+        b"entry,submitter,kind,number,title,iswc,performing,mechanical,synchronization,status,work,version,faults\n",
+        lines,
+    )
+}
+
+/// A table must be a header and these lines.
+fn expect_lines(alloc: Global, text: &[u8], header: &[u8], lines: &[u8]) -> Result<(), Fail> {
+    let mut all = header.to_vec(alloc)?;
+    all.extend_from_slice(lines)?;
+    same_bytes("the table", text, &all)
+}

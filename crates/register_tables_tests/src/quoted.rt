@@ -1,0 +1,55 @@
+//! Texts that CSV must quote, bytes outside ASCII, and faults.
+
+use crate::books::{ONE, TITLE, W1, W7, expect_claims, expect_history, hand_in};
+use register_tables::Wanted;
+use std::test::Fail;
+use work_registry::{Book, Fault, WorkKind};
+
+/// A title with a comma and quotes, and a byte that is no UTF-8.
+const SAID: [u8; 60] = *b"SAY, \"CAF\xc9\"                                                 ";
+
+/// Its field.
+const QUOTED: &[u8] = b"\"SAY, \"\"CAF\xc9\"\"                                                 \"";
+
+#[test]
+fn quotes_where_needed(rt: HostRuntime) -> Result<(), Fail> {
+    let alloc = rt.alloc();
+    let mut book = Book::new(alloc, 100);
+    let told = (
+        ONE,
+        WorkKind::Nwr,
+        SAID,
+        *b"W,1           ",
+        None,
+        [10000; 3],
+    );
+    hand_in(alloc, &mut book, told, &[])?;
+    let mut line = b"PB000000123,\"W,1           \",1,1,".to_vec(alloc)?;
+    line.extend_from_slice(QUOTED)?;
+    line.extend_from_slice(b",,10000,10000,10000\n")?;
+    expect_claims(alloc, &book, &Wanted::all(), &line)
+}
+
+/// Faults stand with a blank between two, and so need no quotes.
+#[test]
+fn tells_each_fault(rt: HostRuntime) -> Result<(), Fail> {
+    let alloc = rt.alloc();
+    let mut book = Book::new(alloc, 100);
+    let faults = [(0, 4, *b"NWR"), (0, 15, *b"NWR"), (12, 8, *b"SWT")];
+    let faults = faults.map(|(sequence, number, rtype)| Fault {
+        sequence,
+        number,
+        rtype,
+    });
+    let told = (ONE, WorkKind::Nwr, TITLE, W1, None, [20000, 0, 5]);
+    hand_in(alloc, &mut book, told, &faults)?;
+    let told = (ONE, WorkKind::Nwr, TITLE, W7, None, [0; 3]);
+    hand_in(alloc, &mut book, told, &faults[2..])?;
+    expect_history(
+        alloc,
+        &book,
+        &Wanted::all(),
+        b"1,PB000000123,NWR,W1            ,SONG ONE                                                    ,,20000,0,5,RJ,,,0:J4 0:J15 12:J8\n\
+2,PB000000123,NWR,W7            ,SONG ONE                                                    ,,0,0,0,RJ,,,12:J8\n",
+    )
+}
