@@ -107,3 +107,23 @@ fn openings(rt: HostRuntime) -> Result<(), Fail> {
     let mut book = Book::new(rt.alloc(), 3);
     expect_openings(&mut book, rt.alloc())
 }
+
+/// It has three entries for the first work, all of the opening, and the room that it had.
+fn expect_reopened(book: &Book) -> Result<(), Fail> {
+    same("the reopened book is an opening", &book.is_opening(), &true)?;
+    same("the limit", &book.limit(), &3)?;
+    same("entries", &book.len(), &3)?;
+    for entry in book.history() {
+        same("a session", &entry.session(), &0)?;
+        same("a number", &entry.call().number(), &W1)?;
+    }
+    Ok(())
+}
+
+/// A book that is reopened has the same entries, all of session 0.
+#[test]
+fn reopened(rt: HostRuntime) -> Result<(), Fail> {
+    let mut book = Book::new(rt.alloc(), 3);
+    expect_openings(&mut book, rt.alloc())?;
+    expect_reopened(&book.reopened())
+}
