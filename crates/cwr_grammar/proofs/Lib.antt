@@ -1,5 +1,6 @@
 pub mod FirstLine
 pub mod Controls
+pub mod lemmas
 pub mod Small
 pub mod Envelope
 pub mod Accepted

@@ -8,12 +8,6 @@ mod given_words;
 #[cfg(test)]
 mod help_pages;
 #[cfg(test)]
-mod json_checks;
-#[cfg(test)]
-mod long_checks;
-#[cfg(test)]
-mod long_faults;
-#[cfg(test)]
 mod other_words;
 #[cfg(test)]
 mod run_options;

@@ -1,0 +1,13 @@
+//! Tests of what the program tells of a file that is checked, of the rules, and of a register, over a runtime of the tests' own.
+#![tactic(auto)]
+
+#[cfg(test)]
+mod explained;
+#[cfg(test)]
+mod json_checks;
+#[cfg(test)]
+mod long_checks;
+#[cfg(test)]
+mod long_faults;
+#[cfg(test)]
+mod told_tables;
