@@ -131,7 +131,7 @@ fn tells_that_the_trailer_is_absent(rt: HostRuntime) -> Result<(), Fail> {
 fn tells_the_length_of_a_line(rt: HostRuntime) -> Result<(), Fail> {
     let alloc = rt.alloc();
     let mut line = String::from_str(alloc, PLAIN[3])?;
-    while line.len() < 4097 {
+    for _ in 0..4097usize.saturating_sub(line.len()) {
         line.push(' ')?;
     }
     expect_told(
