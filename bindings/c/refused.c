@@ -1,0 +1,183 @@
+/* Refuses memory: the n-th request of a run fails, for each n until a run asks for less. Each call must answer so, leave
+ * what it says it leaves, and give all memory back; what it did not refuse must be as in a run that nothing was refused.
+ *
+ *     refused FILE REGISTER
+ *
+ * Linked with -Wl,--wrap=malloc,--wrap=realloc,--wrap=free, so that the requests of the library come here. */
+#include "files.h"
+#include "stamps.h"
+
+void *__real_malloc(size_t size);
+void *__real_realloc(void *at, size_t size);
+void __real_free(void *at);
+
+/* How many requests were made, which of them fails (0: none), how many blocks are held, and whether they count. */
+static size_t asked, fails_at, held;
+static bool counts, failed;
+
+static bool refuses(void) {
+    if (counts && ++asked == fails_at) {
+        failed = true;
+        return true;
+    }
+    return false;
+}
+
+void *__wrap_malloc(size_t size) {
+    void *at = refuses() ? NULL : __real_malloc(size);
+    held += counts && at;
+    return at;
+}
+
+void *__wrap_realloc(void *at, size_t size) {
+    void *moved = refuses() ? NULL : __real_realloc(at, size);
+    held += counts && !at && moved;
+    return moved;
+}
+
+void __wrap_free(void *at) {
+    held -= counts && at;
+    __real_free(at);
+}
+
+enum { ROOM = 1 << 16 };
+static uint8_t room[ROOM], expected[3][ROOM];
+static size_t expected_length[3];
+
+static void must(bool holds, const char *what) {
+    if (!holds) {
+        counts = false;
+        fprintf(stderr, "refused: request %zu: %s\n", fails_at, what);
+        exit(1);
+    }
+}
+
+/* A call is made; its room is filled with 0xA5 before. */
+static void fill(size_t *length) {
+    memset(room, 0xA5, ROOM);
+    *length = 12345;
+    failed = false;
+    counts = true;
+}
+
+/* Whether the room is as it was. */
+static bool is_filled(void) {
+    for (size_t i = 0; i < ROOM; i++)
+        if (room[i] != 0xA5)
+            return false;
+    return true;
+}
+
+/* A call that gives text k has answered. Where it was refused memory all is as it was. Where it was not, the text is that
+ * of the first run, and behind it the room is as it was; `same` is false where the text may be another. */
+static void told(int k, uint32_t status, size_t length, bool same) {
+    counts = false;
+    must((status == PURVILGO_NO_MEMORY) == failed, "want of memory was not told, or told without need");
+    if (status == PURVILGO_NO_MEMORY) {
+        must(length == 12345 && is_filled(), "something was written for want of memory");
+        return;
+    }
+    must(status == PURVILGO_DONE, "the call was not done");
+    if (fails_at == 0) {
+        memcpy(expected[k], room, length);
+        expected_length[k] = length;
+    }
+    must(!same || (length == expected_length[k] && memcmp(room, expected[k], length) == 0), "another text");
+    for (size_t i = length; i < ROOM; i++)
+        must(room[i] == 0xA5, "the room behind the text was written");
+}
+
+static void check(struct bytes file) {
+    size_t length;
+    bool clean = true;
+    uint32_t status;
+    fill(&length);
+    status = purvilgo_check(file.at, file.length, room, ROOM, &length, &clean);
+    told(0, status, length, true);
+    must(clean || !failed, "a check that was refused told something");
+    must(held == 0, "the check kept memory");
+}
+
+static struct purvilgo_outcome acknowledge(struct bytes file, const struct purvilgo_stamp *stamp) {
+    struct purvilgo_outcome outcome;
+    size_t length;
+    uint32_t status;
+    fill(&length);
+    status = purvilgo_acknowledge(file.at, file.length, stamp, room, ROOM, &length, &outcome);
+    counts = false;
+    must(status == PURVILGO_DONE && held == 0, "the acknowledgement kept memory, or was not done");
+    must(failed == (outcome.kind == PURVILGO_STOPPED), "want of memory was not told by the outcome");
+    if (failed) {
+        must(outcome.cause == PURVILGO_FOR_MEMORY || outcome.cause == PURVILGO_FOR_WRITE, "another cause");
+        must(length == 0 && is_filled(), "part of an acknowledgement was written");
+    } else {
+        told(1, status, length, true);
+    }
+    return outcome;
+}
+
+static void tell_line(const struct purvilgo_outcome *outcome) {
+    size_t length;
+    uint32_t status;
+    fill(&length);
+    status = purvilgo_outcome_line((const uint8_t *)"name", 4, outcome, room, ROOM, &length);
+    told(2, status, length, outcome->kind != PURVILGO_STOPPED);
+    must(held == 0, "the line kept memory");
+}
+
+/* What an audit tells in a first run is told in each other, or nothing is. */
+static void audit(struct bytes text) {
+    static uint64_t first_entries;
+    static struct purvilgo_register_fault first_fault;
+    struct purvilgo_register_fault fault = {77, 77};
+    uint64_t entries = 77;
+    uint32_t status;
+    failed = false;
+    counts = true;
+    status = purvilgo_audit(text.at, text.length, &entries, &fault);
+    counts = false;
+    must(held == 0, "the audit kept memory");
+    must((status == PURVILGO_NO_MEMORY) == failed, "an audit was not refused as it is");
+    if (failed) {
+        must(entries == 77 && fault.number == 77 && fault.line == 77, "an audit that was refused told something");
+        return;
+    }
+    must(status == PURVILGO_DONE || status == PURVILGO_FAULTY, "the audit was not done");
+    must(status == PURVILGO_DONE ? fault.number == 77 && fault.line == 77 : entries == 77, "an audit told too much");
+    if (fails_at == 0) {
+        first_entries = entries;
+        first_fault = fault;
+    }
+    must(entries == first_entries && fault.number == first_fault.number && fault.line == first_fault.line,
+         "an audit told something else");
+}
+
+/* Each call once. */
+static void calls(struct bytes file, struct bytes text, const struct purvilgo_stamp *stamp) {
+    struct purvilgo_outcome outcome;
+    check(file);
+    outcome = acknowledge(file, stamp);
+    tell_line(&outcome);
+    audit(text);
+}
+
+int main(int argc, char **argv) {
+    char *words[] = {"0", "CWR REGISTRY", "20240601", "090000"};
+    struct purvilgo_stamp stamp;
+    struct bytes file = argc == 3 ? read_file(argv[1]) : (struct bytes){NULL, 0};
+    struct bytes text = argc == 3 ? read_file(argv[2]) : (struct bytes){NULL, 0};
+    size_t requests;
+    must(file.at && text.at && set_stamp(&stamp, words) == 0, "a file and a register are wanted");
+    calls(file, text, &stamp);
+    requests = asked;
+    must(requests > 0, "no request was counted");
+    for (fails_at = 1; fails_at <= requests; fails_at++) {
+        asked = 0;
+        held = 0;
+        calls(file, text, &stamp);
+    }
+    printf("refused: each of %zu requests\n", requests);
+    free(file.at);
+    free(text.at);
+    return 0;
+}

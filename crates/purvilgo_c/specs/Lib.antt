@@ -1,0 +1,5 @@
+pub mod Answers
+pub mod Stamps
+pub mod Outcomes
+pub mod Files
+pub mod Registers

@@ -1,0 +1,15 @@
+//! Checks, acknowledgements and audits for C, and for all that calls C: bytes in, bytes out, and nothing kept from one
+//! call to the next.
+//!
+//! Each export calls the library below and states what that call does. `include/purvilgo.h` says to its callers what
+//! they have to keep. A call answers one of the [`status`] numbers, and writes its results through references. Where a
+//! text is longer than the room that is given for it, the call tells how long it is and writes none of it.
+#![tactic(auto)]
+
+mod checking;
+mod handing;
+mod one_file;
+mod outcome;
+mod registers;
+mod stamp;
+mod status;

@@ -1,0 +1,39 @@
+ghost use Rattle.std.specs.Prelude.{◌≡◌, ◌≢◌, length, None};
+ghost use Rattle.purvilgo_c.specs.Answers.{bad_stamp, IsTold};
+ghost use Rattle.purvilgo_c.specs.Files.{IsAnswered};
+ghost use Rattle.purvilgo_c.specs.Stamps.{stamp_in};
+
+use crate::handing::hand_out;
+use crate::outcome::{Outcome, numbers_of};
+use crate::stamp::{StampBytes, stamp_of};
+use crate::status::BAD_STAMP;
+use cwr_desk::{Feed, MOST_BYTES, Spool, acknowledge};
+use std::alloc::Global;
+
+/// Acknowledges one file into an empty registry: `outcome` tells what became of it, and its acknowledgement goes to the
+/// front of `out`.
+///
+/// Want of memory for the work is an outcome, as it is of `acknowledge`. `NO_ROOM` where the acknowledgement does not
+/// fit: then `length` and `outcome` are told, and `out` stays as it was. `BAD_STAMP` leaves all three as they were.
+#[unsafe(no_mangle)]
+pub extern "C" fn purvilgo_acknowledge(
+    alloc: Global,
+    file: &[u8],
+    stamp: &StampBytes,
+    out: &mut [u8],
+    length: &mut usize,
+    outcome: &mut Outcome,
+) -> u32
+    ensures answered { result ≢ bad_stamp → IsTold (IsAnswered (stamp_in stamp.now) file.now outcome.new) out.old out.new length.new result }
+    ensures no_stamp { result ≡ bad_stamp → stamp_in stamp.now ≡ None }
+    ensures same { result ≡ bad_stamp → (out.new ≡ out.old) × (length.new ≡ length.old) × (outcome.new ≡ outcome.old) }
+{
+    let Some(stamp) = stamp_of(stamp) else {
+        return BAD_STAMP;
+    };
+    let mut reader = Feed::new(file, MOST_BYTES, None);
+    let mut writer = Spool::new(alloc);
+    let told = acknowledge(alloc, &mut reader, &mut writer, &stamp);
+    *outcome = numbers_of(&told);
+    hand_out(writer.bytes(), out, length)
+}

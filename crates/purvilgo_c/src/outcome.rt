@@ -1,0 +1,173 @@
+ghost use Rattle.std.specs.Prelude.{◌≡◌, ◌≢◌, ◌<◌, ◌^◌, Some, IfSome};
+ghost use Rattle.cwr_engine.specs.declared.outcome.FileOutcome.{FileOutcome};
+ghost use Rattle.cwr_engine.specs.declared.outcome.Why.{Why};
+ghost use Rattle.cwr_engine.specs.OutcomeText.{outcome_line};
+ghost use Rattle.purvilgo_c.specs.Answers.{no_memory, no_outcome, IsGiven};
+ghost use Rattle.purvilgo_c.specs.Outcomes.{numbers_of, cause_of, sent_of};
+
+use crate::handing::hand_out;
+use crate::status::{NO_MEMORY, NO_OUTCOME};
+use cwr_desk::{FileOutcome, Why};
+use std::alloc::Global;
+
+const ACKNOWLEDGED: u32 = 0;
+
+const REFUSED: u32 = 1;
+
+const STOPPED: u32 = 2;
+
+/// How a job ended, as numbers. What a kind does not tell is 0.
+#[repr(C)]
+#[derive(Clone, Copy, PartialEq, Eq)]
+pub struct Outcome {
+    /// 0: acknowledged. 1: refused. 2: stopped.
+    pub kind: u32,
+    /// Refused: the fault, 1 to 12 for F1 to F12.
+    pub fault: u32,
+    /// Refused: the line that has it, from 1.
+    pub line: u64,
+    /// Acknowledged: how many transactions the file has. Stopped: how many were decided.
+    pub transactions: u32,
+    /// Stopped: 1 memory, 2 full, 3 read, 4 too long, 5 gate, 6 write.
+    pub cause: u32,
+    /// Stopped for a write: how many bytes of the acknowledgement were written.
+    pub sent: u64,
+}
+
+/// The numbers of an outcome.
+pub(crate) fn numbers_of(outcome: &FileOutcome) -> Outcome
+    ensures { result ≡ numbers_of outcome.now }
+{
+    let none = Outcome {
+        kind: ACKNOWLEDGED,
+        fault: 0,
+        line: 0,
+        transactions: 0,
+        cause: 0,
+        sent: 0,
+    };
+    match *outcome {
+        FileOutcome::Acked { transactions } => Outcome {
+            transactions,
+            ..none
+        },
+        FileOutcome::Refused { number, line } => Outcome {
+            kind: REFUSED,
+            fault: number as u32,
+            line,
+            ..none
+        },
+        FileOutcome::Stopped { handed, why } => Outcome {
+            kind: STOPPED,
+            transactions: handed,
+            cause: cause_of(why),
+            sent: sent_of(why),
+            ..none
+        },
+    }
+}
+
+fn cause_of(why: Why) -> u32
+    ensures { result ≡ cause_of why }
+{
+    match why {
+        Why::Memory => 1,
+        Why::Full => 2,
+        Why::Read => 3,
+        Why::TooLong => 4,
+        Why::Gate => 5,
+        Why::Write { sent: _ } => 6,
+    }
+}
+
+fn sent_of(why: Why) -> u64
+    ensures { result ≡ sent_of why }
+{
+    match why {
+        Why::Write { sent } => sent,
+        Why::Memory | Why::Full | Why::Read | Why::TooLong | Why::Gate => 0,
+    }
+}
+
+/// The cause with this number.
+fn why_of(cause: u32, sent: u64) -> Option<Why>
+    ensures { (w : Why) → cause ≡ cause_of w → sent ≡ sent_of w → result ≡ Some w }
+{
+    match cause {
+        1 => Some(Why::Memory),
+        2 => Some(Why::Full),
+        3 => Some(Why::Read),
+        4 => Some(Why::TooLong),
+        5 => Some(Why::Gate),
+        6 => Some(Why::Write { sent }),
+        _ => None,
+    }
+}
+
+/// An outcome that may have these numbers: where one has them, it is that.
+fn likely(numbers: &Outcome) -> Option<FileOutcome>
+    ensures { (o : FileOutcome) → numbers.now ≡ numbers_of o → numbers.now.fault < 2 ^ 8 → result ≡ Some o }
+{
+    match numbers.kind {
+        ACKNOWLEDGED => Some(FileOutcome::Acked {
+            transactions: numbers.transactions,
+        }),
+        REFUSED => {
+            if numbers.fault > 255 {
+                return None;
+            }
+            Some(FileOutcome::Refused {
+                number: numbers.fault as u8,
+                line: numbers.line,
+            })
+        }
+        STOPPED => {
+            let why = why_of(numbers.cause, numbers.sent)?;
+            Some(FileOutcome::Stopped {
+                handed: numbers.transactions,
+                why,
+            })
+        }
+        _ => None,
+    }
+}
+
+/// The outcome that has these numbers.
+pub(crate) fn outcome_of(numbers: &Outcome) -> Option<FileOutcome>
+    ensures is { IfSome result (λ o. numbers.now ≡ numbers_of o) }
+    ensures found { (o : FileOutcome) → numbers.now ≡ numbers_of o → numbers.now.fault < 2 ^ 8 → result ≡ Some o }
+{
+    let outcome = likely(numbers)?;
+    if numbers_of(&outcome) == *numbers {
+        Some(outcome)
+    } else {
+        None
+    }
+}
+
+/// The line that tells an outcome: the file's name, a colon, the outcome and LF, at the front of `out`.
+///
+/// `NO_ROOM` where it does not fit, and tells `length`. `NO_MEMORY` and `NO_OUTCOME` (for numbers that no outcome has)
+/// leave both as they were.
+#[unsafe(no_mangle)]
+pub extern "C" fn purvilgo_outcome_line(
+    alloc: Global,
+    name: &[u8],
+    outcome: &Outcome,
+    out: &mut [u8],
+    length: &mut usize,
+) -> u32
+    ensures line { (o : FileOutcome) → outcome.now ≡ numbers_of o → outcome.now.fault < 2 ^ 8 → result ≢ no_memory
+        → IsGiven (outcome_line name.now o) out.old out.new length.new result }
+    ensures no_outcome { result ≡ no_outcome → (o : FileOutcome) → outcome.now ≡ numbers_of o → outcome.now.fault < 2 ^ 8 → ⊥ }
+    ensures same_memory { result ≡ no_memory → (out.new ≡ out.old) × (length.new ≡ length.old) }
+    ensures same_outcome { result ≡ no_outcome → (out.new ≡ out.old) × (length.new ≡ length.old) }
+{
+    let Some(outcome) = outcome_of(outcome) else {
+        return NO_OUTCOME;
+    };
+    match cwr_desk::outcome_line(alloc, name, &outcome) {
+        Ok(line) => hand_out(&line, out, length),
+        Err(_) => NO_MEMORY,
+    }
+}

@@ -1,0 +1,19 @@
+//! What an export answers.
+
+/// The call did what it is for.
+pub const DONE: u32 = 0;
+
+/// The text is longer than the room for it. Its length is told, and nothing else was written.
+pub const NO_ROOM: u32 = 1;
+
+/// The system refused memory. Nothing was written.
+pub const NO_MEMORY: u32 = 2;
+
+/// The stamp is none: its society is above 999, its name has a byte below 32, or its date or its time is none.
+pub const BAD_STAMP: u32 = 3;
+
+/// The text is no register; its first fault is told.
+pub const FAULTY: u32 = 4;
+
+/// The numbers are those of no outcome.
+pub const NO_OUTCOME: u32 = 5;

@@ -1,0 +1,137 @@
+/* Checks, acknowledgements and audits of the registry of musical works, for C and for all that calls C.
+ *
+ * Bytes go in and bytes come out. No call opens a file, starts a thread, prints or waits, and none ends the process.
+ *
+ * What every call asks of its caller:
+ *   - No pointer is null, not even one whose length is 0, and each points at as many bytes as its length says.
+ *   - What a call writes (out, length, clean, outcome, entries, fault) overlaps nothing else that it is given.
+ *   - Bytes that a call reads are written by nobody while it runs.
+ *   - No call is made from a signal handler, nor in the child of a fork of a process that has threads.
+ *   - malloc, realloc and free belong together, and align blocks as C asks for.
+ * Calls on different data may run at once, in as many threads as there are.
+ *
+ * Who frees what: all memory behind these pointers is the caller's. A call frees what it took before it returns, and
+ * nothing is kept from one call to the next.
+ *
+ * Texts: a call that gives a text takes a room, `out` of `out_size` bytes, and tells the text's length in `*length`.
+ * Where the text fits it goes to the front of the room, and what is behind it stays as it was; it has no 0 at its end.
+ * Where it does not, the call answers PURVILGO_NO_ROOM and writes nothing into the room: call again with `*length` bytes.
+ *
+ * The layouts, rules, faults and texts are in docs/PROFILE.md.
+ */
+#ifndef PURVILGO_H
+#define PURVILGO_H
+
+#include <stdbool.h>
+#include <stddef.h>
+#include <stdint.h>
+
+#ifdef __cplusplus
+extern "C" {
+#endif
+
+/* What a call answers. */
+enum {
+    /* It did what it is for. */
+    PURVILGO_DONE = 0,
+    /* The text is longer than the room for it: `*length` is told, and the room stays as it was. */
+    PURVILGO_NO_ROOM = 1,
+    /* The system refused memory: all stays as it was. */
+    PURVILGO_NO_MEMORY = 2,
+    /* The stamp is none: its society is above 999, its name has a byte below 32, or its date or its time is none. */
+    PURVILGO_BAD_STAMP = 3,
+    /* The text is no register of one registry: its first fault is told. */
+    PURVILGO_FAULTY = 4,
+    /* The numbers are those of no outcome. */
+    PURVILGO_NO_OUTCOME = 5
+};
+
+/* What became of a file. */
+enum {
+    /* Each transaction was decided, and the acknowledgement was written whole. */
+    PURVILGO_ACKNOWLEDGED = 0,
+    /* The file is not well-formed: nothing was decided, and nothing written. */
+    PURVILGO_REFUSED = 1,
+    /* So many transactions were decided, and then it stopped. */
+    PURVILGO_STOPPED = 2
+};
+
+/* Why it stopped. purvilgo_acknowledge stops for memory (also as PURVILGO_FOR_WRITE, where there was none for the
+ * acknowledgement) or for the file's length. The others are those of jobs of other kinds, of which
+ * purvilgo_outcome_line tells the line too. */
+enum {
+    PURVILGO_FOR_MEMORY = 1,
+    PURVILGO_FOR_FULL_BOOK = 2,
+    PURVILGO_FOR_READ = 3,
+    /* The file has more than 16,777,216 bytes. */
+    PURVILGO_FOR_LENGTH = 4,
+    PURVILGO_FOR_GATE = 5,
+    PURVILGO_FOR_WRITE = 6
+};
+
+/* What became of a file, in numbers. What does not belong to its kind is 0. */
+struct purvilgo_outcome {
+    /* PURVILGO_ACKNOWLEDGED, PURVILGO_REFUSED or PURVILGO_STOPPED. */
+    uint32_t kind;
+    /* Refused: the file's first fault, 1 to 12 for F1 to F12. */
+    uint32_t fault;
+    /* Refused: the line that has it, from 1. */
+    uint64_t line;
+    /* Acknowledged: how many transactions the file has. Stopped: how many were decided. */
+    uint32_t transactions;
+    /* Stopped: PURVILGO_FOR_MEMORY to PURVILGO_FOR_WRITE. */
+    uint32_t cause;
+    /* Stopped for a write: how many bytes of the acknowledgement were written. */
+    uint64_t sent;
+};
+
+/* Who acknowledges, and when. No field has a 0 at its end. */
+struct purvilgo_stamp {
+    /* The society's number (CISAC), at most 999. */
+    uint16_t society;
+    /* Its name, filled with blanks at the right, without a byte below 32. */
+    uint8_t name[45];
+    /* The date, as YYYYMMDD. */
+    uint8_t date[8];
+    /* The time, as HHMMSS. */
+    uint8_t time[6];
+};
+
+/* Where a register is at fault. */
+struct purvilgo_register_fault {
+    /* 1 to 4 for G1 to G4. */
+    uint32_t number;
+    /* The line that has it, from 1. */
+    uint64_t line;
+};
+
+/* Checks a submission file, without a registry. The text is that of `purvilgo check`: a line for each transaction and a
+ * last one with their number, or the file's first fault. `*clean` tells whether the file is well-formed and none of its
+ * transactions has a fault. It is told with PURVILGO_NO_ROOM too.
+ * Answers PURVILGO_DONE, PURVILGO_NO_ROOM or PURVILGO_NO_MEMORY. */
+uint32_t purvilgo_check(const uint8_t *file, size_t file_length, uint8_t *out, size_t out_size, size_t *length,
+                        bool *clean);
+
+/* Acknowledges one file into an empty registry. The text is the acknowledgement file: none of a file that is refused or
+ * stopped. What became of the file stands in `*outcome`, with PURVILGO_NO_ROOM too; want of memory for the work stands
+ * there.
+ * Answers PURVILGO_DONE, PURVILGO_NO_ROOM, or PURVILGO_BAD_STAMP, which leaves all as it was. */
+uint32_t purvilgo_acknowledge(const uint8_t *file, size_t file_length, const struct purvilgo_stamp *stamp, uint8_t *out,
+                              size_t out_size, size_t *length, struct purvilgo_outcome *outcome);
+
+/* Audits a register: hands each call in anew, and compares each reply.
+ * Answers PURVILGO_DONE, and tells in `*entries` how many it has; PURVILGO_FAULTY, and tells in `*fault` the first fault
+ * of a text that is no register of one registry; or PURVILGO_NO_MEMORY. What is not told stays as it was. */
+uint32_t purvilgo_audit(const uint8_t *text, size_t text_length, uint64_t *entries,
+                        struct purvilgo_register_fault *fault);
+
+/* Tells an outcome as `purvilgo run` prints it: the file's name, a colon, the outcome and LF.
+ * Answers PURVILGO_DONE, PURVILGO_NO_ROOM, PURVILGO_NO_MEMORY, or PURVILGO_NO_OUTCOME, which leaves all as it was. */
+uint32_t purvilgo_outcome_line(const uint8_t *name, size_t name_length, const struct purvilgo_outcome *outcome,
+                               uint8_t *out, size_t out_size, size_t *length);
+
+#ifdef __cplusplus
+}
+#endif
+
+#endif
