@@ -1,15 +1,13 @@
 ghost use Rattle.std.specs.Prelude.{◌≡◌, ◌==◌, ◌++◌, IsTrue, IfOk, OnOk};
 ghost use Rattle.std.specs.List.{flat_map, AllByRecursion};
-ghost use Rattle.std.specs.Fmt.{decimal};
 ghost use Rattle.cwr_grammar.specs.RawParts.{IsPlaced};
 ghost use Rattle.cwr_call.specs.Lawful.{is_clean};
 ghost use Rattle.cwr_check.specs.CheckText.{fault_text, verdict_text, place_text, transaction_line, has_faults, faulty_count, total_line, check_lines};
 
 use cwr_call::Fault;
-use cwr_field::{Memory, put_digits};
+use cwr_field::{Memory, put_decimal, put_digits};
 use cwr_grammar::{RawTransaction, Transactions};
 use cwr_rules::judge;
-use itoa::Buffer;
 use std::alloc::Allocator;
 
 /// Appends a line for each transaction, in order, and a last line with their numbers. Answers whether none has a fault.
@@ -31,7 +29,7 @@ pub(crate) fn put_check<A: Allocator + Copy>(
             faulty += 1;
         }
     }
-    put_total(out, all, faulty)?;
+    put_total(out, all as u64, faulty)?;
     Ok(faulty == 0)
 }
 
@@ -97,26 +95,19 @@ fn put_fault<A: Allocator>(out: &mut Vec<u8, A>, fault: &Fault) -> Result<(), Me
     put_decimal(out, fault.number as u64)
 }
 
-/// Appends how many transactions a file has, and how many of them have faults.
-fn put_total<A: Allocator>(
+/// Appends the last line of a check: how many transactions a file has, and how many of them have faults.
+///
+/// A refusal may leave a part of the line.
+pub fn put_total<A: Allocator>(
     out: &mut Vec<u8, A>,
-    transactions: usize,
-    faulty: usize,
+    transactions: u64,
+    faulty: u64,
 ) -> Result<(), Memory>
     ensures { OnOk result (out.new.items ≡ out.old.items ++ total_line transactions faulty) }
 {
-    put_decimal(out, transactions as u64)?;
+    put_decimal(out, transactions)?;
     out.extend_from_slice(b" transactions, ")?;
-    put_decimal(out, faulty as u64)?;
+    put_decimal(out, faulty)?;
     out.extend_from_slice(b" with faults\n")?;
-    Ok(())
-}
-
-/// Appends a number without leading zeros.
-fn put_decimal<A: Allocator>(out: &mut Vec<u8, A>, number: u64) -> Result<(), Memory>
-    ensures { OnOk result (out.new.items ≡ out.old.items ++ decimal number) }
-{
-    let mut digits = Buffer::new();
-    out.extend_from_slice(digits.format(number).as_bytes())?;
     Ok(())
 }

@@ -4,5 +4,6 @@
 mod check_lines;
 mod checking;
 
+pub use check_lines::put_total;
 pub use checking::{Checked, check_text};
 pub use cwr_field::Memory;

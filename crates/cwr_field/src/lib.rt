@@ -2,8 +2,8 @@
 //! (ISWC), interested party numbers and texts.
 //!
 //! A line is read by [`cut`], which gives a [`Field`], and each kind of value has one reader of a field:
-//! [`digits`], [`share`], [`date`], [`time`], [`iswc`], [`party`]. [`put_digits`] and [`put_text`] write fields;
-//! [`last_digits`] gives them as an array, [`filled`] fills a text with blanks, and [`is_printable`] tells whether it has no control byte.
+//! [`digits`], [`share`], [`date`], [`time`], [`iswc`], [`party`]. [`put_digits`] and [`put_text`] write fields,
+//! [`put_decimal`] numbers between words; [`last_digits`] gives them as an array, [`filled`] fills a text with blanks, and [`is_printable`] tells whether it has no control byte.
 //! Positions are counted from 1, as in the CWR manual.
 #![tactic(auto)]
 
@@ -24,7 +24,7 @@ pub use day::{Day, date};
 pub use field::{Field, cut, is_blank, party};
 pub use memory::Memory;
 pub use number::{
-    LEAST_WHOLE, MOST_COUNT, MOST_WHOLE, WHOLE, digits, last_digits, put_digits, share,
+    LEAST_WHOLE, MOST_COUNT, MOST_WHOLE, WHOLE, digits, last_digits, put_decimal, put_digits, share,
 };
 pub use text::{LEAST_PRINTABLE, filled, is_printable, put_text};
 pub use work_code::{MOST_CODE, check_digit, iswc};

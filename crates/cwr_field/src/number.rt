@@ -1,9 +1,11 @@
 ghost use Rattle.std.specs.Prelude.{◌≡◌, ◌≤◌, ◌<◌, ◌^◌, ◌+◌, ◌++◌, IfSome, OnOk, OnErr, length, vec_len, vec_capacity};
+ghost use Rattle.std.specs.Fmt.{decimal};
 ghost use Rattle.cwr_field.specs.Number.{number_of, number_text};
 ghost use Rattle.cwr_field.specs.Share.{share_of, whole};
 
 use crate::field::Field;
 use crate::memory::Memory;
+use itoa::Buffer;
 use std::alloc::Allocator;
 
 /// All of a right, in hundredths of one per cent.
@@ -100,5 +102,19 @@ pub fn put_digits<A: Allocator>(
     let mut digits = [b'0'; 18];
     fill(&mut digits[..width], value);
     out.extend_from_slice(&digits[..width])?;
+    Ok(())
+}
+
+/// Appends a number in decimal digits, without leading zeros.
+///
+/// A refusal leaves the vector as it was.
+pub fn put_decimal<A: Allocator>(out: &mut Vec<u8, A>, number: u64) -> Result<(), Memory>
+    ensures ok { OnOk result (out.new.items ≡ out.old.items ++ decimal number) }
+    ensures err { OnErr result (out.new.items ≡ out.old.items) }
+    // Memory is answered only where there was no room.
+    ensures full { OnErr result (vec_capacity out.old < vec_len out.old + length (decimal number)) }
+{
+    let mut digits = Buffer::new();
+    out.extend_from_slice(digits.format(number).as_bytes())?;
     Ok(())
 }

@@ -1,7 +1,7 @@
 //! Values of the CWR 2.2 manual, of ISO 15707 and of the calendar.
 use crate::{
-    Iswc, Memory, check_digit, cut, date, digits, is_blank, iswc, party, put_digits, put_text,
-    share, time,
+    Iswc, Memory, check_digit, cut, date, digits, is_blank, iswc, party, put_decimal, put_digits,
+    put_text, share, time,
 };
 use std::test::Fail;
 
@@ -137,7 +137,12 @@ fn writes_fields(rt: HostRuntime) -> Result<(), Fail> {
     put_text(&mut out, b"AB", 4)?;
     put_digits(&mut out, 999999999999999999, 18)?;
     put_text(&mut out, b"", 1)?;
-    assert_eq!(rt; out.as_slice(), b"00042AB  999999999999999999 ".as_slice());
+    put_decimal(&mut out, 0)?;
+    put_decimal(&mut out, 18446744073709551615)?;
+    assert_eq!(rt;
+        out.as_slice(),
+        b"00042AB  999999999999999999 018446744073709551615".as_slice()
+    );
     assert_eq!(rt; format!(in rt.alloc(); "{Memory}")?.as_str(), "memory");
     Ok(())
 }
