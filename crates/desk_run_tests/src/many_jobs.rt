@@ -3,8 +3,8 @@
 use cwr_desk::{Book, Entry, FileOutcome, OpenGate, Why};
 use cwr_sheets::{ALL, file, miscounted, one_answer, plain_file, same, work, writer};
 use desk_runs::{
-    ACKED, MemoryRun, accepted, expect_ends, expect_history, expect_written, run_at_desk, unread,
-    with_room,
+    ACKED, MemoryRun, accepted, expect_ends, expect_history, expect_written, run_at_desk,
+    run_whole_files, unread, with_room,
 };
 use std::alloc::Global;
 use std::sync::Wait;
@@ -23,19 +23,6 @@ fn files(alloc: Global) -> Result<Vec<Vec<u8>>, Fail> {
         files.push(file(alloc, sender.as_str(), "NWR", 1, &lines)?)?;
     }
     Ok(files)
-}
-
-/// Works all files at once, each with room for the acknowledgement of one work, at an empty book of 100 entries.
-fn serve_all<'a, T: Threads + Wait + Sync>(
-    rt: &T,
-    alloc: Global,
-    files: &'a [Vec<u8>],
-) -> Result<MemoryRun<'a>, Fail> {
-    let mut inputs = Vec::new(alloc);
-    for file in files {
-        inputs.push(with_room(file, 425))?;
-    }
-    run_at_desk(rt, alloc, Book::new(alloc, 100), &inputs, &OpenGate)
 }
 
 /// How many of the entries are of this session and this submitter.
@@ -72,7 +59,7 @@ fn expect_all_63(alloc: Global, run: &MemoryRun) -> Result<(), Fail> {
 fn jobs_of_63_submitters(rt: HostRuntime) -> Result<(), Fail> {
     let alloc = rt.alloc();
     let files = files(alloc)?;
-    let run = serve_all(&rt, alloc, &files)?;
+    let run = run_whole_files(&rt, alloc, Book::new(alloc, 100), &files, 425, &OpenGate)?;
     expect_all_63(alloc, &run)
 }
 

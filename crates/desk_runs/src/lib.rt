@@ -7,4 +7,4 @@ mod runs;
 
 pub use ends::{ACKED, accepted, expect_ends, expect_history, expect_run, expect_written};
 pub use jobs::{Input, MemoryRun, unread, whole, with_room};
-pub use runs::{run_at_desk, run_in_turn};
+pub use runs::{run_at_desk, run_in_turn, run_whole_files};

@@ -3,12 +3,11 @@ ghost use Rattle.std.specs.Prelude.{true};
 
 use cwr_desk::{Book, FileOutcome, Gate, Shut, audit};
 use cwr_sheets::{many_works, same};
-use desk_runs::{MemoryRun, expect_ends, run_at_desk, with_room};
+use desk_runs::{MemoryRun, expect_ends, run_whole_files};
 use std::alloc::Global;
-use std::sync::Wait;
 use std::sync::atomic::{AtomicU64, Ordering};
 use std::test::Fail;
-use std::thread::{Threads, yield_now};
+use std::thread::yield_now;
 
 /// How many works each file has.
 const WORKS: u32 = 40;
@@ -49,22 +48,6 @@ fn files(alloc: Global) -> Result<Vec<Vec<u8>>, Fail> {
     Ok(files)
 }
 
-/// Works all files at once, at an empty book with room for all.
-fn serve_all<'a, T: Threads + Wait + Sync>(
-    rt: &T,
-    alloc: Global,
-    files: &'a [Vec<u8>],
-) -> Result<MemoryRun<'a>, Fail> {
-    let mut inputs = Vec::new(alloc);
-    for file in files {
-        inputs.push(with_room(file, 100_000))?;
-    }
-    let gate = AllCome {
-        come: AtomicU64::new(0),
-    };
-    run_at_desk(rt, alloc, Book::new(alloc, 2520), &inputs, &gate)
-}
-
 /// All works of each file have their entries, half of which are works, and an audit finds the register right.
 fn expect_all(alloc: Global, run: &MemoryRun) -> Result<(), Fail> {
     let whole = FileOutcome::Acked {
@@ -89,7 +72,11 @@ fn expect_all(alloc: Global, run: &MemoryRun) -> Result<(), Fail> {
 
 #[test]
 fn sixty_three_workers_at_once(rt: HostRuntime) -> Result<(), Fail> {
-    let files = files(rt.alloc())?;
-    let run = serve_all(&rt, rt.alloc(), &files)?;
-    expect_all(rt.alloc(), &run)
+    let alloc = rt.alloc();
+    let files = files(alloc)?;
+    let gate = AllCome {
+        come: AtomicU64::new(0),
+    };
+    let run = run_whole_files(&rt, alloc, Book::new(alloc, 2520), &files, 100_000, &gate)?;
+    expect_all(alloc, &run)
 }
