@@ -1,8 +1,10 @@
-//! A register that is kept: its file is replaced whole, and only then the acknowledgements of its entries take their
-//! names.
+//! A register that is kept: it is read as the book that a run begins with; and its file is replaced whole, and only then
+//! the acknowledgements of its entries take their names.
 #![tactic(auto)]
 
 mod keeping;
+mod reading;
 
 pub use cwr_field::Memory;
 pub use keeping::{RegisterNotKept, keep_register};
+pub use reading::{MOST_REGISTER_BYTES, NoBook, new_book, read_book};

@@ -6,28 +6,12 @@ ghost use Rattle.work_registry.specs.Replay.{is_opening};
 
 use crate::files::{InputFile, bytes_of};
 use crate::status::no_memory;
-use byte_streams::{ReadRefused, read_file};
-use cwr_desk::MOST_ENTRIES;
 use kept_file::{CallFailed, Exclusive, FileNames, lock, takes_draft};
+pub use kept_register::MOST_REGISTER_BYTES;
+use kept_register::{new_book, read_book};
 use std::process::ExitCode;
 use std::rt::Files;
-use work_registry::{Book, RegisterRefusal, audit, read_register};
-
-/// The most bytes of a register.
-pub const MOST_REGISTER_BYTES: usize = 68_719_476_736;
-
-/// The bytes of a file that a register is to lie in.
-fn register_bytes<R: AllocGlobal + Eprint + Files>(
-    rt: &R,
-    path: &str,
-    verbose: bool,
-) -> Result<Vec<u8>, ReadRefused> {
-    read_file(
-        rt.alloc(),
-        &mut InputFile::new(rt, path, verbose),
-        MOST_REGISTER_BYTES,
-    )
-}
+use work_registry::{Book, RegisterRefusal, audit};
 
 /// The book that a run begins with: an empty one, or that of a register. A refused register is told on standard error.
 pub(crate) fn opening_book<R: AllocGlobal + Eprint + Files>(
@@ -39,7 +23,7 @@ pub(crate) fn opening_book<R: AllocGlobal + Eprint + Files>(
     ensures limit { IfSome result (λ book. book.limit ≡ most_entries) }
 {
     match from {
-        None => Some(Book::new(rt.alloc(), MOST_ENTRIES)),
+        None => Some(new_book(rt.alloc())),
         Some(path) => book_in(rt, path, verbose),
     }
 }
@@ -49,23 +33,12 @@ fn book_in<R: AllocGlobal + Eprint + Files>(rt: &R, path: &str, verbose: bool) -
     ensures opening { IfSome result (λ book. is_opening book.history ≡ true) }
     ensures limit { IfSome result (λ book. book.limit ≡ most_entries) }
 {
-    let bytes = match register_bytes(rt, path, verbose) {
-        Ok(bytes) => bytes,
-        Err(unread) => {
-            let _ = eprintln!(rt; "register: stopped: {unread}");
-            return None;
-        }
-    };
-    match read_register(rt.alloc(), &bytes, MOST_ENTRIES) {
+    match read_book(rt.alloc(), &mut InputFile::new(rt, path, verbose)) {
         Ok(book) => {
             if verbose {
                 let _ = eprintln!(rt; "{path}: register read, {} entries", book.len());
             }
             Some(book)
-        }
-        Err(RegisterRefusal::Memory) => {
-            let _ = eprintln!(rt; "register: stopped: memory");
-            None
         }
         Err(refusal) => {
             let _ = eprintln!(rt; "register: {refusal}");

@@ -1,0 +1,70 @@
+ghost use Rattle.std.specs.Prelude.{◌≡◌, ◌<◌, [], true, false, length, IsTrue, IfOk, IfSome, IsErrOf};
+ghost use Rattle.work_registry.specs.History.{IsHistory};
+ghost use Rattle.work_registry.specs.Numbers.{most_entries};
+ghost use Rattle.work_registry.specs.Register.{register_text};
+ghost use Rattle.work_registry.specs.RegisterFaults.{IsRefusal};
+ghost use Rattle.work_registry.specs.Replay.{is_opening};
+ghost use Rattle.work_registry.specs.declared.register.refusal.RegisterRefusal.{RegisterRefusal};
+ghost use Rattle.kept_register.specs.declared.reading.NoBook.{NoBook};
+
+use byte_streams::{ReadRefused, Source, read_file};
+use cwr_field::MOST_COUNT;
+use std::alloc::Allocator;
+use thiserror::Error;
+use work_registry::{Book, RegisterRefusal, read_register};
+
+/// The most bytes of a register.
+pub const MOST_REGISTER_BYTES: usize = 68_719_476_736;
+
+/// Why no book was read.
+#[derive(Clone, Copy, Debug, PartialEq, Eq, Error)]
+pub enum NoBook {
+    /// Memory was refused.
+    #[error("stopped: memory")]
+    Memory,
+    /// A read failed.
+    #[error("stopped: read")]
+    Read,
+    /// There are more bytes than [`MOST_REGISTER_BYTES`].
+    #[error("stopped: too long")]
+    TooLong,
+    /// The bytes are no register: its first fault.
+    #[error("{0}")]
+    Refused(RegisterRefusal),
+}
+
+/// An empty book that takes entries up to the last number, 99,999,999.
+pub fn new_book<A: Allocator + Copy + Drop>(alloc: A) -> Book<A>
+    ensures empty { result.history ≡ [] }
+    ensures limit { result.limit ≡ most_entries }
+{
+    Book::new(alloc, MOST_COUNT)
+}
+
+/// The book of the register that a reader gives. All its entries are of the opening, session 0, and it takes more up to
+/// the last number, 99,999,999.
+pub fn read_book<S: Source, A: Allocator + Copy + Drop>(
+    alloc: A,
+    reader: &mut S,
+) -> Result<Book<A>, NoBook>
+    requires { S.has_failed reader.old ≡ false }
+    ensures text { IfOk result (λ book. IfSome (S.left reader.old) (λ bytes. bytes ≡ register_text book.history)) }
+    ensures lawful { IfOk result (λ book. IsHistory book.history) }
+    ensures opening { IfOk result (λ book. IsTrue (is_opening book.history)) }
+    ensures limit { IfOk result (λ book. book.limit ≡ most_entries) }
+    ensures fault { (r : RegisterRefusal) → IsErrOf result (NoBook.Refused r) → IfSome (S.left reader.old) (λ bytes. IsRefusal most_entries bytes r) }
+    ensures too_long { IsErrOf result NoBook.TooLong → IfSome (S.left reader.old) (λ bytes. 68719476736 < length bytes) }
+    ensures failed { IsErrOf result NoBook.Read → S.has_failed reader.new ≡ true }
+{
+    let bytes = match read_file(alloc, reader, MOST_REGISTER_BYTES) {
+        Ok(bytes) => bytes,
+        Err(ReadRefused::Memory) => return Err(NoBook::Memory),
+        Err(ReadRefused::Read) => return Err(NoBook::Read),
+        Err(ReadRefused::TooLong) => return Err(NoBook::TooLong),
+    };
+    match read_register(alloc, &bytes, MOST_COUNT) {
+        Ok(book) => Ok(book),
+        Err(RegisterRefusal::Memory) => Err(NoBook::Memory),
+        Err(refusal) => Err(NoBook::Refused(refusal)),
+    }
+}
