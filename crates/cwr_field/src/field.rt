@@ -62,7 +62,10 @@ impl Field<'_> {
         requires { length self.now ≡ N }
         ensures { result ≡ self.now }
     {
-        filled(self.bytes)
+        match self.bytes.first_chunk::<N>() {
+            Some(bytes) => *bytes,
+            None => filled(self.bytes),
+        }
     }
 
     /// Whether each byte is a blank.
