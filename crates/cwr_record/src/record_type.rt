@@ -1,5 +1,6 @@
-ghost use Rattle.std.specs.Prelude.{◌≡◌, if◌then◌else◌};
+ghost use Rattle.std.specs.Prelude.{◌≡◌, ◌+◌, ◌*◌, slice_index, if◌then◌else◌};
 ghost use Rattle.std.specs.List.{list_all};
+ghost use Rattle.std.specs.Str.{bytes_eq};
 ghost use Rattle.std.specs.Char.{is_ascii_uppercase};
 ghost use Rattle.cwr_record.specs.RecordTypes.{type_of, is_other};
 ghost use Rattle.cwr_record.specs.Parties.{has_ownership, has_collection};
@@ -73,37 +74,37 @@ pub fn type_of(line: &[u8]) -> RecordType
     ensures { result ≡ type_of line.now }
 {
     let name = field_at(line, RecordType::COLUMN).bytes::<3>();
-    if name == *b"NWR" {
+    if are_same(&name, b"NWR") {
         RecordType::Nwr
-    } else if name == *b"REV" {
+    } else if are_same(&name, b"REV") {
         RecordType::Rev
-    } else if name == *b"SPU" {
+    } else if are_same(&name, b"SPU") {
         RecordType::Spu
-    } else if name == *b"SPT" {
+    } else if are_same(&name, b"SPT") {
         RecordType::Spt
-    } else if name == *b"OPU" {
+    } else if are_same(&name, b"OPU") {
         RecordType::Opu
-    } else if name == *b"SWR" {
+    } else if are_same(&name, b"SWR") {
         RecordType::Swr
-    } else if name == *b"SWT" {
+    } else if are_same(&name, b"SWT") {
         RecordType::Swt
-    } else if name == *b"PWR" {
+    } else if are_same(&name, b"PWR") {
         RecordType::Pwr
-    } else if name == *b"OWR" {
+    } else if are_same(&name, b"OWR") {
         RecordType::Owr
-    } else if name == *b"ALT" {
+    } else if are_same(&name, b"ALT") {
         RecordType::Alt
-    } else if name == *b"XRF" {
+    } else if are_same(&name, b"XRF") {
         RecordType::Xrf
-    } else if name == *b"HDR" {
+    } else if are_same(&name, b"HDR") {
         RecordType::Hdr
-    } else if name == *b"GRH" {
+    } else if are_same(&name, b"GRH") {
         RecordType::Grh
-    } else if name == *b"GRT" {
+    } else if are_same(&name, b"GRT") {
         RecordType::Grt
-    } else if name == *b"TRL" {
+    } else if are_same(&name, b"TRL") {
         RecordType::Trl
-    } else if name == *b"ACK" {
+    } else if are_same(&name, b"ACK") {
         RecordType::Ack
     } else if is_other(&name) {
         RecordType::Other
@@ -112,11 +113,25 @@ pub fn type_of(line: &[u8]) -> RecordType
     }
 }
 
+/// Three bytes as one number, the first of them the highest.
+fn packed(name: &[u8; 3]) -> u32
+    ensures { result ≡ slice_index name.now 0 * 65536 + slice_index name.now 1 * 256 + slice_index name.now 2 }
+{
+    name[0] as u32 * 65536 + name[1] as u32 * 256 + name[2] as u32
+}
+
+/// Whether two names have the same bytes. They are compared as one number each.
+fn are_same(one: &[u8; 3], other: &[u8; 3]) -> bool
+    ensures { result ≡ bytes_eq one.now other.now }
+{
+    packed(one) == packed(other)
+}
+
 /// Whether a name is that of another transaction's header.
 fn is_other(name: &[u8; 3]) -> bool
     ensures { result ≡ is_other name.now }
 {
-    *name == *b"AGR" || *name == *b"ISW" || *name == *b"EXC"
+    are_same(name, b"AGR") || are_same(name, b"ISW") || are_same(name, b"EXC")
 }
 
 /// The type of a record that has no layout here.
