@@ -84,7 +84,8 @@ impl Field<'_> {
     }
 }
 
-fn are_blank(bytes: &[u8]) -> bool
+/// Whether each byte is a blank.
+pub(crate) fn are_blank(bytes: &[u8]) -> bool
     ensures { result ≡ is_blank bytes.now }
 {
     bytes.iter().all(|byte| *byte == b' ')

@@ -3,7 +3,7 @@ ghost use Rattle.std.specs.Fmt.{decimal};
 ghost use Rattle.cwr_field.specs.Number.{number_of, number_text};
 ghost use Rattle.cwr_field.specs.Share.{share_of, whole};
 
-use crate::field::Field;
+use crate::field::{Field, are_blank};
 use crate::memory::Memory;
 use itoa::Buffer;
 use std::alloc::Allocator;
@@ -53,10 +53,11 @@ pub fn share(text: Field) -> Option<u16>
     ensures value { result ≡ share_of text.entry }
     ensures bound { IfSome result (λ n. n ≤ whole) }
 {
-    if text.is_blank() {
+    let bytes = text.bytes::<5>();
+    if are_blank(&bytes) {
         return Some(0);
     }
-    match digits(text) {
+    match number_in(&bytes) {
         Some(number) if number <= WHOLE => Some(number as u16),
         _ => None,
     }
