@@ -3,7 +3,7 @@ use Rattle.std.proofs.Common.{◌≡◌, ℕ, zero, suc, ◌+◌, ◌-◌, ◌�
 use Rattle.std.specs.List.{position_or_len, position}
 use Rattle.std.proofs.lemmas.Simd.{bitmask_splat, leading_from_mask_l, trailing_mask_l, run_in_chunk_fails, run_in_chunk_stops}
 use Rattle.std.proofs.lemmas.List.{length-take, length-drop}
-use Rattle.std.proofs.lemmas.List.Sums.{position_or_len_is}
+use Rattle.std.proofs.lemmas.List.Sums.{position_or_len_is, prefix_len-le-length}
 use Rattle.std.proofs.lemmas.Bool.Decides.{nat_tests}
 use Rattle.std.proofs.lemmas.Bool.{cases_lt, not-false}
 use Rattle.std.proofs.Common.{eq-eqb, leb, not}
@@ -64,6 +64,16 @@ stops_at text at lt small before = let h : is_control (get_or text at 0) ≡ tru
 
 pub stops_after : (text : List ℕ) (at : ℕ) → at ≤ length text → length text ≤ at → ((k : ℕ) → k < at → is_control (get_or text k 0) ≡ false) → at ≡ position_or_len is_control text
 stops_after text at le ge before = sym (position_or_len_is is_control text at 0 le before (λ lt. absurd (omega (arith, lt, ge))))
+
+-- what the last 32 bytes say, where no byte before them is a control byte
+pub last_is : (text : List ℕ) (start n : ℕ) → start + 32 ≡ length text → n ≡ position_or_len is_control (take 32 (drop start text)) → ((k : ℕ) → k + 32 < length text → is_control (get_or text k 0) ≡ false)
+    → start + n ≡ position_or_len is_control text
+last_is text start n whole is before =
+    let le : start + 32 ≤ length text = omega (arith, whole) in
+    let short : position_or_len is_control (take 32 (drop start text)) ≤ length (take 32 (drop start text)) = prefix_len-le-length (λ b. not (is_control b)) (take 32 (drop start text)) in
+    let front : (k : ℕ) → k < start → is_control (get_or text k 0) ≡ false = λ k lt. before k (omega (arith, whole, lt)) in
+    sym (position_or_len_is is_control text (start + n) 0 (omega (arith, le, is, short, chunk_length text start le)) (λ k lt. passes_before text start n (λ j low high. run_in_chunk_fails is_control text start 32 n 0 le is j low high) front k lt)
+    (λ lt. run_in_chunk_stops is_control text start 32 n 0 le is (omega (arith, lt, whole))))
 
 -- ---- the end of a line at the first control byte
 

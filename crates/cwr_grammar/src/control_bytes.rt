@@ -1,4 +1,4 @@
-ghost use Rattle.std.specs.Prelude.{◌≡◌, ◌+◌, ◌≤◌, length, take, drop};
+ghost use Rattle.std.specs.Prelude.{◌≡◌, ◌+◌, ◌≤◌, ◌<◌, ℕ, false, length, take, drop, slice_index};
 ghost use Rattle.std.specs.List.{position_or_len};
 ghost use Rattle.cwr_field.specs.Layout.{is_control};
 
@@ -28,8 +28,21 @@ pub(crate) fn first_control(text: &[u8]) -> usize
         }
         at += 32;
     }
+    if text.len() >= 32 {
+        return last_control(text);
+    }
     while at < text.len() && text[at] >= LEAST_PRINTABLE {
         at += 1;
     }
     at
+}
+
+/// The index of the first control byte of a text of at least 32 bytes that has none but in its last 32, or the length.
+fn last_control(text: &[u8]) -> usize
+    requires long { 32 ≤ length text.now }
+    requires before { (k : ℕ) → k + 32 < length text.now → is_control (slice_index text.now k) ≡ false }
+    ensures { result ≡ position_or_len is_control text.now }
+{
+    let start = text.len() - 32;
+    start + before_control(text, start) as usize
 }
