@@ -19,7 +19,8 @@ use Rattle.work_registry.specs.Indexes.{newer}
 use Rattle.register_tables.specs.declared.works.KeptWork.{KeptWork}
 use Rattle.register_tables.specs.ClaimsTable.{is_current, is_version_of}
 use Rattle.register_tables.specs.declared.wanted.Wanted.{Wanted}
-use Rattle.register_tables.specs.WorksTable.{AreKept, blank_work, grown, is_claim_on, is_on, is_wanted_work, kept_of, noted, wanted_line, work_line}
+use Rattle.register_tables.specs.WorksTable.{is_claim_on, is_on, is_wanted_work, kept_of, wanted_line, work_line}
+use Rattle.register_tables.specs.Gathered.{AreKept, blank_work, grown, noted}
 
 pub rows_of-more : (entries : List EntryValue) (e : EntryValue) → rows_of (entries ++ e ∷ []) ≡ rows_of entries ++ rows_of_entry e.call e.reply
 rows_of-more [] e = append-nil (rows_of_entry e.call e.reply)

@@ -3,3 +3,4 @@ pub mod Wanted
 pub mod ClaimsTable
 pub mod HistoryTable
 pub mod WorksTable
+pub mod Gathered

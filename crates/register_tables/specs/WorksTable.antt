@@ -1,15 +1,11 @@
 -- The table of the works.
-use Rattle.std.specs.Prelude.{ℕ, ◌==◌, ◌&&◌, ◌≡◌, ◌+◌, ◌-◌, ◌^◌, ◌<◌, Bool, false, List, [], ◌∷◌, ◌++◌, Option, Some, None, codes, count_by, filter, if◌then◌else◌, IsTrue, length, max, min, nat_le, nat_lt, slice_index, slice_index_or, slice_set}
+use Rattle.std.specs.Prelude.{ℕ, ◌==◌, ◌&&◌, Bool, false, List, [], ◌∷◌, ◌++◌, Option, Some, None, codes, count_by, filter, if◌then◌else◌, max, slice_index}
 use Rattle.std.specs.List.{flat_map, range_with_len}
 use Rattle.std.specs.Fmt.{decimal}
-use Rattle.cwr_call.specs.Lawful.{is_iswc}
-use Rattle.work_registry.specs.declared.reply.Reply.{Reply}
-use Rattle.work_registry.specs.declared.reply.Reply.TheVariants.{Accepted, Duplicate, Conflict, Rejected}
 use Rattle.work_registry.specs.EntryValue.{EntryValue}
 use Rattle.work_registry.specs.Rows.{Row, rows_of}
 use Rattle.work_registry.specs.Works.{control_of, iswc_of}
 use Rattle.work_registry.specs.Told.{work_in}
-use Rattle.work_registry.specs.Indexes.{newer}
 use Rattle.register_tables.specs.declared.wanted.Wanted.{Wanted}
 use Rattle.register_tables.specs.declared.works.KeptWork.{KeptWork}
 use Rattle.register_tables.specs.Rows.{csv_line, iswc_field}
@@ -73,30 +69,6 @@ work_lines wanted history =
 -- a header line, and these lines
 abbrev pub works_text : Wanted → List EntryValue → List ℕ
 works_text wanted history = csv_line works_header ++ work_lines wanted history
-
--- What is gathered of the works, entry by entry, with the claims that are current after all rows.
-
--- nothing yet
-abbrev pub blank_work : KeptWork
-blank_work = record { iswc = None; claims = 0 }
-
--- one entry more on a work, with this ISWC, which made a current claim or did not
-abbrev pub grown : KeptWork → Option ℕ → Bool → KeptWork
-grown kept iswc current = record { iswc = newer iswc kept.iswc; claims = if current then min (kept.claims + 1) (2 ^ 64 - 1) else kept.claims }
-
--- the works after one entry more
-abbrev pub noted : List KeptWork → Option ℕ → Bool → Reply → List KeptWork
-noted works iswc current (Accepted work version) =
-    if nat_lt 0 work && nat_le work (length works) then slice_set works (work - 1) (grown (slice_index_or works (work - 1) blank_work) iswc current) else works
-noted works iswc current (Duplicate work) = works
-noted works iswc current (Conflict work) = works
-noted works iswc current Rejected = works
-
--- so many works are kept as these entries say
-pub record AreKept (rows : List Row) (count : ℕ) (entries : List EntryValue) (works : List KeptWork) : Type 0 where
-  pub size : length works ≡ count
-  pub each : (w : ℕ) (d : KeptWork) → w < length works → slice_index_or works w d ≡ kept_of rows (w + 1) entries
-  pub codes : (w : ℕ) (d : KeptWork) → w < length works → IsTrue (is_iswc (slice_index_or works w d).iswc)
 
 -- the line of a work, where it is wanted
 abbrev pub wanted_line : Wanted → ℕ → KeptWork → List ℕ → List ℕ

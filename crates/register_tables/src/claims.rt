@@ -5,14 +5,14 @@ ghost use Rattle.std.specs.List.{flat_map};
 ghost use Rattle.std.specs.Io.KnownBytes.{Appends};
 ghost use Rattle.csv.specs.Writing.{text_written};
 ghost use Rattle.work_registry.specs.Rows.{rows_of};
-ghost use Rattle.register_tables.specs.Rows.{csv_line, IsAtRow};
+ghost use Rattle.register_tables.specs.Rows.{csv_line, iswc_field, IsAtRow};
 ghost use Rattle.register_tables.specs.ClaimsTable.{is_current, claims_header, claim_fields, claim_line, is_listed, claims_text};
 
-use crate::rows::{Unwritten, ended, iswc_field, number_field, put_row, rows_to};
+use crate::rows::{Unwritten, ended, number_field, put_row, rows_to, set_iswc};
 use crate::wanted::{Wanted, is_wanted};
 use csv::Writer;
 use itoa::Buffer;
-use std::alloc::Global;
+use std::alloc::Allocator;
 use std::io::Write;
 use work_registry::{Book, Entry};
 
@@ -22,10 +22,10 @@ use work_registry::{Book, Entry};
 /// the registry's number of the work, the version, the work title, the ISWC of the transaction or nothing, and the control of the
 /// performing, the mechanical and the synchronization right in hundredths of one per cent. Texts stand as the register has
 /// them, blanks included. A line ends with LF.
-pub fn claims_text<W: Write + Drop>(
-    alloc: Global,
+pub fn claims_text<W: Write + Drop, A: Allocator + Copy + Drop>(
+    alloc: A,
     to: W,
-    book: &Book,
+    book: &Book<A>,
     wanted: &Wanted,
 ) -> Result<W, Unwritten>
     ensures { IfOk result (λ told. Appends (W.contents to) (W.contents told) (claims_text wanted.now book.now.history)) }
@@ -57,44 +57,46 @@ fn put_header<W: Write + Drop>(out: &mut Writer<W>) -> Result<(), Unwritten>
     )
 }
 
-fn put_claims<W: Write + Drop>(
-    alloc: Global,
+fn put_claims<W: Write + Drop, A: Allocator + Copy + Drop>(
+    alloc: A,
     out: &mut Writer<W>,
-    book: &Book,
+    book: &Book<A>,
     wanted: &Wanted,
 ) -> Result<(), Unwritten>
     requires { IsAtRow out.old }
     ensures ready { OnOk result (IsAtRow out.new) }
     ensures text { OnOk result (Appends (text_written W.contents out.old) (text_written W.contents out.new) (flat_map claim_line (filter (is_listed wanted.now (rows_of book.now.history)) book.now.history))) }
 {
+    let mut iswc = Vec::new(alloc);
     let entries = book.history();
     for entry in entries {
-        put_listed(alloc, out, book, entry, wanted)?;
+        put_listed(out, book, entry, wanted, &mut iswc)?;
     }
     Ok(())
 }
 
-/// Writes the claim that an entry made, where it is in force and wanted.
+/// Writes the claim that an entry made, where it is in force and wanted. `iswc` is room for a field.
 #[tactic(auto, using(crate::proofs::Steps::nothing))]
-fn put_listed<W: Write + Drop>(
-    alloc: Global,
+fn put_listed<W: Write + Drop, A: Allocator + Copy + Drop>(
     out: &mut Writer<W>,
-    book: &Book,
-    entry: &Entry,
+    book: &Book<A>,
+    entry: &Entry<A>,
     wanted: &Wanted,
+    iswc: &mut Vec<u8, A>,
 ) -> Result<(), Unwritten>
     requires { IsAtRow out.old }
     ensures ready { OnOk result (IsAtRow out.new) }
     ensures text { OnOk result (Appends (text_written W.contents out.old) (text_written W.contents out.new) (if is_listed wanted.now (rows_of book.now.history) entry.now then claim_line entry.now else [])) }
 {
     if is_current(book, entry) && is_wanted(wanted, entry) {
-        put_claim(alloc, out, entry)?;
+        set_iswc(iswc, entry.call().iswc())?;
+        put_claim(out, entry, iswc)?;
     }
     Ok(())
 }
 
 /// Whether an entry made the claim in force under its key.
-pub(crate) fn is_current(book: &Book, entry: &Entry) -> bool
+pub(crate) fn is_current<A: Allocator + Copy + Drop>(book: &Book<A>, entry: &Entry<A>) -> bool
     ensures { result ≡ is_current (rows_of book.now.history) entry.now }
 {
     let call = entry.call();
@@ -107,12 +109,14 @@ pub(crate) fn is_current(book: &Book, entry: &Entry) -> bool
     }
 }
 
-fn put_claim<W: Write + Drop>(
-    alloc: Global,
+/// Writes the claim that an entry made, with its ISWC's field.
+fn put_claim<W: Write + Drop, A: Allocator>(
     out: &mut Writer<W>,
-    entry: &Entry,
+    entry: &Entry<A>,
+    iswc: &[u8],
 ) -> Result<(), Unwritten>
-    requires { IsAtRow out.old }
+    requires ready { IsAtRow out.old }
+    requires iswc { iswc.now ≡ iswc_field entry.now.call.iswc }
     ensures ready { OnOk result (IsAtRow out.new) }
     ensures text { OnOk result (Appends (text_written W.contents out.old) (text_written W.contents out.new) (claim_line entry.now)) }
 {
@@ -124,7 +128,6 @@ fn put_claim<W: Write + Drop>(
     );
     let (call, reply) = (entry.call(), entry.reply());
     let (submitter, number, title) = (call.submitter(), call.number(), call.title());
-    let iswc = iswc_field(alloc, call.iswc())?;
     let control = call.control();
     put_row(
         out,
@@ -134,7 +137,7 @@ fn put_claim<W: Write + Drop>(
             number_field(&mut work, reply.work()),
             number_field(&mut version, reply.version()),
             &title,
-            &iswc,
+            iswc,
             performing.format(control[0]).as_bytes(),
             mechanical.format(control[1]).as_bytes(),
             synchronization.format(control[2]).as_bytes(),

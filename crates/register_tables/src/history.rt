@@ -3,18 +3,25 @@
 ghost use Rattle.std.specs.Prelude.{◌≡◌, ◌++◌, ◌<◌, ◌^◌, IfOk, OnOk};
 ghost use Rattle.std.specs.Io.KnownBytes.{Appends};
 ghost use Rattle.csv.specs.Writing.{text_written};
-ghost use Rattle.register_tables.specs.Rows.{csv_line, IsAtRow};
+ghost use Rattle.register_tables.specs.Rows.{csv_line, iswc_field, IsAtRow};
 ghost use Rattle.register_tables.specs.HistoryTable.{fault_text, more_fault_text, faults_field, history_header, entry_fields, entry_row, entry_rows, history_text};
 ghost use Rattle.std.specs.List.{flat_map};
 ghost use Rattle.std.specs.Fmt.{decimal};
 
-use crate::rows::{Unwritten, ended, iswc_field, number_field, put_row, rows_to};
+use crate::rows::{Unwritten, ended, number_field, put_row, rows_to, set_iswc};
 use crate::wanted::{Wanted, is_wanted};
 use csv::Writer;
 use itoa::Buffer;
-use std::alloc::{AllocError, Global};
+use std::alloc::{AllocError, Allocator};
 use std::io::Write;
 use work_registry::{Book, Entry, Fault};
+
+/// Room for the fields of an entry that are put together.
+#[derive(Drop)]
+struct Texts<A: Allocator + Drop> {
+    iswc: Vec<u8, A>,
+    faults: Vec<u8, A>,
+}
 
 /// Writes the entries of a book that are wanted, in order, and gives back what it wrote to.
 ///
@@ -23,10 +30,10 @@ use work_registry::{Book, Entry, Fault};
 /// synchronization right in hundredths of one per cent, the status `AS`, `DU`, `CO` or `RJ`, the registry's number of the work
 /// (nothing with `RJ`), the version (with `AS` alone), and the faults, each as record sequence, colon, `J` and number, with
 /// a blank between two. Texts stand as the register has them, blanks included. A line ends with LF.
-pub fn history_text<W: Write + Drop>(
-    alloc: Global,
+pub fn history_text<W: Write + Drop, A: Allocator + Copy + Drop>(
+    alloc: A,
     to: W,
-    book: &Book,
+    book: &Book<A>,
     wanted: &Wanted,
 ) -> Result<W, Unwritten>
     ensures { IfOk result (λ told. Appends (W.contents to) (W.contents told) (history_text wanted.now book.now.history)) }
@@ -62,48 +69,58 @@ fn put_header<W: Write + Drop>(out: &mut Writer<W>) -> Result<(), Unwritten>
     )
 }
 
-fn put_entries<W: Write + Drop>(
-    alloc: Global,
+fn put_entries<W: Write + Drop, A: Allocator + Copy + Drop>(
+    alloc: A,
     out: &mut Writer<W>,
-    entries: &[Entry],
+    entries: &[Entry<A>],
     wanted: &Wanted,
 ) -> Result<(), Unwritten>
     requires { IsAtRow out.old }
     ensures ready { OnOk result (IsAtRow out.new) }
     ensures text { OnOk result (Appends (text_written W.contents out.old) (text_written W.contents out.new) (entry_rows wanted.now 1 entries.now)) }
 {
+    let mut texts = Texts {
+        iswc: Vec::new(alloc),
+        faults: Vec::new(alloc),
+    };
     for (before, entry) in entries.iter().enumerate() {
-        put_wanted(alloc, out, before as u64 + 1, entry, wanted)?;
+        put_wanted(out, before as u64 + 1, entry, wanted, &mut texts)?;
     }
     Ok(())
 }
 
 /// Writes an entry, where it is wanted.
 #[tactic(auto, using(crate::proofs::Steps::nothing))]
-fn put_wanted<W: Write + Drop>(
-    alloc: Global,
+fn put_wanted<W: Write + Drop, A: Allocator + Copy + Drop>(
     out: &mut Writer<W>,
     index: u64,
-    entry: &Entry,
+    entry: &Entry<A>,
     wanted: &Wanted,
+    texts: &mut Texts<A>,
 ) -> Result<(), Unwritten>
     requires { IsAtRow out.old }
     ensures ready { OnOk result (IsAtRow out.new) }
     ensures text { OnOk result (Appends (text_written W.contents out.old) (text_written W.contents out.new) (entry_row wanted.now index entry.now)) }
 {
     if is_wanted(wanted, entry) {
-        put_entry(alloc, out, index, entry)?;
+        set_iswc(&mut texts.iswc, entry.call().iswc())?;
+        set_faults(&mut texts.faults, entry.call().faults())?;
+        put_entry(out, index, entry, &texts.iswc, &texts.faults)?;
     }
     Ok(())
 }
 
-fn put_entry<W: Write + Drop>(
-    alloc: Global,
+/// Writes an entry, with the fields of its ISWC and of its faults.
+fn put_entry<'t, W: Write + Drop, A: Allocator>(
     out: &mut Writer<W>,
     index: u64,
-    entry: &Entry,
+    entry: &Entry<A>,
+    iswc: &'t [u8],
+    faults: &'t [u8],
 ) -> Result<(), Unwritten>
-    requires { IsAtRow out.old }
+    requires ready { IsAtRow out.old }
+    requires iswc { iswc.now ≡ iswc_field entry.now.call.iswc }
+    requires faults { faults.now ≡ faults_field entry.now.call.faults }
     ensures ready { OnOk result (IsAtRow out.new) }
     ensures text { OnOk result (Appends (text_written W.contents out.old) (text_written W.contents out.new) (csv_line (entry_fields index entry.now))) }
 {
@@ -115,41 +132,46 @@ fn put_entry<W: Write + Drop>(
     );
     let (call, reply) = (entry.call(), entry.reply());
     let (submitter, number, title) = (call.submitter(), call.number(), call.title());
-    let iswc = iswc_field(alloc, call.iswc())?;
+    let (kind, status) = (*call.kind().code(), *reply.status().code());
     let control = call.control();
-    let faults = faults_field(alloc, call.faults())?;
     put_row(
         out,
         &[
             place.format(index).as_bytes(),
             &submitter,
-            call.kind().code(),
+            &kind,
             &number,
             &title,
-            &iswc,
+            iswc,
             performing.format(control[0]).as_bytes(),
             mechanical.format(control[1]).as_bytes(),
             synchronization.format(control[2]).as_bytes(),
-            reply.status().code(),
+            &status,
             number_field(&mut work, reply.work()),
             number_field(&mut version, reply.version()),
-            &faults,
+            faults,
         ],
     )
 }
 
-/// The faults of a call, with a blank between two.
-fn faults_field(alloc: Global, faults: &[Fault]) -> Result<Vec<u8>, Unwritten>
-    ensures { IfOk result (λ text. text.items ≡ faults_field faults.now) }
+/// Makes a text the faults of a call, with a blank between two.
+fn set_faults<A: Allocator + Copy + Drop>(
+    text: &mut Vec<u8, A>,
+    faults: &[Fault],
+) -> Result<(), Unwritten>
+    ensures { OnOk result (text.new.items ≡ faults_field faults.now) }
 {
-    let mut text = Vec::new(alloc);
-    match put_faults(&mut text, faults) {
-        Ok(()) => Ok(text),
+    text.clear();
+    match put_faults(text, faults) {
+        Ok(()) => Ok(()),
         Err(_) => Err(Unwritten::Memory),
     }
 }
 
-fn put_faults(out: &mut Vec<u8>, faults: &[Fault]) -> Result<(), AllocError>
+fn put_faults<A: Allocator + Copy + Drop>(
+    out: &mut Vec<u8, A>,
+    faults: &[Fault],
+) -> Result<(), AllocError>
     ensures { OnOk result (out.new.items ≡ out.old.items ++ faults_field faults.now) }
 {
     let Some((first, others)) = faults.split_first() else {
@@ -159,7 +181,10 @@ fn put_faults(out: &mut Vec<u8>, faults: &[Fault]) -> Result<(), AllocError>
     put_more_faults(out, others)
 }
 
-fn put_more_faults(out: &mut Vec<u8>, faults: &[Fault]) -> Result<(), AllocError>
+fn put_more_faults<A: Allocator + Copy + Drop>(
+    out: &mut Vec<u8, A>,
+    faults: &[Fault],
+) -> Result<(), AllocError>
     ensures { OnOk result (out.new.items ≡ out.old.items ++ flat_map more_fault_text faults.now) }
 {
     for fault in faults {
@@ -169,7 +194,10 @@ fn put_more_faults(out: &mut Vec<u8>, faults: &[Fault]) -> Result<(), AllocError
     Ok(())
 }
 
-fn put_fault(out: &mut Vec<u8>, fault: &Fault) -> Result<(), AllocError>
+fn put_fault<A: Allocator + Copy + Drop>(
+    out: &mut Vec<u8, A>,
+    fault: &Fault,
+) -> Result<(), AllocError>
     ensures { OnOk result (out.new.items ≡ out.old.items ++ fault_text fault.now) }
 {
     put_decimal(out, fault.sequence as u64)?;
@@ -178,7 +206,10 @@ fn put_fault(out: &mut Vec<u8>, fault: &Fault) -> Result<(), AllocError>
 }
 
 /// Appends a number without leading zeros.
-fn put_decimal(out: &mut Vec<u8>, number: u64) -> Result<(), AllocError>
+fn put_decimal<A: Allocator + Copy + Drop>(
+    out: &mut Vec<u8, A>,
+    number: u64,
+) -> Result<(), AllocError>
     ensures { OnOk result (out.new.items ≡ out.old.items ++ decimal number) }
 {
     let mut digits = Buffer::new();

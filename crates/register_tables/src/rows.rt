@@ -10,7 +10,7 @@ use csv::{Writer, WriterBuilder};
 use cwr_field::Memory;
 use cwr_record::{Piece, put_line};
 use itoa::Buffer;
-use std::alloc::Global;
+use std::alloc::Allocator;
 use std::io::Write;
 
 /// Why a table was not written whole.
@@ -66,17 +66,20 @@ pub(crate) fn number_field(digits: &mut Buffer, number: Option<u32>) -> &[u8]
     }
 }
 
-/// The eleven bytes of an ISWC, or an empty field.
-pub(crate) fn iswc_field(alloc: Global, iswc: Option<u64>) -> Result<Vec<u8>, Unwritten>
+/// Makes a text the eleven bytes of an ISWC, or an empty field.
+pub(crate) fn set_iswc<A: Allocator + Copy + Drop>(
+    text: &mut Vec<u8, A>,
+    iswc: Option<u64>,
+) -> Result<(), Unwritten>
     requires { IsTrue (is_iswc iswc) }
-    ensures { IfOk result (λ text. text.items ≡ iswc_field iswc) }
+    ensures { OnOk result (text.new.items ≡ iswc_field iswc) }
 {
-    let mut text = Vec::new(alloc);
+    text.clear();
     if iswc.is_some() {
-        match put_line(&mut text, &[Piece::Code(iswc)]) {
+        match put_line(text, &[Piece::Code(iswc)]) {
             Ok(()) => {}
             Err(Memory) => return Err(Unwritten::Memory),
         }
     }
-    Ok(text)
+    Ok(())
 }

@@ -2,6 +2,7 @@ ghost use Rattle.std.specs.Prelude.{◌≡◌, None};
 ghost use Rattle.register_tables.specs.Wanted.{fits_number, fits_text, fits_status, is_wanted};
 
 use cwr_record::Status;
+use std::alloc::Allocator;
 use work_registry::Entry;
 
 /// Which entries a table is of: those that fit in all that is given.
@@ -32,7 +33,7 @@ impl Wanted {
 }
 
 /// Whether an entry fits in all that is asked for.
-pub(crate) fn is_wanted(wanted: &Wanted, entry: &Entry) -> bool
+pub(crate) fn is_wanted<A: Allocator>(wanted: &Wanted, entry: &Entry<A>) -> bool
     ensures { result ≡ is_wanted wanted.now entry.now }
 {
     fits_number(wanted.work, entry.reply().work())

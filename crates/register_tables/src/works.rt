@@ -6,15 +6,16 @@ ghost use Rattle.csv.specs.Writing.{text_written};
 ghost use Rattle.cwr_call.specs.Lawful.{is_iswc};
 ghost use Rattle.work_registry.specs.Rows.{Row, rows_of};
 ghost use Rattle.work_registry.specs.Works.{control_of};
-ghost use Rattle.register_tables.specs.Rows.{csv_line, IsAtRow};
-ghost use Rattle.register_tables.specs.WorksTable.{AreKept, blank_work, grown, last_work, noted, wanted_line, work_fields, work_lines, works_header, works_text};
+ghost use Rattle.register_tables.specs.Rows.{csv_line, iswc_field, IsAtRow};
+ghost use Rattle.register_tables.specs.WorksTable.{last_work, wanted_line, work_fields, work_lines, works_header, works_text};
+ghost use Rattle.register_tables.specs.Gathered.{AreKept, blank_work, grown, noted};
 
 use crate::claims::is_current;
-use crate::rows::{Unwritten, ended, iswc_field, put_row, rows_to};
+use crate::rows::{Unwritten, ended, put_row, rows_to, set_iswc};
 use crate::wanted::{Wanted, fits_number};
 use csv::Writer;
 use itoa::Buffer;
-use std::alloc::{AllocError, Global};
+use std::alloc::{AllocError, Allocator};
 use std::io::Write;
 use work_registry::{Book, Entry, Reply};
 
@@ -32,10 +33,10 @@ struct KeptWork {
 /// Of what is wanted the number of the work counts alone. A header line comes first. A work is a line of its number, its ISWC or
 /// nothing, its control of the performing, the mechanical and the synchronization right in hundredths of one per cent, and
 /// the number of current claims on it. A line ends with LF.
-pub fn works_text<W: Write + Drop>(
-    alloc: Global,
+pub fn works_text<W: Write + Drop, A: Allocator + Copy + Drop>(
+    alloc: A,
     to: W,
-    book: &Book,
+    book: &Book<A>,
     wanted: &Wanted,
 ) -> Result<W, Unwritten>
     ensures { IfOk result (λ told. Appends (W.contents to) (W.contents told) (works_text wanted.now book.now.history)) }
@@ -50,7 +51,10 @@ pub fn works_text<W: Write + Drop>(
 }
 
 /// What the entries of a book say of each work, in the order of their numbers.
-fn kept_works(alloc: Global, book: &Book) -> Result<Vec<KeptWork>, AllocError>
+fn kept_works<A: Allocator + Copy + Drop>(
+    alloc: A,
+    book: &Book<A>,
+) -> Result<Vec<KeptWork, A>, AllocError>
     ensures kept { IfOk result (λ works. AreKept (rows_of book.now.history) (last_work (rows_of book.now.history)) book.now.history works.items) }
     ensures few { IfOk result (λ works. length works.items < 2 ^ 32) }
 {
@@ -63,7 +67,10 @@ fn kept_works(alloc: Global, book: &Book) -> Result<Vec<KeptWork>, AllocError>
 }
 
 /// So many works, of which nothing is known.
-fn blank_works(alloc: Global, count: u32) -> Result<Vec<KeptWork>, AllocError>
+fn blank_works<A: Allocator + Copy + Drop>(
+    alloc: A,
+    count: u32,
+) -> Result<Vec<KeptWork, A>, AllocError>
     ensures { (rows : List Row) → IfOk result (λ works. AreKept rows count [] works.items) }
 {
     Vec::from_elem(
@@ -77,7 +84,7 @@ fn blank_works(alloc: Global, count: u32) -> Result<Vec<KeptWork>, AllocError>
 }
 
 /// The greatest number that was given to a work, or 0.
-fn last_work(entries: &[Entry]) -> u32
+fn last_work<A: Allocator>(entries: &[Entry<A>]) -> u32
     ensures { result ≡ last_work (rows_of entries.now) }
 {
     let mut last = 0;
@@ -90,7 +97,7 @@ fn last_work(entries: &[Entry]) -> u32
 }
 
 /// Notes an entry at its work, if it was accepted; `current` is whether it made the claim in force.
-fn note(works: &mut Vec<KeptWork>, entry: &Entry, current: bool)
+fn note<A: Allocator + Copy + Drop>(works: &mut Vec<KeptWork, A>, entry: &Entry<A>, current: bool)
     ensures noted { works.new.items ≡ noted works.old.items entry.now.call.iswc current entry.now.reply }
     ensures code { IsTrue (is_iswc entry.now.call.iswc) }
 {
@@ -138,10 +145,10 @@ fn put_header<W: Write + Drop>(out: &mut Writer<W>) -> Result<(), Unwritten>
     )
 }
 
-fn put_works<W: Write + Drop>(
-    alloc: Global,
+fn put_works<W: Write + Drop, A: Allocator + Copy + Drop>(
+    alloc: A,
     out: &mut Writer<W>,
-    book: &Book,
+    book: &Book<A>,
     works: &[KeptWork],
     wanted: &Wanted,
 ) -> Result<(), Unwritten>
@@ -151,21 +158,23 @@ fn put_works<W: Write + Drop>(
     ensures ready { OnOk result (IsAtRow out.new) }
     ensures text { OnOk result (Appends (text_written W.contents out.old) (text_written W.contents out.new) (work_lines wanted.now book.now.history)) }
 {
+    let mut iswc = Vec::new(alloc);
     for before in 0..works.len() {
-        put_wanted(alloc, out, book, before as u32 + 1, works[before], wanted)?;
+        let work = before as u32 + 1;
+        put_wanted(out, book, work, works[before], wanted, &mut iswc)?;
     }
     Ok(())
 }
 
-/// Writes a work, where it is wanted.
+/// Writes a work, where it is wanted. `iswc` is room for a field.
 #[tactic(auto, using(crate::proofs::Steps::nothing))]
-fn put_wanted<W: Write + Drop>(
-    alloc: Global,
+fn put_wanted<W: Write + Drop, A: Allocator + Copy + Drop>(
     out: &mut Writer<W>,
-    book: &Book,
+    book: &Book<A>,
     work: u32,
     kept: KeptWork,
     wanted: &Wanted,
+    iswc: &mut Vec<u8, A>,
 ) -> Result<(), Unwritten>
     requires ready { IsAtRow out.old }
     requires iswc { IsTrue (is_iswc kept.iswc) }
@@ -173,20 +182,22 @@ fn put_wanted<W: Write + Drop>(
     ensures text { OnOk result (Appends (text_written W.contents out.old) (text_written W.contents out.new) (wanted_line wanted.now work kept (control_of work (rows_of book.now.history)))) }
 {
     if fits_number(wanted.work, Some(work)) {
-        put_work(alloc, out, work, kept, book.control_of(work))?;
+        set_iswc(iswc, kept.iswc)?;
+        put_work(out, work, kept, book.control_of(work), iswc)?;
     }
     Ok(())
 }
 
+/// Writes a work, with its ISWC's field.
 fn put_work<W: Write + Drop>(
-    alloc: Global,
     out: &mut Writer<W>,
     work: u32,
     kept: KeptWork,
     control: [u64; 3],
+    iswc: &[u8],
 ) -> Result<(), Unwritten>
     requires ready { IsAtRow out.old }
-    requires iswc { IsTrue (is_iswc kept.iswc) }
+    requires iswc { iswc.now ≡ iswc_field kept.iswc }
     ensures ready { OnOk result (IsAtRow out.new) }
     ensures text { OnOk result (Appends (text_written W.contents out.old) (text_written W.contents out.new) (csv_line (work_fields work kept control))) }
 {
@@ -196,12 +207,11 @@ fn put_work<W: Write + Drop>(
         Buffer::new(),
         Buffer::new(),
     );
-    let iswc = iswc_field(alloc, kept.iswc)?;
     put_row(
         out,
         &[
             number.format(work as u64).as_bytes(),
-            &iswc,
+            iswc,
             performing.format(control[0]).as_bytes(),
             mechanical.format(control[1]).as_bytes(),
             synchronization.format(control[2]).as_bytes(),

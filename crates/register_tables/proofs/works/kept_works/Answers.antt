@@ -2,18 +2,19 @@ use Rattle.std.proofs.Common.{◌≡◌, ◌<◌, ◌-◌, ◌^◌, ◌∙◌, �
 use Rattle.std.proofs.lemmas.List.{length-take, take_more}
 use Rattle.work_registry.specs.EntryValue.{EntryValue}
 use Rattle.work_registry.specs.Rows.{Row, rows_of}
-use Rattle.register_tables.specs.WorksTable.{AreKept, last_work}
+use Rattle.register_tables.specs.WorksTable.{last_work}
+use Rattle.register_tables.specs.Gathered.{AreKept}
 use Rattle.register_tables.proofs.WorkRows.{kept_more}
 use Rattle.register_tables.proofs.works.kept_works.Goals as goal
 
 pub loop-entry-init : goal.loop-entry-init
-loop-entry-init c =
+loop-entry-init g c =
     let rows : List Row = rows_of c.args.book.now.history in
     let count : c.last_work.result ≡ last_work rows = c.last_work.ensures ∙ ap (λ (entries : List EntryValue). last_work (rows_of entries)) c.history-entries.ensures.entries in
     subst (λ (n : ℕ). AreKept rows n [] c.in_ok-works.works.items) count (c.in_ok-works.ensures rows)
 
 pub loop-entry-preserved : goal.loop-entry-preserved
-loop-entry-preserved c =
+loop-entry-preserved g c =
     let rows : List Row = rows_of c.args.book.now.history in
     let entries : List EntryValue = c.history-entries.result.now in
     let i : ℕ = c.loop-entry.entry-index in

@@ -2,7 +2,8 @@ use Rattle.std.proofs.Common.{◌+◌, ◌-◌, ℕ, List, Option, length, filte
 use Rattle.std.specs.List.{flat_map, range_with_len}
 use Rattle.csv.specs.Writing.{text_written}
 use Rattle.work_registry.specs.EntryValue.{EntryValue}
-use Rattle.register_tables.specs.WorksTable.{blank_work, is_wanted_work, work_line, work_lines}
+use Rattle.register_tables.specs.WorksTable.{is_wanted_work, work_line, work_lines}
+use Rattle.register_tables.specs.Gathered.{blank_work}
 use Rattle.register_tables.proofs.Steps.{IsPart, gone_on}
 use Rattle.register_tables.proofs.WorkRows.{next_work}
 use Rattle.register_tables.proofs.works.put_works.Goals as goal
