@@ -1,2 +1,3 @@
 mod Blanks
+mod EightDigits
 pub mod lemmas
