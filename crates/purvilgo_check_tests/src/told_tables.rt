@@ -1,4 +1,4 @@
-//! What `claims`, `works` and `history` tell of a register.
+//! What `claims`, `works`, `history` and `summary` tell of a register.
 
 use program_runs::{Fake, FakeFile, expect_program};
 use std::process::ExitCode;
@@ -32,10 +32,18 @@ const CONFLICT: &str =
 const REJECTED: &str =
     "3,PB000000456,REV,W7            ,SONG ONE                                                    ,,5000,5000,5000,RJ,,,0:J4\n";
 
+const SUMMARY: &str =
+    "entries: 3\naccepted (AS): 1\nduplicates (DU): 0\nconflicts (CO): 1\nrejected (RJ): 1\n\
+works: 1\ncurrent claims: 1\nsubmitters: 2\n\
+works by what is left of the performing right:\n  none: 0\n  up to a quarter: 0\n  up to a half: 1\n  more than a half: 0\n  all: 0\n\
+works by what is left of the mechanical right:\n  none: 0\n  up to a quarter: 0\n  up to a half: 1\n  more than a half: 0\n  all: 0\n\
+works by what is left of the synchronization right:\n  none: 0\n  up to a quarter: 0\n  up to a half: 1\n  more than a half: 0\n  all: 0\n\
+largest conflicts:\n  work 1: 1\n";
+
 #[test]
 fn tells_tables(rt: HostRuntime) -> Result<(), Fail> {
     let files = [("register", FakeFile::Holds(REGISTER))];
-    let cases: [(&[&str], &[&str]); 14] = [
+    let cases: [(&[&str], &[&str]); 15] = [
         (&["purvilgo", "claims", "register"], &[CLAIMS, CLAIM]),
         (&["purvilgo", "works", "register"], &[WORKS, WORK]),
         (
@@ -99,6 +107,7 @@ fn tells_tables(rt: HostRuntime) -> Result<(), Fail> {
             &["purvilgo", "history", "--status", "DU", "register"],
             &[HISTORY],
         ),
+        (&["purvilgo", "summary", "register"], &[SUMMARY]),
     ];
     for (words, lines) in cases {
         let mut wanted = Vec::new(rt.alloc());
@@ -129,7 +138,7 @@ fn tells_no_table_of_a_refused_register(rt: HostRuntime) -> Result<(), Fail> {
         ("misplaced", FakeFile::Holds(b"REG00000001\n")),
         ("broken", FakeFile::Broken),
     ];
-    for command in ["audit", "claims", "works", "history"] {
+    for command in ["audit", "claims", "works", "history", "summary"] {
         for (name, printed, complained) in [
             ("misplaced", "refused G2 at line 2\n", ""),
             ("broken", "", "stopped: read\n"),

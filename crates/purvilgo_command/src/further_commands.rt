@@ -1,9 +1,12 @@
-//! The command lines of `explain` and of the tables. They stand apart, so that the list of commands that the reader prints for
+//! The command lines of `explain`, of the tables and of the summary. They stand apart, so that the list of commands that the reader prints for
 //! `--help`, its other texts and its guesses stay as they were.
 
 use crate::explain::{explain_command, explain_rules};
 use crate::status::bad_words;
-use crate::tables::{Table, claims_command, history_command, tell_table, works_command};
+use crate::tables::{
+    Table, claims_command, history_command, summary_command, tell_summary, tell_table,
+    works_command,
+};
 use clap::{ArgMatches, Command};
 use std::alloc::{AllocError, Global};
 use std::process::ExitCode;
@@ -15,7 +18,7 @@ pub(crate) fn names_further(words: &[String]) -> bool {
         return false;
     };
     match word.as_str() {
-        "explain" | "claims" | "works" | "history" => true,
+        "explain" | "claims" | "works" | "history" | "summary" => true,
         _ => false,
     }
 }
@@ -26,7 +29,8 @@ pub(crate) fn further_line<'a>(alloc: Global) -> Result<Command<'a>, AllocError>
         .subcommand(explain_command(alloc)?)?
         .subcommand(claims_command(alloc)?)?
         .subcommand(works_command(alloc)?)?
-        .subcommand(history_command(alloc)?)
+        .subcommand(history_command(alloc)?)?
+        .subcommand(summary_command(alloc)?)
 }
 
 /// Runs the one that the words name.
@@ -40,6 +44,7 @@ pub(crate) fn run_further<R: AllocGlobal + Input + Print + Eprint + Files>(
         ("claims", Some(path)) => tell_table(rt, Table::Claims, path, given),
         ("works", Some(path)) => tell_table(rt, Table::Works, path, given),
         ("history", Some(path)) => tell_table(rt, Table::History, path, given),
+        ("summary", Some(path)) => tell_summary(rt, path, given),
         _ => bad_words(rt, "the command line is not taken"),
     }
 }

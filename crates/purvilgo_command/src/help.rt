@@ -21,6 +21,7 @@ fn page_of(command: &str) -> Option<&'static str> {
         "claims" => Some(CLAIMS),
         "works" => Some(WORKS),
         "history" => Some(HISTORY),
+        "summary" => Some(SUMMARY),
         _ => None,
     }
 }
@@ -41,6 +42,7 @@ Commands:
   claims   tells the current claims of a register, in CSV
   works    tells the works of a register, in CSV
   history  tells every entry of a register, in CSV
+  summary  tells how much of what is in a register
   help     prints this page, or the page of a command
 
 Options:
@@ -218,4 +220,27 @@ Status: 0 told; 2 the words are not taken, or help; 1 else.
 
 Example:
   purvilgo history --status RJ 0042.register
+";
+
+const SUMMARY: &str = "\
+Tells how much of what is in a register, as a page to read.
+
+Usage: purvilgo summary [OPTIONS] REGISTER
+
+Options:
+  -v, --verbose  tell steps and the system's reasons on standard error
+  -h, --help     the words in short
+
+Reads: REGISTER, or standard input where REGISTER is -.
+Writes: on standard output how many entries there are, and how many with each status; how
+many works, current claims, and submitters of entries; for each right the works by what is
+left of it; and the ten works with the most conflicts. Or the register's first fault.
+Left: what the claims on a work leave of 100 per cent: none, up to 25, up to 50, more than
+that, and all.
+Conflicts: the most first, and of as many the lower number of the work first. A work
+without any is not told.
+Status: 0 told; 2 the words are not taken, or help; 1 else.
+
+Example:
+  purvilgo summary 0042.register
 ";

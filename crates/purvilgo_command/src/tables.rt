@@ -1,4 +1,4 @@
-//! A register as tables.
+//! A register as tables, and its summary.
 
 use crate::files::bytes_of;
 use crate::registers::MOST_REGISTER_BYTES;
@@ -7,7 +7,7 @@ use crate::status::{bad_words, no_memory};
 use clap::{Arg, ArgMatches, Command};
 use cwr_desk::MOST_ENTRIES;
 use cwr_field::{cut, digits, filled};
-use register_tables::{Unwritten, Wanted, claims_text, history_text, works_text};
+use register_tables::{Unwritten, Wanted, claims_text, history_text, summary_text, works_text};
 use std::alloc::{AllocError, Global};
 use std::io;
 use std::process::ExitCode;
@@ -50,8 +50,27 @@ pub(crate) fn history_command<'a>(alloc: Global) -> Result<Command<'a>, AllocErr
         ))
 }
 
+/// `summary [--verbose] REGISTER`.
+pub(crate) fn summary_command<'a>(alloc: Global) -> Result<Command<'a>, AllocError> {
+    register_command(alloc, "summary", "Tells how much of what is in a register")
+}
+
 /// What each table's command takes.
 fn table_command<'a>(
+    alloc: Global,
+    name: &'a str,
+    about: &'a str,
+) -> Result<Command<'a>, AllocError> {
+    register_command(alloc, name, about)?.arg(option(
+        alloc,
+        "work",
+        "N",
+        "those of this work alone",
+    ))
+}
+
+/// What each command that tells of a register takes.
+fn register_command<'a>(
     alloc: Global,
     name: &'a str,
     about: &'a str,
@@ -63,8 +82,7 @@ fn table_command<'a>(
                 .required(true)
                 .help("a register"),
         )?
-        .arg(verbose_flag(alloc))?
-        .arg(option(alloc, "work", "N", "those of this work alone"))
+        .arg(verbose_flag(alloc))
 }
 
 fn submitter_option<'a>(alloc: Global) -> Arg<'a> {
@@ -98,8 +116,32 @@ pub(crate) fn tell_table<R: AllocGlobal + Input + Print + Eprint + Files>(
     };
     match put_table(rt, table, &book, &wanted) {
         Ok(()) => ExitCode::SUCCESS,
-        Err(Unwritten::Memory) => no_memory(rt),
-        Err(Unwritten::Write) => ExitCode::FAILURE,
+        Err(unwritten) => tell_unwritten(rt, unwritten),
+    }
+}
+
+/// Tells a summary of a register on standard output, or the register's first fault. The register is that of standard input
+/// for `-`.
+pub(crate) fn tell_summary<R: AllocGlobal + Input + Print + Eprint + Files>(
+    rt: &R,
+    path: &str,
+    given: &ArgMatches,
+) -> ExitCode {
+    let book = match book_of(rt, path, given.get_flag("verbose")) {
+        Ok(book) => book,
+        Err(status) => return status,
+    };
+    match summary_text(rt.alloc(), io::writer(rt), &book) {
+        Ok(_) => ExitCode::SUCCESS,
+        Err(unwritten) => tell_unwritten(rt, unwritten),
+    }
+}
+
+/// Tells why something was not written whole, where that can be told.
+fn tell_unwritten<R: Eprint>(rt: &R, unwritten: Unwritten) -> ExitCode {
+    match unwritten {
+        Unwritten::Memory => no_memory(rt),
+        Unwritten::Write => ExitCode::FAILURE,
     }
 }
 

@@ -1,3 +1,4 @@
 pub mod Steps
 pub mod Entries
 pub mod WorkRows
+pub mod Counts

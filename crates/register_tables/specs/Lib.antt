@@ -4,3 +4,5 @@ pub mod ClaimsTable
 pub mod HistoryTable
 pub mod WorksTable
 pub mod Gathered
+pub mod Summary
+pub mod Counting

@@ -206,7 +206,7 @@ fn put_fault<A: Allocator + Copy + Drop>(
 }
 
 /// Appends a number without leading zeros.
-fn put_decimal<A: Allocator + Copy + Drop>(
+pub(crate) fn put_decimal<A: Allocator + Copy + Drop>(
     out: &mut Vec<u8, A>,
     number: u64,
 ) -> Result<(), AllocError>

@@ -71,7 +71,7 @@ fn fits_own_number(wanted: Option<[u8; 14]>, given: [u8; 14]) -> bool
     }
 }
 
-fn fits_status(wanted: Option<Status>, given: Status) -> bool
+pub(crate) fn fits_status(wanted: Option<Status>, given: Status) -> bool
     ensures { result ≡ fits_status wanted given }
 {
     match wanted {

@@ -84,7 +84,7 @@ fn blank_works<A: Allocator + Copy + Drop>(
 }
 
 /// The greatest number that was given to a work, or 0.
-fn last_work<A: Allocator>(entries: &[Entry<A>]) -> u32
+pub(crate) fn last_work<A: Allocator>(entries: &[Entry<A>]) -> u32
     ensures { result ≡ last_work (rows_of entries.now) }
 {
     let mut last = 0;

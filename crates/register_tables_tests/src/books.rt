@@ -1,7 +1,7 @@
 //! Books, and what their tables must be.
 
 use cwr_sheets::same_bytes;
-use register_tables::{Unwritten, Wanted, claims_text, history_text, works_text};
+use register_tables::{Unwritten, Wanted, claims_text, history_text, summary_text, works_text};
 use std::alloc::Global;
 use std::test::Fail;
 use work_registry::{Book, Call, Fault, Faults, WorkKind};
@@ -129,6 +129,12 @@ pub(crate) fn expect_history(
         b"entry,submitter,kind,number,title,iswc,performing,mechanical,synchronization,status,work,version,faults\n",
         lines,
     )
+}
+
+/// The summary of a book must be this page.
+pub(crate) fn expect_summary(alloc: Global, book: &Book, page: &[u8]) -> Result<(), Fail> {
+    let text = whole(summary_text(alloc, Vec::new(alloc), book))?;
+    same_bytes("the summary", &text, page)
 }
 
 /// A table must be a header and these lines.

@@ -1,10 +1,13 @@
-//! Tests of a register's tables: the example of the profile's decisions, texts that CSV must quote, and what is wanted.
+//! Tests of a register's tables and of its summary: the example of the profile's decisions, texts that CSV must quote, what is
+//! wanted, bands of what is left, and more conflicts than are told.
 #![tactic(auto)]
 
 #[cfg(test)]
 mod books;
 #[cfg(test)]
 mod quoted;
+#[cfg(test)]
+mod summaries;
 #[cfg(test)]
 mod tables;
 #[cfg(test)]

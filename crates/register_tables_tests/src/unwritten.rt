@@ -2,7 +2,7 @@
 
 use crate::books::decisions;
 use cwr_sheets::same;
-use register_tables::{Unwritten, Wanted, claims_text, history_text, works_text};
+use register_tables::{Unwritten, Wanted, claims_text, history_text, summary_text, works_text};
 use std::io;
 use std::io::Write;
 use std::test::Fail;
@@ -30,6 +30,7 @@ fn tells_a_failed_write(rt: HostRuntime) -> Result<(), Fail> {
         claims_text(alloc, Full, &book, &wanted),
         works_text(alloc, Full, &book, &wanted),
         history_text(alloc, Full, &book, &wanted),
+        summary_text(alloc, Full, &book),
     ] {
         same("its end", &table.err(), &Some(Unwritten::Write))?;
     }

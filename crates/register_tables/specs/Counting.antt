@@ -1,0 +1,48 @@
+-- What the code counts, one more at a time. A count stays at the greatest that it can be.
+use Rattle.std.specs.Prelude.{◌≡◌, ℕ, ◌+◌, ◌-◌, ◌^◌, ◌<◌, Bool, true, List, if◌then◌else◌, Some, length, min, nat_le, nat_lt, ◌&&◌, slice_index_or, slice_set}
+use Rattle.cwr_record.specs.declared.status.Status.{Status}
+use Rattle.cwr_record.specs.declared.status.Status.TheVariants as status
+use Rattle.work_registry.specs.declared.reply.Reply.{Reply}
+use Rattle.work_registry.specs.declared.reply.Reply.TheVariants.{Accepted, Duplicate, Conflict, Rejected}
+use Rattle.work_registry.specs.EntryValue.{EntryValue}
+use Rattle.register_tables.specs.declared.tally.Tally.{Tally}
+use Rattle.register_tables.specs.declared.shares.Bands.{Bands}
+use Rattle.register_tables.specs.Wanted.{fits_status}
+use Rattle.register_tables.specs.Summary.{count, is_all, is_conflict_on, is_half, is_more, is_none, is_quarter}
+
+-- one more, or as many
+abbrev pub counted : ℕ → Bool → ℕ
+counted n more = if more then min (n + 1) (2 ^ 64 - 1) else n
+
+-- one entry more
+abbrev pub tallied : Tally → Status → Bool → Tally
+tallied tally answer current = record {
+  accepted = counted tally.accepted (fits_status (Some status.Accepted) answer);
+  duplicates = counted tally.duplicates (fits_status (Some status.Duplicate) answer);
+  conflicts = counted tally.conflicts (fits_status (Some status.Conflict) answer);
+  rejected = counted tally.rejected (fits_status (Some status.Rejected) answer);
+  current = counted tally.current current;
+}
+
+-- one work more, of which so much is left
+abbrev pub banded : Bands → ℕ → Bands
+banded bands left = record {
+  none = counted bands.none (is_none left);
+  quarter = counted bands.quarter (is_quarter left);
+  half = counted bands.half (is_half left);
+  more = counted bands.more (is_more left);
+  all = counted bands.all (is_all left);
+}
+
+-- the conflicts on each work, with one entry more
+abbrev pub conflict_noted : List ℕ → Reply → List ℕ
+conflict_noted counts (Accepted work version) = counts
+conflict_noted counts (Duplicate work) = counts
+conflict_noted counts (Conflict work) =
+    if nat_lt 0 work && nat_le work (length counts) then slice_set counts (work - 1) (counted (slice_index_or counts (work - 1) 0) true) else counts
+conflict_noted counts Rejected = counts
+
+-- the conflicts on each work are those of these entries
+pub record AreCounted (works : ℕ) (entries : List EntryValue) (counts : List ℕ) : Type 0 where
+  pub size : length counts ≡ works
+  pub each : (w d : ℕ) → w < length counts → slice_index_or counts w d ≡ count (λ e. is_conflict_on (w + 1) e.reply) entries

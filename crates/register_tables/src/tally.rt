@@ -1,0 +1,82 @@
+//! The entries of a book, counted.
+
+ghost use Rattle.std.specs.Prelude.{◌≡◌, ◌+◌, ◌-◌, ◌^◌, if◌then◌else◌, length, min, IfOk};
+ghost use Rattle.work_registry.specs.Rows.{rows_of};
+ghost use Rattle.register_tables.specs.Counting.{counted, tallied};
+ghost use Rattle.register_tables.specs.Summary.{different, submitters, tally_of};
+
+use crate::claims::is_current;
+use crate::wanted::fits_status;
+use indexmap::IndexSet;
+use std::alloc::{AllocError, Allocator};
+use std::hash::{BuildHasherDefault, FoldHasher};
+use work_registry::{Book, Entry, Status};
+
+/// How many entries have each status, and how many made the claim in force under their key.
+#[derive(Clone, Copy)]
+pub(crate) struct Tally {
+    pub(crate) accepted: u64,
+    pub(crate) duplicates: u64,
+    pub(crate) conflicts: u64,
+    pub(crate) rejected: u64,
+    pub(crate) current: u64,
+}
+
+/// Counts the entries of a book.
+pub(crate) fn tally_of<A: Allocator + Copy + Drop>(book: &Book<A>) -> Tally
+    ensures { result ≡ tally_of (rows_of book.now.history) book.now.history }
+{
+    let entries = book.history();
+    let mut tally = Tally {
+        accepted: 0,
+        duplicates: 0,
+        conflicts: 0,
+        rejected: 0,
+        current: 0,
+    };
+    for index in (0..entries.len()).rev() {
+        let entry = &entries[index];
+        tally = tallied(tally, entry.reply().status(), is_current(book, entry));
+    }
+    tally
+}
+
+/// One entry more, with this status, which made the claim in force or did not.
+fn tallied(tally: Tally, status: Status, current: bool) -> Tally
+    ensures { result ≡ tallied tally status current }
+{
+    Tally {
+        accepted: counted(tally.accepted, fits_status(Some(Status::Accepted), status)),
+        duplicates: counted(
+            tally.duplicates,
+            fits_status(Some(Status::Duplicate), status),
+        ),
+        conflicts: counted(tally.conflicts, fits_status(Some(Status::Conflict), status)),
+        rejected: counted(tally.rejected, fits_status(Some(Status::Rejected), status)),
+        current: counted(tally.current, current),
+    }
+}
+
+/// One more, or as many.
+pub(crate) fn counted(count: u64, more: bool) -> u64
+    ensures { result ≡ counted count more }
+{
+    if more { count.saturating_add(1) } else { count }
+}
+
+/// How many submitters the entries of a book have.
+pub(crate) fn submitter_count<A: Allocator + Copy + Drop>(
+    alloc: A,
+    entries: &[Entry<A>],
+) -> Result<u64, AllocError>
+    ensures { IfOk result (λ n. n ≡ length (different (submitters entries.now))) }
+{
+    let mut known: IndexSet<[u8; 11], BuildHasherDefault<FoldHasher>, A> = IndexSet::new(alloc);
+    for index in (0..entries.len()).rev() {
+        match known.insert(entries[index].call().submitter()) {
+            Ok(_) => {}
+            Err(_) => return Err(AllocError),
+        }
+    }
+    Ok(known.len() as u64)
+}

@@ -1,0 +1,74 @@
+//! Summaries of the example of the profile's decisions, of works in each band, and of more works with conflicts than are told.
+
+use crate::books::{ONE, OTHER, TITLE, Told, W1, W7, decisions, expect_summary, hand_in};
+use std::test::Fail;
+use work_registry::{Book, WorkKind};
+
+/// Four transactions of the seven were accepted, of two submitters, whose current claims leave nothing of the work.
+#[test]
+fn sums_up_decisions(rt: HostRuntime) -> Result<(), Fail> {
+    let alloc = rt.alloc();
+    let book = decisions(alloc)?;
+    expect_summary(
+        alloc,
+        &book,
+        b"entries: 7\naccepted (AS): 4\nduplicates (DU): 0\nconflicts (CO): 2\nrejected (RJ): 1\n\
+works: 1\ncurrent claims: 2\nsubmitters: 2\n\
+works by what is left of the performing right:\n  none: 1\n  up to a quarter: 0\n  up to a half: 0\n  more than a half: 0\n  all: 0\n\
+works by what is left of the mechanical right:\n  none: 1\n  up to a quarter: 0\n  up to a half: 0\n  more than a half: 0\n  all: 0\n\
+works by what is left of the synchronization right:\n  none: 1\n  up to a quarter: 0\n  up to a half: 0\n  more than a half: 0\n  all: 0\n\
+largest conflicts:\n  work 1: 2\n",
+    )
+}
+
+/// Of the rights nothing and 50.01 per cent are left, 25 per cent and all, and 50 and 25.01 per cent.
+#[test]
+fn tells_what_is_left(rt: HostRuntime) -> Result<(), Fail> {
+    let alloc = rt.alloc();
+    let mut book = Book::new(alloc, 100);
+    let transactions: [Told; 3] = [
+        (ONE, WorkKind::Nwr, TITLE, W1, None, [10000, 7500, 5000]),
+        (ONE, WorkKind::Nwr, TITLE, W7, None, [4999, 0, 7499]),
+        (ONE, WorkKind::Nwr, TITLE, W1, None, [10000, 7500, 5000]),
+    ];
+    for told in transactions {
+        hand_in(alloc, &mut book, told, &[])?;
+    }
+    expect_summary(
+        alloc,
+        &book,
+        b"entries: 3\naccepted (AS): 2\nduplicates (DU): 1\nconflicts (CO): 0\nrejected (RJ): 0\n\
+works: 2\ncurrent claims: 2\nsubmitters: 1\n\
+works by what is left of the performing right:\n  none: 1\n  up to a quarter: 0\n  up to a half: 0\n  more than a half: 1\n  all: 0\n\
+works by what is left of the mechanical right:\n  none: 0\n  up to a quarter: 1\n  up to a half: 0\n  more than a half: 0\n  all: 1\n\
+works by what is left of the synchronization right:\n  none: 0\n  up to a quarter: 0\n  up to a half: 2\n  more than a half: 0\n  all: 0\n\
+largest conflicts:\n",
+    )
+}
+
+/// Eleven works have a conflict, and the last one two. Those with one stand by number, and the eleventh is not told.
+#[test]
+fn tells_ten_conflicts(rt: HostRuntime) -> Result<(), Fail> {
+    let alloc = rt.alloc();
+    let mut book = Book::new(alloc, 100);
+    for work in 1..12 {
+        let number = [work as u8; 14];
+        let iswc = Some(work);
+        let told = (ONE, WorkKind::Nwr, TITLE, number, iswc, [10000; 3]);
+        hand_in(alloc, &mut book, told, &[])?;
+        let told = (OTHER, WorkKind::Nwr, TITLE, number, iswc, [7; 3]);
+        hand_in(alloc, &mut book, told, &[])?;
+    }
+    let told = (OTHER, WorkKind::Nwr, TITLE, W1, Some(11), [7; 3]);
+    hand_in(alloc, &mut book, told, &[])?;
+    expect_summary(
+        alloc,
+        &book,
+        b"entries: 23\naccepted (AS): 11\nduplicates (DU): 0\nconflicts (CO): 12\nrejected (RJ): 0\n\
+works: 11\ncurrent claims: 11\nsubmitters: 2\n\
+works by what is left of the performing right:\n  none: 11\n  up to a quarter: 0\n  up to a half: 0\n  more than a half: 0\n  all: 0\n\
+works by what is left of the mechanical right:\n  none: 11\n  up to a quarter: 0\n  up to a half: 0\n  more than a half: 0\n  all: 0\n\
+works by what is left of the synchronization right:\n  none: 11\n  up to a quarter: 0\n  up to a half: 0\n  more than a half: 0\n  all: 0\n\
+largest conflicts:\n  work 11: 2\n  work 1: 1\n  work 2: 1\n  work 3: 1\n  work 4: 1\n  work 5: 1\n  work 6: 1\n  work 7: 1\n  work 8: 1\n  work 9: 1\n",
+    )
+}
