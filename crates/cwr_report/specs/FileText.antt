@@ -16,18 +16,18 @@ use Rattle.cwr_report.specs.Walks.{line_at}
 -- the text of the rule with this number
 abbrev pub file_rule_text : ℕ → List ℕ
 file_rule_text number =
-    if number == 1 then codes "FILE DOES NOT BEGIN WITH HDR"
-    else if number == 2 then codes "CONTROL CHARACTER"
-    else if number == 3 then codes "RECORD TYPE, DATE OR TIME IS NOT VALID"
-    else if number == 4 then codes "RECORD IN THE WRONG PLACE"
-    else if number == 5 then codes "GROUP IS NOT OF NWR OR REV"
-    else if number == 6 then codes "TRANSACTION OF ANOTHER TYPE THAN ITS GROUP"
-    else if number == 7 then codes "GROUP ID IS NOT VALID"
-    else if number == 8 then codes "TRANSACTION OR RECORD SEQUENCE IS NOT VALID"
-    else if number == 9 then codes "COUNT IS NOT THAT OF THE GROUP"
-    else if number == 10 then codes "COUNT IS NOT THAT OF THE FILE"
-    else if number == 11 then codes "FILE DOES NOT END WITH TRL"
-    else codes "LINE IS TOO LONG"
+    if number == 1 then codes "the file does not begin with HDR"
+    else if number == 2 then codes "a control character in a line"
+    else if number == 3 then codes "no record type, or a wrong date or time in HDR"
+    else if number == 4 then codes "a record in the wrong place"
+    else if number == 5 then codes "a group that is not of NWR or REV"
+    else if number == 6 then codes "a header of another type than its group"
+    else if number == 7 then codes "group IDs do not run 00001, 00002, .."
+    else if number == 8 then codes "transaction or record sequences do not run"
+    else if number == 9 then codes "the counts of GRT are not those of the group"
+    else if number == 10 then codes "the counts of TRL are not those of the file"
+    else if number == 11 then codes "no TRL at the end, or something after it"
+    else codes "a line of more than 4,096 bytes"
 
 -- words, and a number
 abbrev pub counted : List ℕ → ℕ → List ℕ

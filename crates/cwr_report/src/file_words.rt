@@ -3,23 +3,23 @@ ghost use Rattle.cwr_report.specs.FileText.{file_rule_text, kind_text};
 
 use cwr_record::WorkKind;
 
-/// The text of the rule of files with this number.
-pub(crate) fn file_rule_text(number: u8) -> &'static [u8]
+/// What a fault of the rule of files with this number is called, F1 to F12; of another number, as of 12.
+pub fn file_rule_text(number: u8) -> &'static [u8]
     ensures { result.now ≡ file_rule_text number }
 {
     match number {
-        1 => b"FILE DOES NOT BEGIN WITH HDR",
-        2 => b"CONTROL CHARACTER",
-        3 => b"RECORD TYPE, DATE OR TIME IS NOT VALID",
-        4 => b"RECORD IN THE WRONG PLACE",
-        5 => b"GROUP IS NOT OF NWR OR REV",
-        6 => b"TRANSACTION OF ANOTHER TYPE THAN ITS GROUP",
-        7 => b"GROUP ID IS NOT VALID",
-        8 => b"TRANSACTION OR RECORD SEQUENCE IS NOT VALID",
-        9 => b"COUNT IS NOT THAT OF THE GROUP",
-        10 => b"COUNT IS NOT THAT OF THE FILE",
-        11 => b"FILE DOES NOT END WITH TRL",
-        _ => b"LINE IS TOO LONG",
+        1 => b"the file does not begin with HDR",
+        2 => b"a control character in a line",
+        3 => b"no record type, or a wrong date or time in HDR",
+        4 => b"a record in the wrong place",
+        5 => b"a group that is not of NWR or REV",
+        6 => b"a header of another type than its group",
+        7 => b"group IDs do not run 00001, 00002, ..",
+        8 => b"transaction or record sequences do not run",
+        9 => b"the counts of GRT are not those of the group",
+        10 => b"the counts of TRL are not those of the file",
+        11 => b"no TRL at the end, or something after it",
+        _ => b"a line of more than 4,096 bytes",
     }
 }
 

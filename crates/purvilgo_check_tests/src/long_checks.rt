@@ -133,11 +133,11 @@ fn tells_the_fault_of_a_file(rt: HostRuntime) -> Result<(), Fail> {
     let cases: [(&[u8], &[u8]); 2] = [
         (
             b"",
-            b"line 1: end of the file: F1 FILE DOES NOT BEGIN WITH HDR\n  expected: HDR\nrefused F1 at line 1\n",
+            b"line 1: end of the file: F1 the file does not begin with HDR\n  expected: HDR\nrefused F1 at line 1\n",
         ),
         (
             b"HDRPB000000123PUBLISHER A                                  01.102024050112000020240501\nTRL000000000000000000003\n",
-            b"line 2: TRL: F10 COUNT IS NOT THAT OF THE FILE\n  record count, start 17, length 8: \"00000003\"\n  expected: group count 0, transaction count 0, record count 2\nrefused F10 at line 2\n",
+            b"line 2: TRL: F10 the counts of TRL are not those of the file\n  record count, start 17, length 8: \"00000003\"\n  expected: group count 0, transaction count 0, record count 2\nrefused F10 at line 2\n",
         ),
     ];
     for (input, wanted) in cases {

@@ -3,6 +3,7 @@ use Rattle.std.specs.Prelude.{ℕ, List, [], ◌∷◌, ◌++◌, Option, codes}
 use Rattle.std.specs.List.{find, flat_map}
 use Rattle.std.specs.Str.{bytes_eq}
 use Rattle.cwr_acknowledgement.specs.Messages.{message_text}
+use Rattle.cwr_report.specs.FileText.{file_rule_text}
 use Rattle.rule_pages.specs.declared.rule.Rule.{Rule}
 use Rattle.rule_pages.specs.declared.rule.Rule.TheVariants as rule
 
@@ -80,20 +81,20 @@ name_of rule.G4 = codes "G4"
 abbrev pub rule_named : List ℕ → Option Rule
 rule_named name = find (λ r. bytes_eq (name_of r) name) every_rule
 
--- what a fault of it is called: of J1 to J15 the text of its MSG record
+-- what a fault of it is called: of F1 to F12 as a report tells it, of J1 to J15 the text of its MSG record
 abbrev pub title_of : Rule → List ℕ
-title_of rule.F1 = codes "the file does not begin with HDR"
-title_of rule.F2 = codes "a control character in a line"
-title_of rule.F3 = codes "no record type, or a wrong date or time in HDR"
-title_of rule.F4 = codes "a record in the wrong place"
-title_of rule.F5 = codes "a group that is not of NWR or REV"
-title_of rule.F6 = codes "a header of another type than its group"
-title_of rule.F7 = codes "group IDs do not run 00001, 00002, .."
-title_of rule.F8 = codes "transaction or record sequences do not run"
-title_of rule.F9 = codes "the counts of GRT are not those of the group"
-title_of rule.F10 = codes "the counts of TRL are not those of the file"
-title_of rule.F11 = codes "no TRL at the end, or something after it"
-title_of rule.F12 = codes "a line of more than 4,096 bytes"
+title_of rule.F1 = file_rule_text 1
+title_of rule.F2 = file_rule_text 2
+title_of rule.F3 = file_rule_text 3
+title_of rule.F4 = file_rule_text 4
+title_of rule.F5 = file_rule_text 5
+title_of rule.F6 = file_rule_text 6
+title_of rule.F7 = file_rule_text 7
+title_of rule.F8 = file_rule_text 8
+title_of rule.F9 = file_rule_text 9
+title_of rule.F10 = file_rule_text 10
+title_of rule.F11 = file_rule_text 11
+title_of rule.F12 = file_rule_text 12
 title_of rule.J1 = message_text 1
 title_of rule.J2 = message_text 2
 title_of rule.J3 = message_text 3

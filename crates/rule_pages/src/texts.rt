@@ -3,24 +3,25 @@ ghost use Rattle.rule_pages.specs.Pages.{title_of, asks_of, broken_of, mended_of
 
 use crate::rule::Rule;
 use cwr_acknowledgement::message_text;
+use cwr_report::file_rule_text;
 
-/// What a fault of a rule is called: of J1 to J15 the text of its MSG record.
+/// What a fault of a rule is called: of F1 to F12 as a report tells it, of J1 to J15 the text of its MSG record.
 pub(crate) fn title(rule: Rule) -> &'static [u8]
     ensures { result.now ≡ title_of rule }
 {
     match rule {
-        Rule::F1 => b"the file does not begin with HDR",
-        Rule::F2 => b"a control character in a line",
-        Rule::F3 => b"no record type, or a wrong date or time in HDR",
-        Rule::F4 => b"a record in the wrong place",
-        Rule::F5 => b"a group that is not of NWR or REV",
-        Rule::F6 => b"a header of another type than its group",
-        Rule::F7 => b"group IDs do not run 00001, 00002, ..",
-        Rule::F8 => b"transaction or record sequences do not run",
-        Rule::F9 => b"the counts of GRT are not those of the group",
-        Rule::F10 => b"the counts of TRL are not those of the file",
-        Rule::F11 => b"no TRL at the end, or something after it",
-        Rule::F12 => b"a line of more than 4,096 bytes",
+        Rule::F1 => file_rule_text(1),
+        Rule::F2 => file_rule_text(2),
+        Rule::F3 => file_rule_text(3),
+        Rule::F4 => file_rule_text(4),
+        Rule::F5 => file_rule_text(5),
+        Rule::F6 => file_rule_text(6),
+        Rule::F7 => file_rule_text(7),
+        Rule::F8 => file_rule_text(8),
+        Rule::F9 => file_rule_text(9),
+        Rule::F10 => file_rule_text(10),
+        Rule::F11 => file_rule_text(11),
+        Rule::F12 => file_rule_text(12),
         Rule::J1 => message_text(1),
         Rule::J2 => message_text(2),
         Rule::J3 => message_text(3),
