@@ -3,3 +3,7 @@ pub mod Reported
 pub mod Written
 pub mod Counting
 pub mod NoFloats
+pub mod Located
+pub mod Inside
+pub mod Told
+pub mod Naming

@@ -10,3 +10,4 @@ pub mod FileFindings
 pub mod FileText
 pub mod Json
 pub mod Report
+pub mod Told

@@ -14,6 +14,7 @@ mod findings;
 mod json;
 mod json_values;
 mod latest;
+pub mod laws;
 mod long_lines;
 mod reporting;
 mod telling;
