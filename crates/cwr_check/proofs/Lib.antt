@@ -1,2 +1,2 @@
 pub mod CheckSteps
-pub mod lemmas
+pub mod Total

@@ -1,14 +1,12 @@
 ghost use Rattle.std.specs.Prelude.{◌≡◌, ◌++◌, map, OnOk};
-ghost use Rattle.std.specs.Fmt.{decimal};
 ghost use Rattle.cwr_report.specs.LongText.{shown, stands_at, spot_text, spots_text, percent_text, after_text, digit_text, party_text, ownership_text, collection_text, collected_text, wanted_text, expected_text, record_text, transaction_text, message_of, broken_text, told_of};
 
 use crate::finding::{Expected, Finding, Spot};
 use crate::words::{followers_text, name_text, rule_text};
 use cwr_acknowledgement::message_text;
-use cwr_field::{LEAST_PRINTABLE, Memory, put_digits};
+use cwr_field::{LEAST_PRINTABLE, Memory, put_decimal, put_digits};
 use cwr_record::Column;
 use cwr_rules::{Over, Totals};
-use itoa::Buffer;
 use std::alloc::Allocator;
 
 /// Appends what is told of a fault in a line.
@@ -239,14 +237,5 @@ fn put_percent<A: Allocator>(out: &mut Vec<u8, A>, hundredths: u64) -> Result<()
     put_decimal(out, hundredths / 100)?;
     out.extend_from_slice(b".")?;
     put_digits(out, hundredths % 100, 2)?;
-    Ok(())
-}
-
-/// Appends a number without leading zeros.
-pub(crate) fn put_decimal<A: Allocator>(out: &mut Vec<u8, A>, number: u64) -> Result<(), Memory>
-    ensures { OnOk result (out.new.items ≡ out.old.items ++ decimal number) }
-{
-    let mut digits = Buffer::new();
-    out.extend_from_slice(digits.format(number).as_bytes())?;
     Ok(())
 }

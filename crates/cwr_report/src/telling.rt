@@ -10,10 +10,10 @@ ghost use Rattle.cwr_report.specs.Walks.{IsWalk};
 use crate::file_finding::FileFinding;
 use crate::file_lines::put_file_finding;
 use crate::finding::Finding;
-use crate::long_lines::{put_decimal, put_finding};
+use crate::long_lines::put_finding;
 use crate::reporting::{Report, report_on};
 use crate::walk::Walk;
-use cwr_check::Checked;
+use cwr_check::{Checked, put_total};
 use cwr_field::Memory;
 use cwr_grammar::Lines;
 use std::alloc::Allocator;
@@ -119,20 +119,5 @@ fn put_finding_at<A: Allocator>(
     ensures { OnOk result (out.new.items ≡ out.old.items ++ finding_text (lines bytes.now) finding.now) }
 {
     put_finding(out, walk.line(), finding)?;
-    Ok(())
-}
-
-/// Appends how many transactions a file has, and how many of them have faults.
-fn put_total<A: Allocator>(
-    out: &mut Vec<u8, A>,
-    transactions: u64,
-    faulty: u64,
-) -> Result<(), Memory>
-    ensures { OnOk result (out.new.items ≡ out.old.items ++ total_line transactions faulty) }
-{
-    put_decimal(out, transactions)?;
-    out.extend_from_slice(b" transactions, ")?;
-    put_decimal(out, faulty)?;
-    out.extend_from_slice(b" with faults\n")?;
     Ok(())
 }

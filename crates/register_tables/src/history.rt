@@ -6,13 +6,12 @@ ghost use Rattle.csv.specs.Writing.{text_written};
 ghost use Rattle.register_tables.specs.Rows.{csv_line, iswc_field, IsAtRow};
 ghost use Rattle.register_tables.specs.HistoryTable.{fault_text, more_fault_text, faults_field, history_header, entry_fields, entry_row, entry_rows, history_text};
 ghost use Rattle.std.specs.List.{flat_map};
-ghost use Rattle.std.specs.Fmt.{decimal};
 
 use crate::rows::{Unwritten, ended, number_field, put_row, rows_to, set_iswc};
 use crate::wanted::{Wanted, is_wanted};
 use csv::Writer;
-use itoa::Buffer;
-use std::alloc::{AllocError, Allocator};
+use cwr_field::{Memory, put_decimal};
+use std::alloc::Allocator;
 use std::io::Write;
 use work_registry::{Book, Entry, Fault};
 
@@ -164,14 +163,14 @@ fn set_faults<A: Allocator + Copy + Drop>(
     text.clear();
     match put_faults(text, faults) {
         Ok(()) => Ok(()),
-        Err(_) => Err(Unwritten::Memory),
+        Err(Memory) => Err(Unwritten::Memory),
     }
 }
 
 fn put_faults<A: Allocator + Copy + Drop>(
     out: &mut Vec<u8, A>,
     faults: &[Fault],
-) -> Result<(), AllocError>
+) -> Result<(), Memory>
     ensures { OnOk result (out.new.items ≡ out.old.items ++ faults_field faults.now) }
 {
     let Some((first, others)) = faults.split_first() else {
@@ -184,7 +183,7 @@ fn put_faults<A: Allocator + Copy + Drop>(
 fn put_more_faults<A: Allocator + Copy + Drop>(
     out: &mut Vec<u8, A>,
     faults: &[Fault],
-) -> Result<(), AllocError>
+) -> Result<(), Memory>
     ensures { OnOk result (out.new.items ≡ out.old.items ++ flat_map more_fault_text faults.now) }
 {
     for fault in faults {
@@ -194,24 +193,10 @@ fn put_more_faults<A: Allocator + Copy + Drop>(
     Ok(())
 }
 
-fn put_fault<A: Allocator + Copy + Drop>(
-    out: &mut Vec<u8, A>,
-    fault: &Fault,
-) -> Result<(), AllocError>
+fn put_fault<A: Allocator + Copy + Drop>(out: &mut Vec<u8, A>, fault: &Fault) -> Result<(), Memory>
     ensures { OnOk result (out.new.items ≡ out.old.items ++ fault_text fault.now) }
 {
     put_decimal(out, fault.sequence as u64)?;
     out.extend_from_slice(b":J")?;
     put_decimal(out, fault.number as u64)
-}
-
-/// Appends a number without leading zeros.
-pub(crate) fn put_decimal<A: Allocator + Copy + Drop>(
-    out: &mut Vec<u8, A>,
-    number: u64,
-) -> Result<(), AllocError>
-    ensures { OnOk result (out.new.items ≡ out.old.items ++ decimal number) }
-{
-    let mut digits = Buffer::new();
-    out.extend_from_slice(digits.format(number).as_bytes())
 }

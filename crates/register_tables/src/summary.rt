@@ -9,12 +9,12 @@ ghost use Rattle.register_tables.specs.Summary.{conflict_line, conflicts_text, e
 ghost use Rattle.register_tables.specs.WorksTable.{last_work};
 
 use crate::conflicts::{Conflicted, largest};
-use crate::history::put_decimal;
 use crate::rows::Unwritten;
 use crate::shares::bands_of;
 use crate::tally::{submitter_count, tally_of};
 use crate::works::last_work;
-use std::alloc::{AllocError, Allocator};
+use cwr_field::{Memory, put_decimal};
+use std::alloc::Allocator;
 use std::io::Write;
 use work_registry::Book;
 
@@ -42,7 +42,7 @@ pub fn summary_text<W: Write + Drop, A: Allocator + Copy + Drop>(
 }
 
 /// The page.
-fn page_of<A: Allocator + Copy + Drop>(alloc: A, book: &Book<A>) -> Result<Vec<u8, A>, AllocError>
+fn page_of<A: Allocator + Copy + Drop>(alloc: A, book: &Book<A>) -> Result<Vec<u8, A>, Memory>
     ensures { IfOk result (λ page. page.items ≡ summary_text book.now.history) }
 {
     let last = last_work(book.history());
@@ -59,7 +59,7 @@ fn put_entries<A: Allocator + Copy + Drop>(
     alloc: A,
     book: &Book<A>,
     last: u32,
-) -> Result<(), AllocError>
+) -> Result<(), Memory>
     requires { last ≡ last_work (rows_of book.now.history) }
     ensures { OnOk result (page.new.items ≡ page.old.items ++ entries_text book.now.history) }
 {
@@ -84,7 +84,7 @@ fn put_shares<A: Allocator + Copy + Drop>(
     page: &mut Vec<u8, A>,
     book: &Book<A>,
     last: u32,
-) -> Result<(), AllocError>
+) -> Result<(), Memory>
     requires { last ≡ last_work (rows_of book.now.history) }
     ensures { OnOk result (page.new.items ≡ page.old.items ++ shares_text (rows_of book.now.history)) }
 {
@@ -102,7 +102,7 @@ fn put_right<A: Allocator + Copy + Drop>(
     book: &Book<A>,
     last: u32,
     right: usize,
-) -> Result<(), AllocError>
+) -> Result<(), Memory>
     requires last { last ≡ last_work (rows_of book.now.history) }
     requires right { right < 3 }
     ensures { OnOk result (page.new.items ≡ page.old.items ++ right_text right (rows_of book.now.history)) }
@@ -123,7 +123,7 @@ fn put_right<A: Allocator + Copy + Drop>(
 fn put_conflicts<A: Allocator + Copy + Drop>(
     page: &mut Vec<u8, A>,
     top: &[Conflicted],
-) -> Result<(), AllocError>
+) -> Result<(), Memory>
     ensures { OnOk result (page.new.items ≡ page.old.items ++ conflicts_text top.now) }
 {
     page.extend_from_slice(b"largest conflicts:\n")?;
@@ -133,7 +133,7 @@ fn put_conflicts<A: Allocator + Copy + Drop>(
 fn put_conflict_lines<A: Allocator + Copy + Drop>(
     page: &mut Vec<u8, A>,
     top: &[Conflicted],
-) -> Result<(), AllocError>
+) -> Result<(), Memory>
     ensures { OnOk result (page.new.items ≡ page.old.items ++ flat_map conflict_line top.now) }
 {
     for one in top {
@@ -145,7 +145,7 @@ fn put_conflict_lines<A: Allocator + Copy + Drop>(
 fn put_conflict<A: Allocator + Copy + Drop>(
     page: &mut Vec<u8, A>,
     one: Conflicted,
-) -> Result<(), AllocError>
+) -> Result<(), Memory>
     ensures { OnOk result (page.new.items ≡ page.old.items ++ conflict_line one) }
 {
     page.extend_from_slice(b"  work ")?;
@@ -157,7 +157,7 @@ fn put_conflict<A: Allocator + Copy + Drop>(
 fn put_lines<A: Allocator + Copy + Drop>(
     page: &mut Vec<u8, A>,
     lines: &[(&[u8], u64)],
-) -> Result<(), AllocError>
+) -> Result<(), Memory>
     ensures { OnOk result (page.new.items ≡ page.old.items ++ lines_text (map (λ line. (line.0.now, line.1)) lines.now)) }
 {
     for line in lines {
@@ -171,10 +171,11 @@ fn put_number<A: Allocator + Copy + Drop>(
     page: &mut Vec<u8, A>,
     name: &[u8],
     number: u64,
-) -> Result<(), AllocError>
+) -> Result<(), Memory>
     ensures { OnOk result (page.new.items ≡ page.old.items ++ (name.now ++ decimal number ++ 10 ∷ [])) }
 {
     page.extend_from_slice(name)?;
     put_decimal(page, number)?;
-    page.extend_from_slice(b"\n")
+    page.extend_from_slice(b"\n")?;
+    Ok(())
 }

@@ -1,4 +1,4 @@
-use Rattle.cwr_check.proofs.lemmas.Total.{total_written}
+use Rattle.cwr_check.proofs.Total.{total_written}
 use Rattle.cwr_check.proofs.check_lines.put_total.Goals as goal
 
 pub returns : goal.returns

@@ -1,8 +1,0 @@
-use Rattle.cwr_check.proofs.lemmas.Total.{total_written}
-use Rattle.cwr_report.proofs.telling.put_total.Goals as goal
-
-pub returns : goal.returns
-returns g c =
-    total_written c.args.transactions c.args.faulty c.args.out.now.items c.put_decimal.new.out.items c.extend_from_slice.new.self.items
-    c.put_decimal-2.new.out.items c.extend_from_slice-2.new.self.items
-    c.in_ok-put_decimal.ensures c.in_ok-extend_from_slice.ensures.items c.in_ok-put_decimal-2.ensures c.in_ok-extend_from_slice-2.ensures.items
