@@ -52,7 +52,7 @@ fn tells_ten_conflicts(rt: HostRuntime) -> Result<(), Fail> {
     let alloc = rt.alloc();
     let mut book = Book::new(alloc, 100);
     for work in 1..12 {
-        let number = [work as u8; 14];
+        let number = [64 + work as u8; 14];
         let iswc = Some(work);
         let told = (ONE, WorkKind::Nwr, TITLE, number, iswc, [10000; 3]);
         hand_in(alloc, &mut book, told, &[])?;
