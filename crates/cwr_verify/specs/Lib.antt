@@ -1,0 +1,4 @@
+pub mod Sent
+pub mod Owned
+pub mod Verified
+pub mod Home

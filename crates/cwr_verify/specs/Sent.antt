@@ -1,0 +1,6 @@
+-- A file that was sent, and the acknowledgement that is said to answer it.
+use Rattle.std.specs.Prelude.{ℕ, List}
+
+pub record Sent : Type 0 where
+  pub text : List ℕ
+  pub acknowledgement : List ℕ

@@ -1,0 +1,141 @@
+//! One file against the entries that it is said to own.
+ghost use Rattle.std.specs.Prelude.{◌≡◌, ℕ, [], false, length, IsTrue, OnOk};
+ghost use Rattle.cwr_verify.specs.Owned.{owned};
+ghost use Rattle.cwr_verify.specs.Verified.{IsAnsweredBy};
+
+use crate::past::Past;
+use crate::same_call::are_same_bytes;
+use crate::sent::SentFile;
+use crate::told::stamp_in;
+use crate::unverified::Unverified;
+use byte_streams::{Feed, Room};
+use cwr_engine::{FileOutcome, MOST_BYTES, OpenGate, Why, work_file};
+use cwr_grammar::parse_file;
+use cwr_record::Stamp;
+use std::alloc::Allocator;
+use work_registry::Book;
+
+/// Checks a file against the entries that it owns.
+///
+/// It is worked once more, where each call gets the reply of the next of these entries. What that writes is compared with
+/// the acknowledgement.
+pub(crate) fn check_file<A: Allocator + Copy + Drop>(
+    alloc: A,
+    book: &Book<A>,
+    owners: &[usize],
+    number: usize,
+    file: &SentFile,
+) -> Result<(), Unverified>
+    requires { length owners.now ≡ length book.now.history }
+    ensures { OnOk result (IsAnsweredBy file.now (owned number owners.now book.now.history)) }
+{
+    let Some(stamp) = stamp_in(file.acknowledgement) else {
+        return Err(Unverified::Acknowledgement {
+            file: number,
+            line: 1,
+        });
+    };
+    let Ok(mut writer) = Room::new(alloc, file.acknowledgement.len(), true) else {
+        return Err(Unverified::Memory);
+    };
+    let past = Past::of(book, owners, number);
+    let (outcome, is_over) = work_again(alloc, past, file.text, &mut writer, &stamp);
+    match outcome {
+        FileOutcome::Acked { transactions: _ } => {
+            if is_over && are_same_bytes(writer.bytes(), file.acknowledgement) {
+                Ok(())
+            } else {
+                Err(other_line(number, writer.bytes(), file.acknowledgement))
+            }
+        }
+        FileOutcome::Refused {
+            number: fault,
+            line,
+        } => Err(Unverified::Refused {
+            file: number,
+            number: fault,
+            line,
+        }),
+        FileOutcome::Stopped { handed, why } => Err(stopped(
+            alloc,
+            number,
+            file,
+            handed,
+            why,
+            writer.bytes(),
+        )),
+    }
+}
+
+/// Works a file at the past, and answers how that ended, and whether all the entries of the past are seen.
+fn work_again<A: Allocator + Copy + Drop>(
+    alloc: A,
+    past: Past<A>,
+    text: &[u8],
+    writer: &mut Room<A>,
+    stamp: &Stamp,
+) -> (FileOutcome, bool)
+    requires begins { past.at ≡ 0 }
+    requires empty { writer.old.taken ≡ [] }
+    requires works { writer.old.has_failed ≡ false }
+    ensures { (count : ℕ) → result.0 ≡ FileOutcome.Acked count → IsTrue result.1
+        → IsAnsweredBy (record { text = text.now; acknowledgement = writer.new.taken }) (owned past.entry.file past.entry.owners.now past.entry.book.now.history) }
+{
+    let mut reader = Feed::new(text, MOST_BYTES, None);
+    let (past, outcome) = work_file(alloc, past, &OpenGate, 1, &mut reader, writer, stamp);
+    (outcome, past.is_over())
+}
+
+/// Why a file is not verified whose work stopped after so many transactions.
+fn stopped<A: Allocator + Copy>(
+    alloc: A,
+    number: usize,
+    file: &SentFile,
+    handed: u32,
+    why: Why,
+    written: &[u8],
+) -> Unverified {
+    match why {
+        Why::TooLong => Unverified::TooLong { file: number },
+        Why::Full => missing(alloc, number, file, handed),
+        Why::Write { sent: _ } => other_line(number, written, file.acknowledgement),
+        Why::Memory | Why::Read | Why::Gate => Unverified::Memory,
+    }
+}
+
+/// The transaction that no entry answers, so many having come before it.
+fn missing<A: Allocator + Copy>(
+    alloc: A,
+    number: usize,
+    file: &SentFile,
+    before: u32,
+) -> Unverified {
+    let Ok(submission) = parse_file(alloc, file.text) else {
+        return Unverified::Memory;
+    };
+    match submission.transactions.get(before as usize) {
+        Some(transaction) => Unverified::Transaction {
+            file: number,
+            group: transaction.group(),
+            sequence: transaction.sequence(),
+        },
+        None => Unverified::Memory,
+    }
+}
+
+/// The first line of an acknowledgement that is not as it was written anew.
+fn other_line(number: usize, written: &[u8], acknowledgement: &[u8]) -> Unverified {
+    let same = written
+        .iter()
+        .zip(acknowledgement)
+        .take_while(|(one, other)| one == other)
+        .count();
+    let ends = acknowledgement[..same]
+        .iter()
+        .filter(|byte| **byte == b'\n')
+        .count();
+    Unverified::Acknowledgement {
+        file: number,
+        line: ends.saturating_add(1),
+    }
+}

@@ -1,0 +1,18 @@
+//! A register against the files that were sent, and against their acknowledgements.
+//!
+//! An audit of a register takes its calls as given. [`verify`] judges the transactions of each [`SentFile`] anew, and
+//! finds for each of them the entry of the register that has its call, with the reply that the acknowledgement tells.
+#![tactic(auto)]
+
+mod file_check;
+mod past;
+mod proposal;
+mod same_call;
+mod sent;
+mod told;
+mod unverified;
+mod verifying;
+
+pub use sent::SentFile;
+pub use unverified::Unverified;
+pub use verifying::verify;

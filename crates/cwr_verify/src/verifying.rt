@@ -1,0 +1,37 @@
+ghost use Rattle.std.specs.Prelude.{IfOk};
+ghost use Rattle.cwr_verify.specs.Verified.{AreAnswered};
+
+use crate::file_check::check_file;
+use crate::proposal::proposed;
+use crate::sent::SentFile;
+use crate::unverified::Unverified;
+use cwr_field::Memory;
+use std::alloc::Allocator;
+use work_registry::Book;
+
+/// Which file each entry of a book answers, where each file is answered as its acknowledgement tells.
+///
+/// An entry of the result is the number of a file, from 0, or another number where the entry answers none of these
+/// files. The entries of a file have the calls of all its transactions, judged anew, in file order, and its
+/// acknowledgement is, byte for byte, the text for their replies, with the society, the name, the date and the time of
+/// its own first line. No entry answers two transactions. An error names the first file that is not answered so. Entries
+/// of the book are to be of the opening, as those of a register are.
+///
+/// Where two files have the same call with the same reply, the one that is given first is tried first, and no other
+/// order is tried: files are to be given in the order in which they were run.
+pub fn verify<A: Allocator + Copy + Drop>(
+    alloc: A,
+    book: &Book<A>,
+    files: &[SentFile],
+) -> Result<Vec<usize, A>, Unverified>
+    ensures { IfOk result (λ owners. AreAnswered owners.items book.now.history files.now) }
+{
+    let owners = match proposed(alloc, book.history(), files) {
+        Ok(owners) => owners,
+        Err(Memory) => return Err(Unverified::Memory),
+    };
+    for (number, file) in files.iter().enumerate() {
+        check_file(alloc, book, &owners, number, file)?;
+    }
+    Ok(owners)
+}
