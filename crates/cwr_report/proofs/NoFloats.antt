@@ -10,8 +10,8 @@ use Rattle.serde_json.specs.Written.{has_float, items_have_float, members_have_f
 use Rattle.cwr_report.specs.declared.finding.Finding.{Finding}
 use Rattle.cwr_report.specs.declared.finding.Spot.{Spot}
 use Rattle.cwr_report.specs.declared.file_finding.FileFinding.{FileFinding}
-use Rattle.cwr_report.specs.declared.file_finding.Place.{Place}
-use Rattle.cwr_report.specs.declared.file_finding.Place.TheVariants as place
+use Rattle.cwr_report.specs.declared.file_finding.RecordPlace.{RecordPlace}
+use Rattle.cwr_report.specs.declared.file_finding.RecordPlace.TheVariants as place
 use Rattle.cwr_report.specs.declared.file_finding.WrongByte.{WrongByte}
 use Rattle.cwr_report.specs.FileText.{counted, file_rule_text, file_wanted_text}
 use Rattle.cwr_report.specs.LongText.{name_text, stands_at, message_of, wanted_text}
@@ -93,7 +93,7 @@ no_findings lines [] = refl
 no_findings lines (f ∷ fs) =
     both (has_float (finding_data lines f)) (items_have_float (items_of (map (finding_data lines) fs))) (no_told (line_at lines (f.line - 1)) f) (no_findings lines fs)
 
-no_file_place : (line : ℕ) (rtype : List ℕ) (at : Place) → members_have_float (file_place line rtype at) ≡ false
+no_file_place : (line : ℕ) (rtype : List ℕ) (at : RecordPlace) → members_have_float (file_place line rtype at) ≡ false
 no_file_place line rtype place.End = no_place line null None None None refl
 no_file_place line rtype place.AfterTrailer = no_place line null None None None refl
 no_file_place line rtype place.Nameless = no_place line null None None None refl

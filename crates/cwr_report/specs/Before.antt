@@ -6,8 +6,8 @@ use Rattle.cwr_record.specs.declared.record_type.RecordType.{RecordType}
 use Rattle.cwr_record.specs.declared.record_type.RecordType.TheVariants.{Hdr, Grh, Grt, Trl, Nwr, Rev, Ack, Other, Bad}
 use Rattle.cwr_report.specs.Walks.{lines_before}
 use Rattle.cwr_report.specs.declared.before.Before.{Before}
-use Rattle.cwr_report.specs.declared.file_finding.Place.{Place}
-use Rattle.cwr_report.specs.declared.file_finding.Place.TheVariants.{Nameless, File, Group, Transaction}
+use Rattle.cwr_report.specs.declared.file_finding.RecordPlace.{RecordPlace}
+use Rattle.cwr_report.specs.declared.file_finding.RecordPlace.TheVariants.{Nameless, File, Group, Transaction}
 
 -- what these lines say, the newest first
 abbrev pub before_of : List (List ℕ) → Before
@@ -46,19 +46,19 @@ abbrev pub here : List (List ℕ) → ℕ → Option (List ℕ)
 here lines index = first_here (drop index lines)
 
 -- GRT closes the group that is open
-abbrev pub trailer_place : Before → Place
+abbrev pub trailer_place : Before → RecordPlace
 trailer_place b = if b.in_group then Group b.groups else File
 
 -- a header begins the next transaction of the group
-abbrev pub header_place : Before → Place
+abbrev pub header_place : Before → RecordPlace
 header_place b = if b.in_group then Transaction b.groups b.transactions 0 else File
 
 -- a detail goes on with the last transaction of the group
-abbrev pub detail_place : Before → Place
+abbrev pub detail_place : Before → RecordPlace
 detail_place b = if b.in_group && b.in_transaction then Transaction b.groups (b.transactions - 1) (b.details + 1) else File
 
 -- where a line with a record of this type stands
-abbrev pub place_in : Before → RecordType → Place
+abbrev pub place_in : Before → RecordType → RecordPlace
 place_in b Bad = Nameless
 place_in b Hdr = File
 place_in b Trl = File

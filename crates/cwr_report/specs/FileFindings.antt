@@ -6,8 +6,8 @@ use Rattle.cwr_record.specs.Columns.{field_at, every_record_type}
 use Rattle.cwr_record.specs.RecordTypes.{type_of}
 use Rattle.cwr_report.specs.declared.before.Before.{Before}
 use Rattle.cwr_report.specs.declared.file_finding.FileFinding.{FileFinding}
-use Rattle.cwr_report.specs.declared.file_finding.Place.{Place}
-use Rattle.cwr_report.specs.declared.file_finding.Place.TheVariants.{End, AfterTrailer}
+use Rattle.cwr_report.specs.declared.file_finding.RecordPlace.{RecordPlace}
+use Rattle.cwr_report.specs.declared.file_finding.RecordPlace.TheVariants.{End, AfterTrailer}
 use Rattle.cwr_report.specs.declared.file_finding.WrongByte.{WrongByte}
 use Rattle.cwr_report.specs.Before.{before_of, here, place_in}
 use Rattle.cwr_report.specs.BytesBefore.{bytes_before}
@@ -20,7 +20,7 @@ type_at None = 32 ∷ 32 ∷ 32 ∷ []
 type_at (Some line) = field_at line every_record_type
 
 -- where a line with this fault stands, after the lines before it; a line has F11 after TRL alone
-abbrev pub place_of : ℕ → Before → Option (List ℕ) → Place
+abbrev pub place_of : ℕ → Before → Option (List ℕ) → RecordPlace
 place_of number b None = End
 place_of number b (Some line) = if number == 11 then AfterTrailer else place_in b (type_of line)
 

@@ -5,8 +5,8 @@ use Rattle.cwr_record.specs.Kinds.{work_kind_code}
 use Rattle.cwr_record.specs.declared.works.WorkKind.{WorkKind}
 use Rattle.cwr_grammar.specs.FaultText.{refused_text}
 use Rattle.cwr_report.specs.declared.file_finding.FileFinding.{FileFinding}
-use Rattle.cwr_report.specs.declared.file_finding.Place.{Place}
-use Rattle.cwr_report.specs.declared.file_finding.Place.TheVariants as place
+use Rattle.cwr_report.specs.declared.file_finding.RecordPlace.{RecordPlace}
+use Rattle.cwr_report.specs.declared.file_finding.RecordPlace.TheVariants as place
 use Rattle.cwr_report.specs.declared.file_finding.WrongByte.{WrongByte}
 use Rattle.cwr_report.specs.declared.file_finding.FileExpected.{FileExpected}
 use Rattle.cwr_report.specs.declared.file_finding.FileExpected.TheVariants as wants
@@ -42,7 +42,7 @@ detail_text rtype group transaction detail =
     ++ counted (codes " in group ") group
 
 -- the record that is faulty
-abbrev pub place_text : List ℕ → Place → List ℕ
+abbrev pub place_text : List ℕ → RecordPlace → List ℕ
 place_text rtype place.End = codes "end of the file"
 place_text rtype place.AfterTrailer = codes "after TRL"
 place_text rtype place.Nameless = codes "no record type"

@@ -8,8 +8,8 @@ use Rattle.serde_json.specs.Written.{compact_text}
 use Rattle.cwr_report.specs.declared.finding.Finding.{Finding}
 use Rattle.cwr_report.specs.declared.finding.Spot.{Spot}
 use Rattle.cwr_report.specs.declared.file_finding.FileFinding.{FileFinding}
-use Rattle.cwr_report.specs.declared.file_finding.Place.{Place}
-use Rattle.cwr_report.specs.declared.file_finding.Place.TheVariants as place
+use Rattle.cwr_report.specs.declared.file_finding.RecordPlace.{RecordPlace}
+use Rattle.cwr_report.specs.declared.file_finding.RecordPlace.TheVariants as place
 use Rattle.cwr_report.specs.declared.file_finding.WrongByte.{WrongByte}
 use Rattle.cwr_report.specs.FileText.{counted, file_rule_text, file_wanted_text}
 use Rattle.cwr_report.specs.LongText.{name_text, stands_at, message_of, wanted_text}
@@ -79,7 +79,7 @@ abbrev pub finding_data : List (List ℕ) → Finding → Data
 finding_data lines f = told_data (line_at lines (f.line - 1)) f
 
 -- the line and the record of the fault of a file
-abbrev pub file_place : ℕ → List ℕ → Place → Members
+abbrev pub file_place : ℕ → List ℕ → RecordPlace → Members
 file_place line rtype place.End = place_members line null None None None
 file_place line rtype place.AfterTrailer = place_members line null None None None
 file_place line rtype place.Nameless = place_members line null None None None

@@ -3,7 +3,7 @@ ghost use Rattle.std.specs.Str.Lines.{lines};
 ghost use Rattle.cwr_report.specs.Before.{before_of, AreFew, IsPassed, here, place_in, trailer_place, header_place, detail_place};
 ghost use Rattle.cwr_report.specs.Walks.{lines_before};
 
-use crate::file_finding::Place;
+use crate::file_finding::RecordPlace;
 use cwr_grammar::Lines;
 use cwr_record::{GroupHead, RecordType, WorkKind, field_at, type_of};
 
@@ -78,14 +78,14 @@ impl Before {
     }
 
     /// Where a line with a record of this type stands.
-    pub(crate) fn place(&self, record_type: RecordType) -> Place
+    pub(crate) fn place(&self, record_type: RecordType) -> RecordPlace
         requires { AreFew self.now }
         ensures { result ≡ place_in self.now record_type }
     {
         match record_type {
-            RecordType::Bad => Place::Nameless,
-            RecordType::Hdr | RecordType::Trl => Place::File,
-            RecordType::Grh => Place::Group(self.groups + 1),
+            RecordType::Bad => RecordPlace::Nameless,
+            RecordType::Hdr | RecordType::Trl => RecordPlace::File,
+            RecordType::Grh => RecordPlace::Group(self.groups + 1),
             RecordType::Grt => self.trailer_place(),
             RecordType::Nwr | RecordType::Rev | RecordType::Ack | RecordType::Other => {
                 self.header_place()
@@ -95,44 +95,44 @@ impl Before {
     }
 
     /// GRT closes the group that is open.
-    fn trailer_place(&self) -> Place
+    fn trailer_place(&self) -> RecordPlace
         ensures { result ≡ trailer_place self.now }
     {
         if self.in_group {
-            Place::Group(self.groups)
+            RecordPlace::Group(self.groups)
         } else {
-            Place::File
+            RecordPlace::File
         }
     }
 
     /// A header begins the next transaction of the group.
-    fn header_place(&self) -> Place
+    fn header_place(&self) -> RecordPlace
         ensures { result ≡ header_place self.now }
     {
         if self.in_group {
-            Place::Transaction {
+            RecordPlace::Transaction {
                 group: self.groups,
                 transaction: self.transactions,
                 detail: 0,
             }
         } else {
-            Place::File
+            RecordPlace::File
         }
     }
 
     /// A detail goes on with the last transaction of the group.
-    fn detail_place(&self) -> Place
+    fn detail_place(&self) -> RecordPlace
         requires { AreFew self.now }
         ensures { result ≡ detail_place self.now }
     {
         if self.in_group && self.in_transaction {
-            Place::Transaction {
+            RecordPlace::Transaction {
                 group: self.groups,
                 transaction: self.transactions.saturating_sub(1),
                 detail: self.details + 1,
             }
         } else {
-            Place::File
+            RecordPlace::File
         }
     }
 }

@@ -21,7 +21,7 @@ pub struct FileFinding {
     /// The first three bytes of that line, which name its record type; blanks where it has ended before.
     pub rtype: [u8; 3],
     /// Where that line stands in the file.
-    pub place: Place,
+    pub place: RecordPlace,
     /// The byte that is wrong: F2, and F11 after TRL.
     pub byte: Option<WrongByte>,
     /// The fields of that line that are not as they are expected, in the order of the line.
@@ -32,7 +32,7 @@ pub struct FileFinding {
 
 /// Where a line stands in a file, by the lines before it and its record type.
 #[derive(Clone, Copy, Debug, PartialEq, Eq)]
-pub enum Place {
+pub enum RecordPlace {
     /// After the last line.
     End,
     /// A line after TRL.
@@ -148,14 +148,14 @@ fn type_at(line: Option<&[u8]>) -> [u8; 3]
 }
 
 /// Where a line with this fault stands, after the lines before it.
-fn place_of(number: u8, before: &Before, line: Option<&[u8]>) -> Place
+fn place_of(number: u8, before: &Before, line: Option<&[u8]>) -> RecordPlace
     requires { AreFew before.now }
     ensures { result ≡ place_of number before.now (option_map (λ l. l.now) line.entry) }
 {
     match line {
-        None => Place::End,
+        None => RecordPlace::End,
         Some(line) if number != 11 => before.place(type_of(line)),
-        Some(_) => Place::AfterTrailer,
+        Some(_) => RecordPlace::AfterTrailer,
     }
 }
 

@@ -1,7 +1,7 @@
 ghost use Rattle.std.specs.Prelude.{◌≡◌, ◌++◌, OnOk};
 ghost use Rattle.cwr_report.specs.FileText.{counted, place_text, detail_text, byte_text, kind_text, sequences_text, counts_text, file_counts_text, file_wanted_text, file_place_text, file_expected_text, refused_line, file_told};
 
-use crate::file_finding::{FileExpected, FileFinding, Place, WrongByte};
+use crate::file_finding::{FileExpected, FileFinding, RecordPlace, WrongByte};
 use crate::file_words::{file_rule_text, kind_text};
 use crate::long_lines::{put_shown, put_spots, put_text};
 use cwr_field::{Memory, put_decimal};
@@ -41,16 +41,20 @@ fn put_file_place<A: Allocator>(out: &mut Vec<u8, A>, finding: &FileFinding) -> 
 }
 
 /// Appends where the line stands.
-fn put_place<A: Allocator>(out: &mut Vec<u8, A>, rtype: &[u8], place: &Place) -> Result<(), Memory>
+fn put_place<A: Allocator>(
+    out: &mut Vec<u8, A>,
+    rtype: &[u8],
+    place: &RecordPlace,
+) -> Result<(), Memory>
     ensures { OnOk result (out.new.items ≡ out.old.items ++ place_text rtype.now place.now) }
 {
     match *place {
-        Place::End => put_text(out, b"end of the file"),
-        Place::AfterTrailer => put_text(out, b"after TRL"),
-        Place::Nameless => put_text(out, b"no record type"),
-        Place::File => put_shown(out, rtype),
-        Place::Group(group) => put_group(out, rtype, group),
-        Place::Transaction {
+        RecordPlace::End => put_text(out, b"end of the file"),
+        RecordPlace::AfterTrailer => put_text(out, b"after TRL"),
+        RecordPlace::Nameless => put_text(out, b"no record type"),
+        RecordPlace::File => put_shown(out, rtype),
+        RecordPlace::Group(group) => put_group(out, rtype, group),
+        RecordPlace::Transaction {
             group,
             transaction,
             detail,
@@ -59,7 +63,7 @@ fn put_place<A: Allocator>(out: &mut Vec<u8, A>, rtype: &[u8], place: &Place) ->
 }
 
 fn put_group<A: Allocator>(out: &mut Vec<u8, A>, rtype: &[u8], group: u64) -> Result<(), Memory>
-    ensures { OnOk result (out.new.items ≡ out.old.items ++ place_text rtype.now (Place.Group group)) }
+    ensures { OnOk result (out.new.items ≡ out.old.items ++ place_text rtype.now (RecordPlace.Group group)) }
 {
     put_shown(out, rtype)?;
     put_counted(out, b" of group ", group)?;

@@ -6,7 +6,7 @@ ghost use Rattle.cwr_report.specs.Json.{json_line, told_data, finding_data, file
 ghost use Rattle.cwr_report.specs.Report.{IsJsonCheck};
 ghost use Rattle.cwr_report.specs.Walks.{IsWalk};
 
-use crate::file_finding::{FileFinding, Place, WrongByte};
+use crate::file_finding::{FileFinding, RecordPlace, WrongByte};
 use crate::file_lines::put_file_wanted;
 use crate::file_words::file_rule_text;
 use crate::finding::Finding;
@@ -200,16 +200,16 @@ fn file_place(
     alloc: Global,
     line: u64,
     rtype: &[u8],
-    place: &Place,
+    place: &RecordPlace,
 ) -> Result<Map<String, Value>, Memory>
     ensures { IfOk result (λ map. members_view map.entries ≡ file_place line rtype.now place.now) }
 {
     match *place {
-        Place::End | Place::AfterTrailer | Place::Nameless => {
+        RecordPlace::End | RecordPlace::AfterTrailer | RecordPlace::Nameless => {
             place_map(alloc, line, Value::Null, None, None, None)
         }
-        Place::File => place_map(alloc, line, text_value(alloc, rtype)?, None, None, None),
-        Place::Group(group) => {
+        RecordPlace::File => place_map(alloc, line, text_value(alloc, rtype)?, None, None, None),
+        RecordPlace::Group(group) => {
             place_map(
                 alloc,
                 line,
@@ -219,7 +219,7 @@ fn file_place(
                 None,
             )
         }
-        Place::Transaction {
+        RecordPlace::Transaction {
             group,
             transaction,
             detail,

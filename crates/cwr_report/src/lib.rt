@@ -26,7 +26,7 @@ pub use cwr_check::Checked;
 pub use cwr_field::Memory;
 pub use cwr_record::{Column, WorkKind};
 pub use cwr_rules::{Over, Totals};
-pub use file_finding::{FileExpected, FileFinding, Place, WrongByte};
+pub use file_finding::{FileExpected, FileFinding, RecordPlace, WrongByte};
 pub use file_words::file_rule_text;
 pub use finding::{Expected, FieldName, Finding, Spot};
 pub use json::{check_json, json_text};

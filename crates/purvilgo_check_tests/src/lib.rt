@@ -11,3 +11,5 @@ mod long_checks;
 mod long_faults;
 #[cfg(test)]
 mod told_tables;
+#[cfg(test)]
+mod verified_files;

@@ -1,5 +1,5 @@
-//! The command lines of `explain`, of the tables and of the summary. They stand apart, so that the list of commands that the reader prints for
-//! `--help`, its other texts and its guesses stay as they were.
+//! The command lines of `explain`, of the tables, of the summary and of `verify`. They stand apart, so that the list of
+//! commands that the reader prints for `--help`, its other texts and its guesses stay as they were.
 
 use crate::explain::{explain_command, explain_rules};
 use crate::status::bad_words;
@@ -7,6 +7,7 @@ use crate::tables::{
     Table, claims_command, history_command, summary_command, tell_summary, tell_table,
     works_command,
 };
+use crate::verified_files::{verify_command, verify_files};
 use clap::{ArgMatches, Command};
 use std::alloc::{AllocError, Global};
 use std::process::ExitCode;
@@ -18,7 +19,7 @@ pub(crate) fn names_further(words: &[String]) -> bool {
         return false;
     };
     match word.as_str() {
-        "explain" | "claims" | "works" | "history" | "summary" => true,
+        "explain" | "claims" | "works" | "history" | "summary" | "verify" => true,
         _ => false,
     }
 }
@@ -30,7 +31,8 @@ pub(crate) fn further_line<'a>(alloc: Global) -> Result<Command<'a>, AllocError>
         .subcommand(claims_command(alloc)?)?
         .subcommand(works_command(alloc)?)?
         .subcommand(history_command(alloc)?)?
-        .subcommand(summary_command(alloc)?)
+        .subcommand(summary_command(alloc)?)?
+        .subcommand(verify_command(alloc)?)
 }
 
 /// Runs the one that the words name.
@@ -45,6 +47,7 @@ pub(crate) fn run_further<R: AllocGlobal + Input + Print + Eprint + Files>(
         ("works", Some(path)) => tell_table(rt, Table::Works, path, given),
         ("history", Some(path)) => tell_table(rt, Table::History, path, given),
         ("summary", Some(path)) => tell_summary(rt, path, given),
+        ("verify", Some(path)) => verify_files(rt, path, given),
         _ => bad_words(rt, "the command line is not taken"),
     }
 }

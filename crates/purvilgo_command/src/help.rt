@@ -22,6 +22,7 @@ fn page_of(command: &str) -> Option<&'static str> {
         "works" => Some(WORKS),
         "history" => Some(HISTORY),
         "summary" => Some(SUMMARY),
+        "verify" => Some(VERIFY),
         _ => None,
     }
 }
@@ -43,6 +44,7 @@ Commands:
   works    tells the works of a register, in CSV
   history  tells every entry of a register, in CSV
   summary  tells how much of what is in a register
+  verify   checks a register against files and their acknowledgements
   help     prints this page, or the page of a command
 
 Options:
@@ -243,4 +245,26 @@ Status: 0 told; 2 the words are not taken, or help; 1 else.
 
 Example:
   purvilgo summary 0042.register
+";
+
+const VERIFY: &str = "\
+Checks a register against files that were sent, and against their acknowledgements: the
+transactions of each file, judged anew, stand in the register in the order of the file,
+each with the reply that the acknowledgement tells, and no entry answers two of them.
+
+Usage: purvilgo verify [OPTIONS] REGISTER FILE..
+
+Options:
+  -v, --verbose  tell steps and the system's reasons on standard error
+  -h, --help     the words in short
+
+Reads: REGISTER, or standard input where REGISTER is -; each FILE, and FILE.ack beside it.
+Give the files in the order in which they were run.
+Writes: on standard output how many transactions of how many files are verified; or the
+register's first fault, or the first FILE that does not fit, with the group and the
+transaction, or the line of FILE.ack.
+Status: 0 verified; 2 the words are not taken, or help; 1 else.
+
+Example:
+  purvilgo verify 0042.register in/a.v22 in/b.v22
 ";

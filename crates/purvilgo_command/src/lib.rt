@@ -18,6 +18,7 @@ mod status;
 mod tables;
 mod targets;
 mod telling;
+mod verified_files;
 mod version;
 
 pub use program::run_program;

@@ -27,16 +27,17 @@ use std::{env, io, str};
 /// come from a register and go to one. `check FILE` tells on standard output which rules a file breaks, with `--long` or
 /// `--json` also where and why, and `audit REGISTER` tells there how many entries a register has, or its first fault.
 /// `explain` tells there what rules ask, `claims`, `works` and `history` tell a register as a table in CSV, and
-/// `summary` tells how much of what is in it.
+/// `summary` tells how much of what is in it. `verify REGISTER FILE..` checks it against files and their acknowledgements.
 /// `--version` tells there the program's version.
 ///
 /// The status is 0 without words where the input is acknowledged; of `run` where all files are, each outcome is told,
 /// and the register that is asked for is kept; of `check` and `audit` where there is no fault, and that is told; of
-/// `explain` and `--version` where it is told; of a table or a summary where the register has no fault, and all of it is told. It is
-/// 2 where the words are not taken: one of them is not text, `clap` answers with a text of its own, help is asked for,
-/// a word of `explain` names no rule, the value of a table's option cannot be, or those of `run` have a
-/// [`RunFault`](run_words::RunFault) or name one file of the system twice. Else it is 1, also where memory is refused for
-/// the words.
+/// `explain` and `--version` where it is told; of a table or a summary where the register has no fault, and all of it
+/// is told; of `verify` where the register has none, and each file is answered as its acknowledgement tells. It is 2
+/// where the words are not taken: one of them is not text, `clap` answers with a text of its own, help is asked for, a
+/// word of `explain` names no rule, the value of a table's option cannot be, or those of `run` have a
+/// [`RunFault`](run_words::RunFault) or name one file of the system twice. Else it is 1, also where memory is refused
+/// for the words.
 pub fn run_program<R: Env + AllocGlobal + Input + Print + Eprint + Files + Threads + Wait + Sync>(
     rt: &R,
 ) -> ExitCode

@@ -146,7 +146,7 @@ fn tell_unwritten<R: Eprint>(rt: &R, unwritten: Unwritten) -> ExitCode {
 }
 
 /// The book of a register. Of one that is refused, or cannot be read, that is told, as an audit tells it.
-fn book_of<R: AllocGlobal + Input + Print + Eprint + Files>(
+pub(crate) fn book_of<R: AllocGlobal + Input + Print + Eprint + Files>(
     rt: &R,
     path: &str,
     verbose: bool,

@@ -8,7 +8,7 @@ use Rattle.work_registry.specs.Rows.{Row, key_of, rows_of}
 use Rattle.work_registry.specs.Claims.{claim_of}
 use Rattle.work_registry.specs.Told.{work_in, version_in}
 use Rattle.register_tables.specs.declared.wanted.Wanted.{Wanted}
-use Rattle.register_tables.specs.Rows.{csv_line, number_field, iswc_field}
+use Rattle.register_tables.specs.CsvRows.{csv_line, number_field, iswc_field}
 use Rattle.register_tables.specs.Wanted.{is_wanted}
 
 -- there is a version, and it is that of the claim

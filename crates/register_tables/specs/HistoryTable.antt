@@ -7,7 +7,7 @@ use Rattle.cwr_record.specs.Kinds.{status_text, work_kind_code}
 use Rattle.work_registry.specs.EntryValue.{EntryValue}
 use Rattle.work_registry.specs.Told.{status_in, work_in, version_in}
 use Rattle.register_tables.specs.declared.wanted.Wanted.{Wanted}
-use Rattle.register_tables.specs.Rows.{csv_line, number_field, iswc_field}
+use Rattle.register_tables.specs.CsvRows.{csv_line, number_field, iswc_field}
 use Rattle.register_tables.specs.Wanted.{is_wanted}
 
 -- the faulty record's sequence, and the rule's number behind J

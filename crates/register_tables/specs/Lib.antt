@@ -1,4 +1,4 @@
-pub mod Rows
+pub mod CsvRows
 pub mod Wanted
 pub mod ClaimsTable
 pub mod HistoryTable

@@ -8,7 +8,7 @@ use Rattle.work_registry.specs.Works.{control_of, iswc_of}
 use Rattle.work_registry.specs.Told.{work_in}
 use Rattle.register_tables.specs.declared.wanted.Wanted.{Wanted}
 use Rattle.register_tables.specs.declared.works.KeptWork.{KeptWork}
-use Rattle.register_tables.specs.Rows.{csv_line, iswc_field}
+use Rattle.register_tables.specs.CsvRows.{csv_line, iswc_field}
 use Rattle.register_tables.specs.Wanted.{fits_number}
 use Rattle.register_tables.specs.ClaimsTable.{is_current}
 

@@ -5,7 +5,7 @@ ghost use Rattle.std.specs.List.{flat_map};
 ghost use Rattle.std.specs.Io.KnownBytes.{Appends};
 ghost use Rattle.csv.specs.Writing.{text_written};
 ghost use Rattle.work_registry.specs.Rows.{rows_of};
-ghost use Rattle.register_tables.specs.Rows.{csv_line, iswc_field, IsAtRow};
+ghost use Rattle.register_tables.specs.CsvRows.{csv_line, iswc_field, IsAtRow};
 ghost use Rattle.register_tables.specs.ClaimsTable.{is_current, claims_header, claim_fields, claim_line, is_listed, claims_text};
 
 use crate::rows::{Unwritten, ended, number_field, put_row, rows_to, set_iswc};

@@ -3,7 +3,7 @@
 ghost use Rattle.std.specs.Prelude.{◌≡◌, ◌++◌, ◌<◌, ◌^◌, IfOk, OnOk};
 ghost use Rattle.std.specs.Io.KnownBytes.{Appends};
 ghost use Rattle.csv.specs.Writing.{text_written};
-ghost use Rattle.register_tables.specs.Rows.{csv_line, iswc_field, IsAtRow};
+ghost use Rattle.register_tables.specs.CsvRows.{csv_line, iswc_field, IsAtRow};
 ghost use Rattle.register_tables.specs.HistoryTable.{fault_text, more_fault_text, faults_field, history_header, entry_fields, entry_row, entry_rows, history_text};
 ghost use Rattle.std.specs.List.{flat_map};
 
@@ -11,6 +11,7 @@ use crate::rows::{Unwritten, ended, number_field, put_row, rows_to, set_iswc};
 use crate::wanted::{Wanted, is_wanted};
 use csv::Writer;
 use cwr_field::{Memory, put_decimal};
+use itoa::Buffer;
 use std::alloc::Allocator;
 use std::io::Write;
 use work_registry::{Book, Entry, Fault};

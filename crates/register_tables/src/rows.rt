@@ -4,7 +4,7 @@ ghost use Rattle.std.specs.Prelude.{◌≡◌, [], IfOk, OnOk, map, IsTrue};
 ghost use Rattle.std.specs.Io.KnownBytes.{Appends, Keeps};
 ghost use Rattle.csv.specs.Writing.{text_written, writer_pending, writer_under};
 ghost use Rattle.cwr_call.specs.Lawful.{is_iswc};
-ghost use Rattle.register_tables.specs.Rows.{csv_line, number_field, iswc_field, IsAtRow};
+ghost use Rattle.register_tables.specs.CsvRows.{csv_line, number_field, iswc_field, IsAtRow};
 
 use csv::{Writer, WriterBuilder};
 use cwr_field::Memory;

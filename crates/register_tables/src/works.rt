@@ -6,7 +6,7 @@ ghost use Rattle.csv.specs.Writing.{text_written};
 ghost use Rattle.cwr_call.specs.Lawful.{is_iswc};
 ghost use Rattle.work_registry.specs.Rows.{Row, rows_of};
 ghost use Rattle.work_registry.specs.Works.{control_of};
-ghost use Rattle.register_tables.specs.Rows.{csv_line, iswc_field, IsAtRow};
+ghost use Rattle.register_tables.specs.CsvRows.{csv_line, iswc_field, IsAtRow};
 ghost use Rattle.register_tables.specs.WorksTable.{last_work, wanted_line, work_fields, work_lines, works_header, works_text};
 ghost use Rattle.register_tables.specs.Gathered.{AreKept, blank_work, grown, noted};
 

@@ -2,7 +2,7 @@ use Rattle.std.proofs.Common.{drop, filter}
 use Rattle.std.specs.List.{flat_map}
 use Rattle.csv.specs.Writing.{text_written}
 use Rattle.work_registry.specs.Rows.{rows_of}
-use Rattle.register_tables.specs.Rows.{IsAtRow}
+use Rattle.register_tables.specs.CsvRows.{IsAtRow}
 use Rattle.register_tables.specs.ClaimsTable.{claim_line, is_listed}
 use Rattle.register_tables.proofs.Steps.{IsPart}
 use Rattle.register_tables.proofs.claims.put_claims.Given as goal

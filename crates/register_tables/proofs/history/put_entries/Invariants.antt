@@ -1,6 +1,6 @@
 use Rattle.std.proofs.Common.{◌+◌, drop}
 use Rattle.csv.specs.Writing.{text_written}
-use Rattle.register_tables.specs.Rows.{IsAtRow}
+use Rattle.register_tables.specs.CsvRows.{IsAtRow}
 use Rattle.register_tables.specs.HistoryTable.{entry_rows}
 use Rattle.register_tables.proofs.Steps.{IsPart}
 use Rattle.register_tables.proofs.history.put_entries.Given as goal

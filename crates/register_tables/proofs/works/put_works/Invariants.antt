@@ -1,7 +1,7 @@
 use Rattle.std.proofs.Common.{◌+◌, ◌-◌, filter, length}
 use Rattle.std.specs.List.{flat_map, range_with_len}
 use Rattle.csv.specs.Writing.{text_written}
-use Rattle.register_tables.specs.Rows.{IsAtRow}
+use Rattle.register_tables.specs.CsvRows.{IsAtRow}
 use Rattle.register_tables.specs.WorksTable.{is_wanted_work, work_line, work_lines}
 use Rattle.register_tables.proofs.Steps.{IsPart}
 use Rattle.register_tables.proofs.works.put_works.Given as goal

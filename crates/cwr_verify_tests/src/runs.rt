@@ -1,0 +1,45 @@
+//! Runs whose files and acknowledgements are known.
+
+use byte_streams::{Feed, Room};
+use cwr_engine::{Job, work_alone};
+use cwr_sheets::stamp;
+use cwr_verify::{SentFile, Unverified, verify};
+use std::alloc::Global;
+use std::test::Fail;
+use work_registry::Book;
+
+/// Works a file at a book, and appends its acknowledgement.
+pub(crate) fn work(
+    alloc: Global,
+    book: Book,
+    file: &[u8],
+    answers: &mut Vec<Vec<u8>>,
+) -> Result<Book, Fail> {
+    let job = Job {
+        reader: Feed::new(file, 1000, None),
+        writer: Room::new(alloc, 10000, true)?,
+    };
+    let (book, job, _outcome) = work_alone(alloc, book, 1, job, &stamp()?);
+    answers.push(job.writer.bytes().to_vec(alloc)?)?;
+    Ok(book)
+}
+
+/// What verifying two files, each with its acknowledgement, answers at a book.
+pub(crate) fn verified(
+    alloc: Global,
+    book: &Book,
+    texts: [&[u8]; 2],
+    acknowledgements: [&[u8]; 2],
+) -> Result<Vec<usize>, Unverified> {
+    let files = [
+        SentFile {
+            text: texts[0],
+            acknowledgement: acknowledgements[0],
+        },
+        SentFile {
+            text: texts[1],
+            acknowledgement: acknowledgements[1],
+        },
+    ];
+    verify(alloc, book, &files)
+}

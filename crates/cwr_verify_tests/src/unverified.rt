@@ -1,0 +1,107 @@
+//! Files that a register does not answer.
+
+use crate::runs::{verified, work};
+use cwr_sheets::{miscounted, rival_claims, same, three_works};
+use cwr_verify::Unverified;
+use std::alloc::Global;
+use std::test::Fail;
+use work_registry::Book;
+
+/// Where the line of the first transaction ends: HDR has 167 bytes, GRH 28 and ACK 159, each with CR LF.
+const FIRST_ANSWER_END: usize = 167 + 28 + 159 + 2 * 3;
+
+/// A text with one byte put in another's place, counted from its end.
+fn damaged(alloc: Global, text: &[u8], from_end: usize) -> Result<Vec<u8>, Fail> {
+    let mut other = text.to_vec(alloc)?;
+    if from_end > other.len() {
+        return Err(Fail::from("a short text"));
+    }
+    let at = other.len() - from_end;
+    if at < other.len() {
+        other[at] = b'9';
+    }
+    Ok(other)
+}
+
+/// What is told of files that do not fit a register of two rival claims and three works.
+fn expect_told(alloc: Global) -> Result<(), Fail> {
+    let rivals = rival_claims(alloc)?;
+    let first = rivals[0].as_slice();
+    let second = rivals[1].as_slice();
+    let works = three_works(alloc)?;
+    let mut answers = Vec::new(alloc);
+    let book = work(alloc, Book::new(alloc, 10), first, &mut answers)?;
+    let book = work(alloc, book, second, &mut answers)?;
+    let book = work(alloc, book, &works, &mut answers)?;
+    let book = book.reopened();
+    if answers.len() != 3 {
+        return Err(Fail::from("three answers"));
+    }
+    let trailer = damaged(alloc, &answers[2], 3)?;
+    let refused = miscounted(alloc)?;
+    let files = [first, second, works.as_slice(), refused.as_slice()];
+    let told = [
+        answers[0].as_slice(),
+        answers[2].as_slice(),
+        trailer.as_slice(),
+    ];
+    expect_each(alloc, &book, files, told)
+}
+
+/// The first file fits, and another does not.
+fn expect_each<'a>(
+    alloc: Global,
+    book: &Book,
+    files: [&'a [u8]; 4],
+    answers: [&'a [u8]; 3],
+) -> Result<(), Fail> {
+    let [first, second, works, refused] = files;
+    let [answer, whole, trailer] = answers;
+    if whole.len() < FIRST_ANSWER_END {
+        return Err(Fail::from("a whole answer"));
+    }
+    let given = [
+        (first, answer, missing(0)),
+        (second, answer, missing(0)),
+        (works, &whole[..FIRST_ANSWER_END], missing(1)),
+        (
+            works,
+            trailer,
+            Unverified::Acknowledgement { file: 1, line: 7 },
+        ),
+        (
+            works,
+            &whole[..0],
+            Unverified::Acknowledgement { file: 1, line: 1 },
+        ),
+        (
+            refused,
+            answer,
+            Unverified::Refused {
+                file: 1,
+                number: 9,
+                line: 5,
+            },
+        ),
+    ];
+    for (text, acknowledgement, why) in given {
+        let acknowledgements = [answer, acknowledgement];
+        let told = verified(alloc, book, [first, text], acknowledgements).err();
+        same("why", &told, &Some(why))?;
+    }
+    Ok(())
+}
+
+/// The transaction of this sequence of the second file has no entry.
+fn missing(sequence: u32) -> Unverified {
+    Unverified::Transaction {
+        file: 1,
+        group: 1,
+        sequence,
+    }
+}
+
+#[test]
+fn tells_what_does_not_fit(rt: HostRuntime) -> Result<(), Fail> {
+    expect_told(rt.alloc())
+}
