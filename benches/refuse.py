@@ -25,6 +25,33 @@ STAMP = ["--society", "000", "--name", "CWR REGISTRY", "--date", "20240601", "--
 NO_MEMORY = b"stopped: memory\n"
 KINDS = ["ample", "stopped: memory", "job: memory", "line left out", "--from: memory", "--to: memory"]
 
+TITLE = b"SONG ONE".ljust(60)
+CLAIMS = b"""submitter,number,work,version,title,iswc,performing,mechanical,synchronization
+PB000000123,W1            ,1,1,%s,T0345246801,5000,5000,5000
+""" % TITLE
+WORKS = b"""work,iswc,performing,mechanical,synchronization,claims
+1,T0345246801,5000,5000,5000,1
+"""
+CONFLICTS = b"""entry,submitter,kind,number,title,iswc,performing,mechanical,synchronization,status,work,version,faults
+2,PB000000456,NWR,W1            ,%s,T0345246801,5007,5007,5007,CO,1,,
+""" % TITLE
+HALF = b"  none: 0\n  up to a quarter: 0\n  up to a half: 1\n  more than a half: 0\n  all: 0\n"
+SUMMARY = b"""entries: 2
+accepted (AS): 1
+duplicates (DU): 0
+conflicts (CO): 1
+rejected (RJ): 0
+works: 1
+current claims: 1
+submitters: 2
+works by what is left of the performing right:
+%sworks by what is left of the mechanical right:
+%sworks by what is left of the synchronization right:
+%slargest conflicts:
+  work 1: 1
+""" % (HALF, HALF, HALF)
+UNTOLD = b": group 1, transaction 0: not in the register as conflict-2.v22.ack tells it\n"
+
 Answer = collections.namedtuple("Answer", "status printed complained files")
 
 
@@ -39,10 +66,11 @@ def want(holds, what):
 
 class Command:
     """A command without files to write: its words, its answer in ample memory, of no words how many transactions may be
-    handed in before a stop, and whether it reads a register by `--from`."""
+    handed in before a stop, whether it reads a register by `--from`, and whether it writes its answer as it goes, so that a
+    stop may leave the beginning of it."""
 
-    def __init__(self, words, status, printed=b"", complained=b"", files=(), given=b"", transactions=None, opening=False):
-        self.words, self.given, self.transactions, self.opening = words, given, transactions, opening
+    def __init__(self, words, status, printed=b"", complained=b"", files=(), given=b"", transactions=None, opening=False, streams=False):
+        self.words, self.given, self.transactions, self.opening, self.streams = words, given, transactions, opening, streams
         self.files = dict(files)
         self.ample = Answer(status, printed, complained, self.files)
         self.rounds = 1
@@ -51,7 +79,8 @@ class Command:
         if answer == self.ample:
             return "ample"
         want(answer.files == self.files, "a file was changed")
-        want(answer.status == 1 and answer.printed == b"", "status and standard output")
+        left = self.ample.printed if self.streams else b""
+        want(answer.status == 1 and left.startswith(answer.printed), "status and standard output")
         if answer.complained == NO_MEMORY:
             return "stopped: memory"
         if self.opening and answer.complained == b"register: " + NO_MEMORY:
@@ -170,6 +199,9 @@ def commands(examples):
     conflict = job("conflict-2.v22", [second])
     two = [job("accepted.v22", [accepted]), job("rejected.v22", [rejected])]
     both = register([first, second])
+    pair = [lone, conflict]
+    sent = [("r", both)] + [row for name, file, ack, _ in pair for row in ((name, file), (name + ".ack", ack))]
+    astray = [("r", both), (pair[1][0], pair[1][1]), (pair[1][0] + ".ack", pair[0][2])]
     wrong = both.replace(b"CO", b"AS")
     file = lambda name: [(name, sample(name))]
     return [
@@ -184,6 +216,12 @@ def commands(examples):
         ("audit, two entries", Command(["audit", "r"], 0, b"2 entries\n", files=[("r", both)])),
         ("audit -", Command(["audit", "-"], 0, b"2 entries\n", given=both)),
         ("audit, a wrong entry", Command(["audit", "r"], 1, b"refused G3 at line 3\n", files=[("r", wrong)])),
+        ("claims", Command(["claims", "r"], 0, CLAIMS, files=[("r", both)], streams=True)),
+        ("works", Command(["works", "r"], 0, WORKS, files=[("r", both)], streams=True)),
+        ("history --status CO", Command(["history", "--status", "CO", "r"], 0, CONFLICTS, files=[("r", both)], streams=True)),
+        ("summary", Command(["summary", "r"], 0, SUMMARY, files=[("r", both)])),
+        ("verify, two files", Command(["verify", "r", *(name for name, *_ in pair)], 0, b"2 transactions of 2 files\n", files=sent)),
+        ("verify, another's answer", Command(["verify", "r", pair[1][0]], 1, pair[1][0].encode() + UNTOLD, files=astray)),
         ("run", Run([job("duplicate.v22", [accepted, duplicate])])),
         ("run --to", Run([lone], to=True)),
         ("run --from", Run([conflict], opening=[first])),
