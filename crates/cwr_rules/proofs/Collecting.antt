@@ -64,7 +64,7 @@ over_more r rest code e =
       | false ↦ λ h. same_any (λ c. is_over (collection c (r ∷ rest))) (λ c. is_over (collection c rest)) (codes_of rest) (λ c. stays c r rest code e h)
     ]) refl
 
-same_totals : (a b : Totals) → a.performing ≡ b.performing → a.mechanical ≡ b.mechanical → a.synchronization ≡ b.synchronization → a ≡ b
+pub same_totals : (a b : Totals) → a.performing ≡ b.performing → a.mechanical ≡ b.mechanical → a.synchronization ≡ b.synchronization → a ≡ b
 same_totals a b p m s =
     let one : a ≡ record { performing = b.performing; mechanical = a.mechanical; synchronization = a.synchronization } = ap (λ (x : ℕ). made x a.mechanical a.synchronization) p in
     let two : made b.performing a.mechanical a.synchronization ≡ made b.performing b.mechanical a.synchronization = ap (λ (x : ℕ). made b.performing x a.synchronization) m in

@@ -3,10 +3,12 @@ pub mod Rising
 pub mod Members
 pub mod Collecting
 pub mod SmallShares
-pub mod Steps
 pub mod FaultForms
 pub mod LawfulCall
 pub mod TerritoryLaw
+pub mod Turned
+pub mod Findings
+pub mod OnePass
 pub mod NameLaw
 pub mod PartyKeys
 pub mod RecordLaw

@@ -1,5 +1,5 @@
 -- Totals are at most the whole for each record.
-use Rattle.std.proofs.Common.{◌≡◌, ℕ, ◌*◌, ◌<◌, ◌≤◌, Bool, true, false, cond, leb, List, [], ◌∷◌, length, drop, zero, suc, Option, Some, None, arith, refl}
+use Rattle.std.proofs.Common.{◌≡◌, ℕ, ◌*◌, ◌<◌, ◌≤◌, Bool, true, false, cond, leb, List, [], ◌∷◌, length, Option, Some, None, arith, refl}
 use Rattle.std.specs.Prelude.{filter, option_and_then}
 use Rattle.std.proofs.lemmas.Bool.Decides.{nat_tests}
 use Rattle.cwr_field.specs.Layout.{is_blank}
@@ -40,7 +40,7 @@ by_line line columns r is = record {
 no_shares : (r : Record) → valued (shares_of r).performing ≡ 0 → valued (shares_of r).mechanical ≡ 0 → valued (shares_of r).synchronization ≡ 0 → IsCapped r
 no_shares r p m s = record { performing = omega arith; mechanical = omega arith; synchronization = omega arith }
 
-as_capped : (t : RecordType) (line : List ℕ) → IsCapped (record_as t line)
+pub as_capped : (t : RecordType) (line : List ℕ) → IsCapped (record_as t line)
 as_capped of_type.Spu line = by_line line (ownership_columns of_type.Spu) (record_as of_type.Spu line) refl
 as_capped of_type.Opu line = by_line line (ownership_columns of_type.Opu) (record_as of_type.Opu line) refl
 as_capped of_type.Spt line = by_line line (collection_columns of_type.Spt) (record_as of_type.Spt line) refl
@@ -64,11 +64,6 @@ as_capped of_type.Bad line = no_shares (record_as of_type.Bad line) refl refl re
 pub records_capped : (lines : List (List ℕ)) → AreCapped (records_of lines)
 records_capped [] = tt
 records_capped (line ∷ lines) = (as_capped (type_of line) line, records_capped lines)
-
-pub drop_capped : (n : ℕ) (records : List Record) → AreCapped records → AreCapped (drop n records)
-drop_capped zero records h = h
-drop_capped (suc n) [] h = tt
-drop_capped (suc n) (r ∷ records) h = drop_capped n records h.1
 
 pub total_le : (right : Shares → Option ℕ) → ((r : Record) → IsCapped r → valued (right (shares_of r)) ≤ whole) → (p : Record → Bool) (records : List Record)
     → AreCapped records → total right (filter p records) ≤ whole * length records

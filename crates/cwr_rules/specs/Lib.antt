@@ -11,5 +11,6 @@ pub mod Position
 pub mod Parties
 pub mod Collected
 pub mod Summary
+pub mod SoFar
 pub mod OfRecords
 pub mod Added

@@ -2,15 +2,16 @@ ghost use Rattle.std.specs.Prelude.{◌≡◌, IfOk, nat_eq};
 ghost use Rattle.std.specs.HashMap.{get};
 ghost use Rattle.cwr_rules.specs.Added.{details_of, first_over};
 ghost use Rattle.cwr_rules.specs.Collected.{IsCollected};
+ghost use Rattle.cwr_rules.specs.Records.{records_of};
 ghost use Rattle.cwr_rules.specs.Totals.{included, ownership};
 
 use crate::collected::Collected;
-use crate::reading::{parts, read_records};
+use crate::reading::{parts, record_of};
 use crate::record::Record;
-use crate::summary::summary_of;
+use crate::so_far::read_details;
 use crate::totals::Totals;
 use cwr_field::Memory;
-use cwr_grammar::RawTransaction;
+use cwr_grammar::{Lines, RawTransaction};
 use std::alloc::Allocator;
 
 /// What the shares of a transaction add up to, which the rules J11, J12, J13 and J15 look at.
@@ -33,8 +34,7 @@ pub struct Over {
 
 /// What the shares of a transaction add up to.
 ///
-/// Memory is asked for its records in short form, the parties of its publishers and the totals of its territories;
-/// where it is refused nothing is left.
+/// Memory is asked for as [`judge`](crate::judge) asks; where it is refused nothing is left.
 pub fn added_shares<A: Allocator + Copy>(
     alloc: A,
     transaction: &RawTransaction,
@@ -43,21 +43,21 @@ pub fn added_shares<A: Allocator + Copy>(
     ensures over { IfOk result (λ added. added.over ≡ first_over (details_of transaction.now)) }
 {
     let (_, details) = parts(transaction);
-    let records = read_records(alloc, details)?;
-    let summary = summary_of(alloc, &records)?;
+    let read = read_details(alloc, details)?;
+    let (_, again) = parts(transaction);
     Ok(AddedShares {
-        ownership: summary.sums.ownership,
-        over: first_over(&summary.collected, &records),
+        ownership: read.summary.sums.ownership,
+        over: first_over(&read.summary.collected, again),
     })
 }
 
 /// The first territory in which more than the whole is collected.
-fn first_over<A: Allocator + Copy>(collected: &Collected<A>, records: &[Record]) -> Option<Over>
-    requires { IsCollected (get nat_eq collected.now.by_code) collected.now.is_over records.now }
-    ensures { result ≡ first_over records.now }
+fn first_over<A: Allocator + Copy>(collected: &Collected<A>, lines: Lines) -> Option<Over>
+    requires { IsCollected (get nat_eq collected.now.by_code) collected.now.is_over (records_of lines) }
+    ensures { result ≡ first_over (records_of lines.entry) }
 {
-    for detail in records {
-        let Some(territory) = included(detail) else {
+    for line in lines {
+        let Some(territory) = included(&record_of(line)) else {
             continue;
         };
         let totals = collected.at(territory);

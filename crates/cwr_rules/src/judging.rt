@@ -1,18 +1,17 @@
-ghost use Rattle.std.specs.Prelude.{◌≡◌, ◌<◌, IsTrue, IfOk, length, nat_eq};
+ghost use Rattle.std.specs.Prelude.{◌≡◌, List, IsTrue, IfOk, nat_eq};
 ghost use Rattle.std.specs.HashMap.{get};
 ghost use Rattle.cwr_field.specs.Iswc.{iswc_of};
-ghost use Rattle.cwr_field.specs.Number.{most_count};
 ghost use Rattle.cwr_record.specs.Columns.{field_at, work_head_iswc};
 ghost use Rattle.cwr_call.specs.Lawful.{is_clean, is_iswc};
 ghost use Rattle.cwr_rules.specs.Calls.{call_of};
 ghost use Rattle.cwr_rules.specs.Head.{number_in};
 ghost use Rattle.cwr_rules.specs.Faults.{faults_of};
-ghost use Rattle.cwr_rules.specs.Summary.{IsSummary};
+ghost use Rattle.cwr_rules.specs.SoFar.{IsWhole};
+ghost use Rattle.cwr_rules.specs.declared.record.Record.{Record};
 
-use crate::reading::{parts, read_records};
-use crate::record::Record;
-use crate::record_faults::push_faults_of_records;
-use crate::summary::{Summary, summary_of};
+use crate::reading::parts;
+use crate::so_far::{SoFar, read_details};
+use crate::standing::push_standing;
 use crate::whole_faults::push_faults_of_whole;
 use cwr_call::{Call, Fault, Faults};
 use cwr_field::{Iswc, Memory, iswc};
@@ -31,29 +30,28 @@ fn iswc_number(head: &[u8]) -> Option<u64>
     }
 }
 
-/// All faults of a transaction, in order.
+/// All faults of a transaction, in order. Memory is asked for only where there is one.
 fn faults_of<A: Allocator + Copy>(
     alloc: A,
     kind: WorkKind,
     head: &[u8],
-    records: &[Record],
-    summary: &Summary<A>,
+    read: &SoFar<A>,
 ) -> Result<Vec<Fault, A>, Memory>
-    requires few { length records.now < most_count }
-    requires summary { IsSummary summary.now.sums summary.now.parties.set (get nat_eq summary.now.collected.by_code) summary.now.collected.is_over records.now }
-    ensures { IfOk result (λ faults. faults.items ≡ faults_of kind head.now records.now) }
+    ensures { IfOk result (λ faults. (records : List Record)
+        → IsWhole read.now.summary.sums read.now.summary.parties.set (get nat_eq read.now.summary.collected.by_code) read.now.summary.collected.is_over read.now.findings.items records
+        → faults.items ≡ faults_of kind head.now records) }
 {
     let mut faults = Vec::new(alloc);
-    push_faults_of_whole(&mut faults, kind, head, summary)?;
-    push_faults_of_records(&mut faults, &summary.parties, records)?;
+    push_faults_of_whole(&mut faults, kind, head, &read.summary)?;
+    push_standing(&mut faults, &read.summary.parties, &read.findings)?;
     Ok(faults)
 }
 
 /// The call of a transaction: its parts, its control, and every fault of its rules.
 ///
-/// It is judged whether or not it has faults. No byte of the submitter is below 32. Memory is asked for its records in
-/// short form, the parties of its publishers, the totals of its territories and its faults; where it is refused nothing
-/// is left.
+/// It is judged whether or not it has faults, and its lines are gone over once. No byte of the submitter is below 32.
+/// Memory is asked for the parties of its publishers, the totals of its territories and its faults; where it is refused
+/// nothing is left.
 pub fn judge<A: Allocator + Copy>(
     alloc: A,
     transaction: &RawTransaction,
@@ -64,10 +62,9 @@ pub fn judge<A: Allocator + Copy>(
 {
     let (head, details) = parts(transaction);
     let kind = transaction.kind();
-    let records = read_records(alloc, details)?;
-    let summary = summary_of(alloc, &records)?;
-    let faults = faults_of(alloc, kind, head, &records, &summary)?;
-    let control = summary.sums.control;
+    let read = read_details(alloc, details)?;
+    let faults = faults_of(alloc, kind, head, &read)?;
+    let control = read.summary.sums.control;
     let call = Call::of_lawful(
         submitter,
         kind,

@@ -8,6 +8,7 @@
 
 mod added;
 mod collected;
+mod finding;
 mod judging;
 mod last_block;
 pub mod laws;
@@ -17,6 +18,8 @@ mod position;
 mod reading;
 mod record;
 mod record_faults;
+mod so_far;
+mod standing;
 mod summary;
 mod sums;
 mod totals;

@@ -1,20 +1,15 @@
-ghost use Rattle.std.specs.Prelude.{◌≡◌, ◌<◌, ◌∷◌, [], IsTrue, IfOk, length};
+ghost use Rattle.std.specs.Prelude.{◌≡◌, ◌<◌, ◌∷◌, [], IsTrue, length};
 ghost use Rattle.cwr_record.specs.Parties.{has_collection};
 ghost use Rattle.cwr_field.specs.Number.{most_count};
-ghost use Rattle.cwr_rules.specs.Records.{record_of, records_of, territory_at};
+ghost use Rattle.cwr_rules.specs.Records.{record_of, territory_at};
 ghost use Rattle.cwr_call.specs.Lawful.{is_clean};
 
 use crate::record::{Record, Shares, Territory};
-use cwr_field::Memory;
 use cwr_grammar::{Lines, RawTransaction};
 use cwr_record::{
     RecordType, collection_of, field_at, indicator_of, ownership_of, party_of, publisher_of,
     territory_of, type_of,
 };
-use std::alloc::Allocator;
-
-/// Room for the records of most transactions, so that one request for memory serves them.
-const USUAL_RECORDS: usize = 16;
 
 /// The header's line of a transaction, and the lines of its details.
 pub(crate) fn parts<'a>(transaction: &RawTransaction<'a>) -> (&'a [u8], Lines<'a>)
@@ -29,19 +24,8 @@ pub(crate) fn parts<'a>(transaction: &RawTransaction<'a>) -> (&'a [u8], Lines<'a
     }
 }
 
-/// The records of lines, in order.
-pub(crate) fn read_records<A: Allocator>(alloc: A, lines: Lines) -> Result<Vec<Record, A>, Memory>
-    ensures { IfOk result (λ records. records.items ≡ records_of lines.entry) }
-{
-    let mut records = Vec::with_capacity(alloc, USUAL_RECORDS)?;
-    for line in lines {
-        records.push(record_of(line))?;
-    }
-    Ok(records)
-}
-
 /// What the rules read of a line.
-fn record_of(line: &[u8]) -> Record
+pub(crate) fn record_of(line: &[u8]) -> Record
     ensures { result ≡ record_of line.now }
 {
     match type_of(line) {

@@ -1,7 +1,7 @@
-ghost use Rattle.std.specs.Prelude.{◌<◌, IfOk, length, nat_eq};
+ghost use Rattle.std.specs.Prelude.{◌∷◌, ℕ, [], List, OnOk, nat_eq};
 ghost use Rattle.std.specs.HashMap.{get};
-ghost use Rattle.cwr_field.specs.Number.{most_count};
-ghost use Rattle.cwr_rules.specs.Collected.{AreCapped};
+ghost use Rattle.cwr_rules.specs.declared.record.Record.{Record};
+ghost use Rattle.cwr_rules.specs.Collected.{AreSmall, AreSmallSums, value_at};
 ghost use Rattle.cwr_rules.specs.Summary.{IsSummary};
 
 use crate::collected::Collected;
@@ -11,7 +11,7 @@ use crate::sums::Sums;
 use cwr_field::Memory;
 use std::alloc::Allocator;
 
-/// What the records say together.
+/// What records say together.
 #[derive(Drop)]
 pub(crate) struct Summary<A: Allocator> {
     pub(crate) sums: Sums,
@@ -20,27 +20,28 @@ pub(crate) struct Summary<A: Allocator> {
     pub(crate) collected: Collected<A>,
 }
 
-/// Goes through the records from the last to the first.
-pub(crate) fn summary_of<A: Allocator + Copy>(
-    alloc: A,
-    records: &[Record],
-) -> Result<Summary<A>, Memory>
-    requires few { length records.now < most_count }
-    requires capped { AreCapped records.now }
-    ensures { IfOk result (λ s. IsSummary s.sums s.parties.set (get nat_eq s.collected.by_code) s.collected.is_over records.now) }
-{
-    let mut sums = Sums::new();
-    let mut parties = Parties::new(alloc);
-    let mut collected = Collected::new(alloc);
-    for index in (0..records.len()).rev() {
-        let detail = &records[index];
-        sums.add(detail);
-        parties.add_publisher(detail)?;
-        collected.add(detail)?;
+impl<A: Allocator + Copy> Summary<A> {
+    /// Of no records.
+    pub(crate) fn new(alloc: A) -> Summary<A>
+        ensures { IsSummary result.sums result.parties.set (get nat_eq result.collected.by_code) result.collected.is_over [] }
+    {
+        Summary {
+            sums: Sums::new(),
+            parties: Parties::new(alloc),
+            collected: Collected::new(alloc),
+        }
     }
-    Ok(Summary {
-        sums,
-        parties,
-        collected,
-    })
+
+    /// Adds a record to those that were added.
+    pub(crate) fn add(&mut self, detail: &Record) -> Result<(), Memory>
+        requires sums { AreSmallSums self.old.sums }
+        requires collected { (q : ℕ) → AreSmall (value_at (get nat_eq self.old.collected.by_code) q) }
+        ensures { OnOk result ((before : List Record) → IsSummary self.old.sums self.old.parties.set (get nat_eq self.old.collected.by_code) self.old.collected.is_over before
+            → IsSummary self.new.sums self.new.parties.set (get nat_eq self.new.collected.by_code) self.new.collected.is_over (detail.now ∷ before)) }
+    {
+        self.sums.add(detail);
+        self.parties.add_publisher(detail)?;
+        self.collected.add(detail)?;
+        Ok(())
+    }
 }

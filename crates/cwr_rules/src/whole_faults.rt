@@ -7,7 +7,7 @@ ghost use Rattle.cwr_rules.specs.Head.{has_no_title, has_no_number, has_wrong_is
 ghost use Rattle.cwr_rules.specs.Faults.{all_found, head_rules};
 ghost use Rattle.cwr_rules.specs.Summary.{IsSummary};
 
-use crate::record_faults::push_found;
+use crate::standing::push_found;
 use crate::summary::Summary;
 use cwr_call::Fault;
 use cwr_field::{Iswc, LEAST_WHOLE, MOST_WHOLE, Memory, date, is_blank, iswc, time};

@@ -1,0 +1,58 @@
+-- One line more, from the front, and the end of the lines.
+use Rattle.std.proofs.Common.{◌≡◌, ℕ, ◌<◌, Bool, List, [], ◌∷◌, length, Option, None, sym, ap, subst, ◌∙◌, arith}
+use Rattle.std.proofs.lemmas.List.{length-map}
+use Rattle.std.specs.List.{cons_option}
+use Rattle.std.specs.BTreeSet.{BTreeSet}
+use Rattle.cwr_field.specs.Number.{most_count}
+use Rattle.cwr_record.specs.RecordTypes.{type_of}
+use Rattle.cwr_rules.specs.declared.finding.Finding.{Finding}
+use Rattle.cwr_rules.specs.declared.position.Position.{Position}
+use Rattle.cwr_rules.specs.declared.record.Record.{Record}
+use Rattle.cwr_rules.specs.declared.sums.Sums.{Sums}
+use Rattle.cwr_rules.specs.declared.totals.Totals.{Totals}
+use Rattle.cwr_rules.specs.Collected.{AreCapped}
+use Rattle.cwr_rules.specs.Records.{record_of, records_of}
+use Rattle.cwr_rules.specs.Rules.{publishers}
+use Rattle.cwr_rules.specs.SoFar.{IsSoFar, IsWhole, standing}
+use Rattle.cwr_rules.specs.Totals.{included, codes_of}
+use Rattle.cwr_rules.proofs.SmallShares.{as_capped}
+use Rattle.cwr_rules.proofs.Findings.{all_come}
+use Rattle.cwr_rules.proofs.Turned.{turned, length_turned, summary_turned}
+
+pub few_before : (lines rest all : List (List ℕ)) (line : List ℕ) (before : List Record)
+    → turned (records_of lines) before ≡ turned (records_of all) [] → lines ≡ line ∷ rest → length all < most_count → length before < most_count
+few_before lines rest all line before same step few =
+    let a = length_turned (records_of lines) before in
+    let b = length_turned (records_of all) [] in
+    let c : length (turned (records_of lines) before) ≡ length (turned (records_of all) []) = ap (λ (rs : List Record). length rs) same in
+    let d : length (records_of lines) ≡ length lines = length-map lines record_of in
+    let e : length (records_of all) ≡ length all = length-map all record_of in
+    omega arith
+
+pub line_turned : (lines rest all : List (List ℕ)) (line : List ℕ) (before : List Record) (r : Record)
+    → turned (records_of lines) before ≡ turned (records_of all) [] → lines ≡ line ∷ rest → r ≡ record_of line
+    → turned (records_of rest) (r ∷ before) ≡ turned (records_of all) []
+line_turned lines rest all line before r same step is =
+    ap (λ (x : Record). turned (records_of rest) (x ∷ before)) is ∙ ap (λ (xs : List (List ℕ)). turned (records_of xs) before) (sym step) ∙ same
+
+pub line_capped : (line : List ℕ) (before : List Record) (r : Record) → r ≡ record_of line → AreCapped before → AreCapped (r ∷ before)
+line_capped line before r is h =
+    let P : Record → Type 0 = λ x. AreCapped (x ∷ before) in
+    subst P (sym is) (as_capped (type_of line) line, h)
+
+pub whole_from : (lines all : List (List ℕ)) (count : ℕ) (position : Position) (sums : Sums) (parties : BTreeSet (ℕ × ℕ)) (found : ℕ → Option Totals) (over : Bool) (findings : List Finding) (before : List Record)
+    → turned (records_of lines) before ≡ turned (records_of all) [] → lines ≡ []
+    → IsSoFar count position sums parties found over findings before → IsWhole sums parties found over findings (records_of all)
+whole_from lines all count position sums parties found over findings before same end h =
+    let last : before ≡ turned (records_of all) [] = ap (λ (xs : List (List ℕ)). turned (records_of xs) before) (sym end) ∙ same in
+    let P : List Record → Type 0 = λ rs. IsSoFar count position sums parties found over findings rs in
+    let k = subst P last h in
+    record {
+      summary = summary_turned sums parties found over (records_of all) k.summary;
+      faults_are = ap (λ (fs : List Finding). standing (publishers (records_of all)) fs) k.findings_are ∙ all_come (records_of all);
+    }
+
+-- a line whose record includes no territory has no code
+pub no_code : (lines rest : List (List ℕ)) (line : List ℕ) → lines ≡ line ∷ rest → included (record_of line) ≡ None → codes_of (records_of lines) ≡ codes_of (records_of rest)
+no_code lines rest line step none =
+    ap (λ (xs : List (List ℕ)). codes_of (records_of xs)) step ∙ ap (λ (o : Option ℕ). cons_option o (codes_of (records_of rest))) none
