@@ -70,6 +70,7 @@ impl RecordType {
 }
 
 /// The type of the record that a line is.
+#[inline(always)]
 pub fn type_of(line: &[u8]) -> RecordType
     ensures { result ≡ type_of line.now }
 {

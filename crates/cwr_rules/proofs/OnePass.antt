@@ -1,21 +1,19 @@
 -- One line more, from the front, and the end of the lines.
-use Rattle.std.proofs.Common.{◌≡◌, ℕ, ◌<◌, Bool, List, [], ◌∷◌, length, Option, None, sym, ap, subst, ◌∙◌, arith}
+use Rattle.std.proofs.Common.{◌≡◌, ℕ, ◌<◌, Bool, false, List, [], ◌∷◌, ◌++◌, length, Option, None, refl, sym, ap, subst, ◌∙◌, arith}
 use Rattle.std.proofs.lemmas.List.{length-map}
 use Rattle.std.specs.List.{cons_option}
 use Rattle.std.specs.BTreeSet.{BTreeSet}
 use Rattle.cwr_field.specs.Number.{most_count}
-use Rattle.cwr_record.specs.RecordTypes.{type_of}
+use Rattle.cwr_field.proofs.lemmas.Tests.{neither}
 use Rattle.cwr_rules.specs.declared.finding.Finding.{Finding}
 use Rattle.cwr_rules.specs.declared.position.Position.{Position}
 use Rattle.cwr_rules.specs.declared.record.Record.{Record}
 use Rattle.cwr_rules.specs.declared.sums.Sums.{Sums}
 use Rattle.cwr_rules.specs.declared.totals.Totals.{Totals}
-use Rattle.cwr_rules.specs.Collected.{AreCapped}
 use Rattle.cwr_rules.specs.Records.{record_of, records_of}
 use Rattle.cwr_rules.specs.Rules.{publishers}
-use Rattle.cwr_rules.specs.SoFar.{IsSoFar, IsWhole, standing}
+use Rattle.cwr_rules.specs.SoFar.{IsSoFar, IsWhole, standing, finding, all_findings, some_holds}
 use Rattle.cwr_rules.specs.Totals.{included, codes_of}
-use Rattle.cwr_rules.proofs.SmallShares.{as_capped}
 use Rattle.cwr_rules.proofs.Findings.{all_come}
 use Rattle.cwr_rules.proofs.Turned.{turned, length_turned, summary_turned}
 
@@ -29,16 +27,10 @@ few_before lines rest all line before same step few =
     let e : length (records_of all) ≡ length all = length-map all record_of in
     omega arith
 
-pub line_turned : (lines rest all : List (List ℕ)) (line : List ℕ) (before : List Record) (r : Record)
-    → turned (records_of lines) before ≡ turned (records_of all) [] → lines ≡ line ∷ rest → r ≡ record_of line
-    → turned (records_of rest) (r ∷ before) ≡ turned (records_of all) []
-line_turned lines rest all line before r same step is =
-    ap (λ (x : Record). turned (records_of rest) (x ∷ before)) is ∙ ap (λ (xs : List (List ℕ)). turned (records_of xs) before) (sym step) ∙ same
-
-pub line_capped : (line : List ℕ) (before : List Record) (r : Record) → r ≡ record_of line → AreCapped before → AreCapped (r ∷ before)
-line_capped line before r is h =
-    let P : Record → Type 0 = λ x. AreCapped (x ∷ before) in
-    subst P (sym is) (as_capped (type_of line) line, h)
+pub line_turned : (lines rest all : List (List ℕ)) (line : List ℕ) (before : List Record)
+    → turned (records_of lines) before ≡ turned (records_of all) [] → lines ≡ line ∷ rest
+    → turned (records_of rest) (record_of line ∷ before) ≡ turned (records_of all) []
+line_turned lines rest all line before same step = ap (λ (xs : List (List ℕ)). turned (records_of xs) before) (sym step) ∙ same
 
 pub whole_from : (lines all : List (List ℕ)) (count : ℕ) (position : Position) (sums : Sums) (parties : BTreeSet (ℕ × ℕ)) (found : ℕ → Option Totals) (over : Bool) (findings : List Finding) (before : List Record)
     → turned (records_of lines) before ≡ turned (records_of all) [] → lines ≡ []
@@ -56,3 +48,10 @@ whole_from lines all count position sums parties found over findings before same
 pub no_code : (lines rest : List (List ℕ)) (line : List ℕ) → lines ≡ line ∷ rest → included (record_of line) ≡ None → codes_of (records_of lines) ≡ codes_of (records_of rest)
 no_code lines rest line step none =
     ap (λ (xs : List (List ℕ)). codes_of (records_of xs)) step ∙ ap (λ (o : Option ℕ). cons_option o (codes_of (records_of rest))) none
+
+-- rules none of which holds have no finding
+pub none_found : (k : ℕ) (t : List ℕ) (rules : List (ℕ × Bool × Option (List ℕ))) → some_holds rules ≡ false → all_findings k t rules ≡ []
+none_found k t [] h = refl
+none_found k t (rule ∷ rules) h =
+    let two = neither rule.1 (some_holds rules) h in
+    ap (λ (b : Bool). finding k t rule.0 b rule.2 ++ all_findings k t rules) two.0 ∙ none_found k t rules two.1

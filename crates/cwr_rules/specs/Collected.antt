@@ -1,5 +1,5 @@
 -- What is added up over the records of a transaction.
-use Rattle.std.specs.Prelude.{ℕ, ◌≡◌, ◌<◌, ◌≤◌, ◌^◌, Bool, List, [], ◌∷◌, Option, unwrap_or}
+use Rattle.std.specs.Prelude.{ℕ, ◌≡◌, ◌<◌, ◌≤◌, ◌^◌, ◌==◌, if◌then◌else◌, Bool, List, [], ◌∷◌, Option, Some, None, unwrap_or}
 use Rattle.std.specs.List.{list_any}
 use Rattle.cwr_field.specs.Share.{whole}
 use Rattle.cwr_rules.specs.declared.record.Record.{Record}
@@ -29,6 +29,11 @@ pub record IsCapped (r : Record) : Type 0 where
 abbrev pub AreCapped : List Record → Type 0
 AreCapped [] = Unit {0}
 AreCapped (r ∷ records) = IsCapped r × AreCapped records
+
+-- what is found where one code is kept beside the others
+abbrev pub found_in : Option (ℕ × Totals) → (ℕ → Option Totals) → ℕ → Option Totals
+found_in None others code = others code
+found_in (Some first) others code = if first.0 == code then Some first.1 else others code
 
 -- the totals at a code, where nothing found is nothing collected
 abbrev pub value_at : (ℕ → Option Totals) → ℕ → Totals

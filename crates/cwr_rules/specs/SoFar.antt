@@ -1,6 +1,6 @@
 -- What is kept of the records of a transaction while they are read, as the records before make it.
 use Rattle.std.specs.Prelude.{ℕ, ◌≡◌, ◌+◌, Bool, true, not, List, [], ◌∷◌, ◌++◌, length, Option, Some, None, if◌then◌else◌}
-use Rattle.std.specs.List.{flat_map}
+use Rattle.std.specs.List.{flat_map, list_any}
 use Rattle.std.specs.BTreeSet.{BTreeSet}
 use Rattle.cwr_call.specs.declared.transaction_fault.Fault.{Fault}
 use Rattle.cwr_rules.specs.declared.record.Record.{Record}
@@ -30,6 +30,9 @@ rules_so_far before r =
     ∷ (9, has_unknown_publisher (publishers before) before r, link_publisher r)
     ∷ (14, has_wrong_territory r, None)
     ∷ []
+
+abbrev pub some_holds : List (ℕ × Bool × Option (List ℕ)) → Bool
+some_holds rules = list_any (λ rule. rule.1) rules
 
 abbrev pub finding : ℕ → List ℕ → ℕ → Bool → Option (List ℕ) → List Finding
 finding sequence rtype number holds unless =

@@ -1,10 +1,12 @@
-ghost use Rattle.std.specs.Prelude.{◌≡◌, List, IsTrue, IfOk, nat_eq};
-ghost use Rattle.std.specs.HashMap.{get};
+ghost use Rattle.std.specs.Prelude.{◌≡◌, List, IsTrue, IfOk};
+ghost use Rattle.std.specs.BTreeMap.{get};
+ghost use Rattle.std.specs.Ordering.{nat_cmp};
 ghost use Rattle.cwr_field.specs.Iswc.{iswc_of};
 ghost use Rattle.cwr_record.specs.Columns.{field_at, work_head_iswc};
 ghost use Rattle.cwr_call.specs.Lawful.{is_clean, is_iswc};
+ghost use Rattle.cwr_rules.specs.Collected.{found_in};
 ghost use Rattle.cwr_rules.specs.Calls.{call_of};
-ghost use Rattle.cwr_rules.specs.Head.{number_in};
+ghost use Rattle.cwr_rules.specs.Head.{has_wrong_iswc, number_in};
 ghost use Rattle.cwr_rules.specs.Faults.{faults_of};
 ghost use Rattle.cwr_rules.specs.SoFar.{IsWhole};
 ghost use Rattle.cwr_rules.specs.declared.record.Record.{Record};
@@ -19,14 +21,16 @@ use cwr_grammar::RawTransaction;
 use cwr_record::{WorkHead, WorkKind, field_at};
 use std::alloc::Allocator;
 
-/// The number of an ISWC, `None` where it is blank or wrong.
-fn iswc_number(head: &[u8]) -> Option<u64>
-    ensures value { result ≡ number_in (iswc_of (field_at head.now work_head_iswc)) }
-    ensures nine_digits { IsTrue (is_iswc result) }
+/// Whether the ISWC is neither blank nor valid (J4), and its number, `None` where it is blank or wrong.
+fn work_iswc(head: &[u8]) -> (bool, Option<u64>)
+    ensures wrong { result.0 ≡ has_wrong_iswc head.now }
+    ensures value { result.1 ≡ number_in (iswc_of (field_at head.now work_head_iswc)) }
+    ensures nine_digits { IsTrue (is_iswc result.1) }
 {
     match iswc(field_at(head, WorkHead::ISWC)) {
-        Iswc::Valid(number) => Some(number),
-        Iswc::Blank | Iswc::Wrong => None,
+        Iswc::Valid(number) => (false, Some(number)),
+        Iswc::Blank => (false, None),
+        Iswc::Wrong => (true, None),
     }
 }
 
@@ -35,14 +39,16 @@ fn faults_of<A: Allocator + Copy>(
     alloc: A,
     kind: WorkKind,
     head: &[u8],
+    wrong_iswc: bool,
     read: &SoFar<A>,
 ) -> Result<Vec<Fault, A>, Memory>
+    requires { wrong_iswc ≡ has_wrong_iswc head.now }
     ensures { IfOk result (λ faults. (records : List Record)
-        → IsWhole read.now.summary.sums read.now.summary.parties.set (get nat_eq read.now.summary.collected.by_code) read.now.summary.collected.is_over read.now.findings.items records
+        → IsWhole read.now.summary.sums read.now.summary.parties.set (found_in read.now.summary.collected.first (get nat_cmp read.now.summary.collected.by_code)) read.now.summary.collected.is_over read.now.findings.items records
         → faults.items ≡ faults_of kind head.now records) }
 {
     let mut faults = Vec::new(alloc);
-    push_faults_of_whole(&mut faults, kind, head, &read.summary)?;
+    push_faults_of_whole(&mut faults, kind, head, wrong_iswc, &read.summary)?;
     push_standing(&mut faults, &read.summary.parties, &read.findings)?;
     Ok(faults)
 }
@@ -63,14 +69,15 @@ pub fn judge<A: Allocator + Copy>(
     let (head, details) = parts(transaction);
     let kind = transaction.kind();
     let read = read_details(alloc, details)?;
-    let faults = faults_of(alloc, kind, head, &read)?;
+    let (wrong_iswc, iswc) = work_iswc(head);
+    let faults = faults_of(alloc, kind, head, wrong_iswc, &read)?;
     let control = read.summary.sums.control;
     let call = Call::of_lawful(
         submitter,
         kind,
         field_at(head, WorkHead::TITLE).bytes(),
         field_at(head, WorkHead::SUBMITTER_NUMBER).bytes(),
-        iswc_number(head),
+        iswc,
         [
             control.performing,
             control.mechanical,

@@ -20,6 +20,7 @@ pub(crate) enum LastBlock {
 
 impl LastBlock {
     /// What stands last after a record, or `None` where the record may not stand here.
+    #[inline(always)]
     pub(crate) fn next(self, detail: &Record) -> Option<LastBlock>
         ensures { result ≡ next_block self detail.now }
     {

@@ -6,6 +6,7 @@ use crate::record::{Record, Territory};
 /// The rules that look at one record alone, and its record type.
 impl Record {
     /// Whether a share is not valid (J6).
+    #[inline(always)]
     pub(crate) fn has_wrong_share(&self) -> bool
         ensures { result ≡ has_wrong_share self.now }
     {
@@ -25,6 +26,7 @@ impl Record {
     }
 
     /// Whether a publisher or a writer of the submitter has no interested party number (J7).
+    #[inline(always)]
     pub(crate) fn is_nameless(&self) -> bool
         ensures { result ≡ is_nameless self.now }
     {
@@ -35,6 +37,7 @@ impl Record {
     }
 
     /// Whether the indicator or the code of a territory is not valid (J14).
+    #[inline(always)]
     pub(crate) fn has_wrong_territory(&self) -> bool
         ensures { result ≡ has_wrong_territory self.now }
     {

@@ -50,6 +50,7 @@ impl<A: Allocator + Copy> Parties<A> {
     }
 
     /// Adds the party of a publisher's record, where it names one.
+    #[inline(always)]
     pub(crate) fn add_publisher(&mut self, detail: &Record) -> Result<(), Memory>
         ensures { OnOk result ((rest : List Record) → HoldsParties self.old.set (publishers rest) → HoldsParties self.new.set (publishers (detail.now ∷ rest))) }
     {

@@ -54,6 +54,7 @@ impl Position {
     }
 
     /// Whether the order breaks at the record (J1).
+    #[inline(always)]
     pub(crate) fn is_out_of_order(&self, detail: &Record) -> bool
         ensures { (before : List Record) → self.now ≡ position_of before → result ≡ is_out_of_order before detail.now }
     {
@@ -64,6 +65,7 @@ impl Position {
     }
 
     /// Whether a territory is that of another party than the one that it follows (J8).
+    #[inline(always)]
     pub(crate) fn is_of_another_party(&self, detail: &Record) -> bool
         ensures { (before : List Record) → self.now ≡ position_of before → result ≡ is_of_another_party before detail.now }
     {
@@ -75,6 +77,7 @@ impl Position {
     }
 
     /// Goes past the record.
+    #[inline(always)]
     pub(crate) fn add(&mut self, detail: &Record)
         ensures { (before : List Record) → self.old ≡ position_of before → self.new ≡ position_of (detail.now ∷ before) }
     {

@@ -1,7 +1,7 @@
 ghost use Rattle.std.specs.Prelude.{◌≡◌, ◌<◌, ◌∷◌, [], IsTrue, length};
 ghost use Rattle.cwr_record.specs.Parties.{has_collection};
 ghost use Rattle.cwr_field.specs.Number.{most_count};
-ghost use Rattle.cwr_rules.specs.Records.{record_of, territory_at};
+ghost use Rattle.cwr_rules.specs.Records.{record_of, record_as, territory_at};
 ghost use Rattle.cwr_call.specs.Lawful.{is_clean};
 
 use crate::record::{Record, Shares, Territory};
@@ -28,7 +28,15 @@ pub(crate) fn parts<'a>(transaction: &RawTransaction<'a>) -> (&'a [u8], Lines<'a
 pub(crate) fn record_of(line: &[u8]) -> Record
     ensures { result ≡ record_of line.now }
 {
-    match type_of(line) {
+    record_as(line, type_of(line))
+}
+
+/// What the rules read of a line of a type.
+#[inline(always)]
+pub(crate) fn record_as(line: &[u8], record_type: RecordType) -> Record
+    ensures { result ≡ record_as record_type line.now }
+{
+    match record_type {
         RecordType::Spu => Record::Spu(
             party_of(line, RecordType::Spu),
             Shares::of(ownership_of(line, RecordType::Spu)),

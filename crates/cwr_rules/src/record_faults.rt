@@ -1,7 +1,7 @@
 ghost use Rattle.std.specs.Prelude.{◌≡◌, ◌+◌, ◌++◌, ℕ, List, length, OnOk};
 ghost use Rattle.cwr_rules.specs.declared.record.Record.{Record};
 ghost use Rattle.cwr_rules.specs.Rules.{has_unknown_publisher, publishers, name_of};
-ghost use Rattle.cwr_rules.specs.SoFar.{link_publisher, all_findings, rules_so_far};
+ghost use Rattle.cwr_rules.specs.SoFar.{link_publisher, all_findings, rules_so_far, some_holds};
 ghost use Rattle.cwr_rules.specs.Position.{position_of};
 ghost use Rattle.cwr_rules.specs.Parties.{HoldsParties};
 
@@ -13,7 +13,8 @@ use cwr_field::Memory;
 use std::alloc::Allocator;
 
 /// Whether a writer's publisher is named, and is none of the known (J9).
-pub(crate) fn has_unknown_publisher<A: Allocator + Copy>(
+#[inline(always)]
+fn has_unknown_publisher<A: Allocator + Copy>(
     known: &Parties<A>,
     position: &Position,
     detail: &Record,
@@ -37,22 +38,38 @@ fn link_publisher(detail: &Record) -> Option<[u8; 9]>
     }
 }
 
-/// Appends the findings of one record.
-pub(crate) fn push_record_findings<A: Allocator>(
+/// Whether a record has a finding.
+#[inline(always)]
+fn has_finding(position: &Position, detail: &Record, is_unknown: bool) -> bool
+    ensures { (before : List Record) → position.now ≡ position_of before → is_unknown ≡ has_unknown_publisher (publishers before) before detail.now
+        → result ≡ some_holds (rules_so_far before detail.now) }
+{
+    position.is_out_of_order(detail)
+        || detail.has_wrong_share()
+        || detail.is_nameless()
+        || position.is_of_another_party(detail)
+        || is_unknown
+        || detail.has_wrong_territory()
+}
+
+/// Appends the findings of one record, of which most have none.
+#[cold]
+#[inline(never)]
+fn push_record_findings<A: Allocator>(
     findings: &mut Vec<Finding, A>,
     sequence: u32,
-    position: &Position,
-    detail: &Record,
+    position: Position,
+    detail: Record,
     is_unknown: bool,
 ) -> Result<(), Memory>
-    ensures { OnOk result ((before : List Record) → position.now ≡ position_of before → sequence ≡ length before + 1
-        → is_unknown ≡ has_unknown_publisher (publishers before) before detail.now
-        → findings.new.items ≡ findings.old.items ++ all_findings sequence (name_of detail.now) (rules_so_far before detail.now)) }
+    ensures { OnOk result ((before : List Record) → position ≡ position_of before → sequence ≡ length before + 1
+        → is_unknown ≡ has_unknown_publisher (publishers before) before detail
+        → findings.new.items ≡ findings.old.items ++ all_findings sequence (name_of detail) (rules_so_far before detail)) }
 {
     let rtype = detail.name();
-    let is_late = position.is_out_of_order(detail);
-    let is_other = position.is_of_another_party(detail);
-    let publisher = link_publisher(detail);
+    let is_late = position.is_out_of_order(&detail);
+    let is_other = position.is_of_another_party(&detail);
+    let publisher = link_publisher(&detail);
     push_finding(findings, sequence, rtype, 1, is_late, None)?;
     push_finding(findings, sequence, rtype, 6, detail.has_wrong_share(), None)?;
     push_finding(findings, sequence, rtype, 7, detail.is_nameless(), None)?;
@@ -66,5 +83,24 @@ pub(crate) fn push_record_findings<A: Allocator>(
         detail.has_wrong_territory(),
         None,
     )?;
+    Ok(())
+}
+
+/// Appends the findings of a record.
+#[inline(always)]
+pub(crate) fn add_findings<A: Allocator + Copy>(
+    findings: &mut Vec<Finding, A>,
+    known: &Parties<A>,
+    sequence: u32,
+    position: &Position,
+    detail: &Record,
+) -> Result<(), Memory>
+    ensures { OnOk result ((before : List Record) → HoldsParties known.now.set (publishers before) → position.now ≡ position_of before → sequence ≡ length before + 1
+        → findings.new.items ≡ findings.old.items ++ all_findings sequence (name_of detail.now) (rules_so_far before detail.now)) }
+{
+    let is_unknown = has_unknown_publisher(known, position, detail);
+    if has_finding(position, detail, is_unknown) {
+        push_record_findings(findings, sequence, *position, *detail, is_unknown)?;
+    }
     Ok(())
 }

@@ -1,19 +1,22 @@
-ghost use Rattle.std.specs.Prelude.{◌<◌, ◌∷◌, ℕ, [], List, length, OnOk, IfOk, nat_eq};
-ghost use Rattle.std.specs.HashMap.{get};
+ghost use Rattle.std.specs.Prelude.{◌≡◌, ◌<◌, ◌∷◌, ℕ, [], List, length, OnOk, IfOk};
+ghost use Rattle.std.specs.BTreeMap.{get};
+ghost use Rattle.std.specs.Ordering.{nat_cmp};
 ghost use Rattle.cwr_field.specs.Number.{most_count};
 ghost use Rattle.cwr_rules.specs.declared.record.Record.{Record};
-ghost use Rattle.cwr_rules.specs.Collected.{AreSmall, AreSmallSums, value_at};
-ghost use Rattle.cwr_rules.specs.Records.{records_of};
+ghost use Rattle.cwr_rules.specs.Collected.{found_in, AreSmall, AreSmallSums, value_at};
+ghost use Rattle.cwr_rules.specs.Records.{record_of, records_of};
+ghost use Rattle.cwr_record.specs.RecordTypes.{type_of};
 ghost use Rattle.cwr_rules.specs.SoFar.{IsSoFar, IsWhole};
 
 use crate::finding::Finding;
 use crate::position::Position;
-use crate::reading::record_of;
+use crate::reading::record_as;
 use crate::record::Record;
-use crate::record_faults::{has_unknown_publisher, push_record_findings};
+use crate::record_faults::add_findings;
 use crate::summary::Summary;
 use cwr_field::Memory;
 use cwr_grammar::Lines;
+use cwr_record::{RecordType, type_of};
 use std::alloc::Allocator;
 
 /// What is kept of a transaction's records, as far as they were read.
@@ -29,7 +32,7 @@ pub(crate) struct SoFar<A: Allocator> {
 impl<A: Allocator + Copy> SoFar<A> {
     /// Before the first record. No memory is asked for.
     fn new(alloc: A) -> SoFar<A>
-        ensures { IsSoFar result.count result.position result.summary.sums result.summary.parties.set (get nat_eq result.summary.collected.by_code) result.summary.collected.is_over result.findings.items [] }
+        ensures { IsSoFar result.count result.position result.summary.sums result.summary.parties.set (found_in result.summary.collected.first (get nat_cmp result.summary.collected.by_code)) result.summary.collected.is_over result.findings.items [] }
     {
         SoFar {
             count: 0,
@@ -40,25 +43,64 @@ impl<A: Allocator + Copy> SoFar<A> {
     }
 
     /// Goes past a record.
+    #[inline(always)]
     fn add(&mut self, detail: &Record) -> Result<(), Memory>
         requires few { self.old.count < most_count }
         requires sums { AreSmallSums self.old.summary.sums }
-        requires collected { (q : ℕ) → AreSmall (value_at (get nat_eq self.old.summary.collected.by_code) q) }
+        requires collected { (q : ℕ) → AreSmall (value_at (found_in self.old.summary.collected.first (get nat_cmp self.old.summary.collected.by_code)) q) }
         ensures { OnOk result ((before : List Record)
-            → IsSoFar self.old.count self.old.position self.old.summary.sums self.old.summary.parties.set (get nat_eq self.old.summary.collected.by_code) self.old.summary.collected.is_over self.old.findings.items before
-            → IsSoFar self.new.count self.new.position self.new.summary.sums self.new.summary.parties.set (get nat_eq self.new.summary.collected.by_code) self.new.summary.collected.is_over self.new.findings.items (detail.now ∷ before)) }
+            → IsSoFar self.old.count self.old.position self.old.summary.sums self.old.summary.parties.set (found_in self.old.summary.collected.first (get nat_cmp self.old.summary.collected.by_code)) self.old.summary.collected.is_over self.old.findings.items before
+            → IsSoFar self.new.count self.new.position self.new.summary.sums self.new.summary.parties.set (found_in self.new.summary.collected.first (get nat_cmp self.new.summary.collected.by_code)) self.new.summary.collected.is_over self.new.findings.items (detail.now ∷ before)) }
     {
         self.count += 1;
-        let is_unknown = has_unknown_publisher(&self.summary.parties, &self.position, detail);
-        push_record_findings(
+        add_findings(
             &mut self.findings,
+            &self.summary.parties,
             self.count,
             &self.position,
             detail,
-            is_unknown,
         )?;
         self.position.add(detail);
         self.summary.add(detail)?;
+        Ok(())
+    }
+
+    /// Goes past a line of a type.
+    #[inline(always)]
+    fn take_as(&mut self, line: &[u8], record_type: RecordType) -> Result<(), Memory>
+        requires few { self.old.count < most_count }
+        requires sums { AreSmallSums self.old.summary.sums }
+        requires collected { (q : ℕ) → AreSmall (value_at (found_in self.old.summary.collected.first (get nat_cmp self.old.summary.collected.by_code)) q) }
+        requires read { record_type ≡ type_of line.now }
+        ensures { OnOk result ((before : List Record)
+            → IsSoFar self.old.count self.old.position self.old.summary.sums self.old.summary.parties.set (found_in self.old.summary.collected.first (get nat_cmp self.old.summary.collected.by_code)) self.old.summary.collected.is_over self.old.findings.items before
+            → IsSoFar self.new.count self.new.position self.new.summary.sums self.new.summary.parties.set (found_in self.new.summary.collected.first (get nat_cmp self.new.summary.collected.by_code)) self.new.summary.collected.is_over self.new.findings.items (record_of line.now ∷ before)) }
+    {
+        self.add(&record_as(line, record_type))?;
+        Ok(())
+    }
+
+    /// Goes past a line. Each type that the rules know has its own code.
+    fn take(&mut self, line: &[u8]) -> Result<(), Memory>
+        requires few { self.old.count < most_count }
+        requires sums { AreSmallSums self.old.summary.sums }
+        requires collected { (q : ℕ) → AreSmall (value_at (found_in self.old.summary.collected.first (get nat_cmp self.old.summary.collected.by_code)) q) }
+        ensures { OnOk result ((before : List Record)
+            → IsSoFar self.old.count self.old.position self.old.summary.sums self.old.summary.parties.set (found_in self.old.summary.collected.first (get nat_cmp self.old.summary.collected.by_code)) self.old.summary.collected.is_over self.old.findings.items before
+            → IsSoFar self.new.count self.new.position self.new.summary.sums self.new.summary.parties.set (found_in self.new.summary.collected.first (get nat_cmp self.new.summary.collected.by_code)) self.new.summary.collected.is_over self.new.findings.items (record_of line.now ∷ before)) }
+    {
+        match type_of(line) {
+            RecordType::Spu => self.take_as(line, RecordType::Spu)?,
+            RecordType::Opu => self.take_as(line, RecordType::Opu)?,
+            RecordType::Spt => self.take_as(line, RecordType::Spt)?,
+            RecordType::Swr => self.take_as(line, RecordType::Swr)?,
+            RecordType::Owr => self.take_as(line, RecordType::Owr)?,
+            RecordType::Swt => self.take_as(line, RecordType::Swt)?,
+            RecordType::Pwr => self.take_as(line, RecordType::Pwr)?,
+            RecordType::Alt => self.take_as(line, RecordType::Alt)?,
+            RecordType::Xrf => self.take_as(line, RecordType::Xrf)?,
+            other => self.take_as(line, other)?,
+        }
         Ok(())
     }
 }
@@ -66,11 +108,11 @@ impl<A: Allocator + Copy> SoFar<A> {
 /// Goes over the lines of a transaction's details once.
 pub(crate) fn read_details<A: Allocator + Copy>(alloc: A, lines: Lines) -> Result<SoFar<A>, Memory>
     requires { length lines < most_count }
-    ensures { IfOk result (λ s. IsWhole s.summary.sums s.summary.parties.set (get nat_eq s.summary.collected.by_code) s.summary.collected.is_over s.findings.items (records_of lines.entry)) }
+    ensures { IfOk result (λ s. IsWhole s.summary.sums s.summary.parties.set (found_in s.summary.collected.first (get nat_cmp s.summary.collected.by_code)) s.summary.collected.is_over s.findings.items (records_of lines.entry)) }
 {
     let mut so_far = SoFar::new(alloc);
     for line in lines {
-        so_far.add(&record_of(line))?;
+        so_far.take(line)?;
     }
     Ok(so_far)
 }

@@ -28,6 +28,7 @@ impl Sums {
     }
 
     /// Adds a record before those that were added.
+    #[inline(always)]
     pub(crate) fn add(&mut self, detail: &Record)
         requires { AreSmallSums self.old }
         ensures { (rest : List Record) → self.old ≡ sums_of rest → self.new ≡ sums_of (detail.now ∷ rest) }

@@ -1,7 +1,9 @@
-ghost use Rattle.std.specs.Prelude.{◌≡◌, ◌++◌, List, OnOk, nat_eq};
-ghost use Rattle.std.specs.HashMap.{get};
+ghost use Rattle.std.specs.Prelude.{◌≡◌, ◌++◌, List, OnOk};
+ghost use Rattle.std.specs.BTreeMap.{get};
+ghost use Rattle.std.specs.Ordering.{nat_cmp};
 ghost use Rattle.cwr_record.specs.Columns.{field_at, work_head_copyright_date, work_head_duration};
 ghost use Rattle.cwr_record.specs.Kinds.{work_kind_code};
+ghost use Rattle.cwr_rules.specs.Collected.{found_in};
 ghost use Rattle.cwr_rules.specs.declared.record.Record.{Record};
 ghost use Rattle.cwr_rules.specs.Head.{has_no_title, has_no_number, has_wrong_iswc, has_wrong_date, is_copyright_date, is_duration, is_off};
 ghost use Rattle.cwr_rules.specs.Faults.{all_found, head_rules};
@@ -10,7 +12,7 @@ ghost use Rattle.cwr_rules.specs.Summary.{IsSummary};
 use crate::standing::push_found;
 use crate::summary::Summary;
 use cwr_call::Fault;
-use cwr_field::{Iswc, LEAST_WHOLE, MOST_WHOLE, Memory, date, is_blank, iswc, time};
+use cwr_field::{LEAST_WHOLE, MOST_WHOLE, Memory, date, is_blank, time};
 use cwr_record::{WorkHead, WorkKind, field_at, is_no_day};
 use std::alloc::Allocator;
 
@@ -26,16 +28,6 @@ fn has_no_number(head: &[u8]) -> bool
     ensures { result ≡ has_no_number head.now }
 {
     is_blank(field_at(head, WorkHead::SUBMITTER_NUMBER))
-}
-
-/// Whether the ISWC is neither blank nor valid (J4).
-fn has_wrong_iswc(head: &[u8]) -> bool
-    ensures { result ≡ has_wrong_iswc head.now }
-{
-    match iswc(field_at(head, WorkHead::ISWC)) {
-        Iswc::Blank | Iswc::Valid(_) => false,
-        Iswc::Wrong => true,
-    }
 }
 
 /// Whether the copyright date of a header's line is blank, zeros or a day, as rule J5 asks.
@@ -73,16 +65,18 @@ pub(crate) fn push_faults_of_whole<A: Allocator + Copy>(
     faults: &mut Vec<Fault, A>,
     kind: WorkKind,
     head: &[u8],
+    wrong_iswc: bool,
     summary: &Summary<A>,
 ) -> Result<(), Memory>
-    ensures { OnOk result ((records : List Record) → IsSummary summary.now.sums summary.now.parties.set (get nat_eq summary.now.collected.by_code) summary.now.collected.is_over records
+    requires { wrong_iswc ≡ has_wrong_iswc head.now }
+    ensures { OnOk result ((records : List Record) → IsSummary summary.now.sums summary.now.parties.set (found_in summary.now.collected.first (get nat_cmp summary.now.collected.by_code)) summary.now.collected.is_over records
         → faults.new.items ≡ faults.old.items ++ all_found 0 (work_kind_code kind) (head_rules head.now records)) }
 {
     let rtype = *kind.code();
     let ownership = summary.sums.ownership;
     push_found(faults, 0, rtype, 2, has_no_title(head))?;
     push_found(faults, 0, rtype, 3, has_no_number(head))?;
-    push_found(faults, 0, rtype, 4, has_wrong_iswc(head))?;
+    push_found(faults, 0, rtype, 4, wrong_iswc)?;
     push_found(faults, 0, rtype, 5, has_wrong_date(head))?;
     push_found(faults, 0, rtype, 10, !summary.sums.has_writer)?;
     push_found(faults, 0, rtype, 11, is_off(ownership.performing))?;
