@@ -1,0 +1,9 @@
+-- Pieces that are written one after the other.
+use Rattle.std.proofs.Common.{◌≡◌, List, ℕ, ◌++◌}
+use Rattle.cwr_field.proofs.lemmas.Pieces.{then}
+
+pub three : (out b c new x y z : List ℕ) → b ≡ out ++ x → c ≡ b ++ y → new ≡ c ++ z → new ≡ out ++ (x ++ y ++ z)
+three out b c new x y z p q r = then out c new (x ++ y) z (then out b c x y p q) r
+
+pub four : (out b c d new x y z w : List ℕ) → b ≡ out ++ x → c ≡ b ++ y → d ≡ c ++ z → new ≡ d ++ w → new ≡ out ++ (x ++ y ++ z ++ w)
+four out b c d new x y z w p q r s = then out d new (x ++ y ++ z) w (three out b c d x y z p q r) s

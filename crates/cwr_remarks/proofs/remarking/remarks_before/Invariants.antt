@@ -1,0 +1,11 @@
+use Rattle.std.proofs.Common.{◌≡◌, ◌++◌, ◌-◌}
+use Rattle.std.specs.Str.Lines.{lines}
+use Rattle.cwr_remarks.specs.Remarks.{remarks_to}
+use Rattle.cwr_remarks.proofs.remarking.remarks_before.Given as goal
+
+-- what is found and what is left make the whole
+abbrev pub invariant-loop-number : goal.invariant-loop-number
+invariant-loop-number g l = l.found.items ++ remarks_to l.end l.number l.rest ≡ remarks_to l.end 1 (lines l.text)
+
+abbrev pub decreases-loop-number : goal.decreases-loop-number
+decreases-loop-number g l = l.end - l.number

@@ -1,0 +1,6 @@
+pub mod HighBytes
+pub mod Layouts
+pub mod Types
+pub mod Territories
+pub mod Remarks
+pub mod Texts

@@ -1,0 +1,19 @@
+//! What a check of a submission file remarks: what is no fault, and is seldom meant.
+//!
+//! [`remarks`] lists them: bytes above 126 in a line, lines that go past the layout of their record, record types that
+//! CWR 2.2 does not have, and publishers and writers all of whose territories are exclusions. They change no status and
+//! no decision.
+#![tactic(auto)]
+
+mod high_bytes;
+mod layouts;
+mod remark;
+mod remarking;
+mod territories;
+mod texts;
+mod types;
+
+pub use cwr_field::Memory;
+pub use remark::{Remark, Remarked};
+pub use remarking::{remarks, remarks_before};
+pub use texts::put_remarks;

@@ -1,0 +1,87 @@
+ghost use Rattle.std.specs.Prelude.{◌≡◌, ◌++◌, IfOk, OnOk};
+ghost use Rattle.std.specs.Str.Lines.{lines};
+ghost use Rattle.cwr_remarks.specs.Remarks.{remark_on, remarks_on, remarks_from, remarks_to};
+
+use crate::high_bytes::high_bytes;
+use crate::layouts::past_layout;
+use crate::remark::{Remark, Remarked};
+use crate::territories::only_excluded;
+use crate::types::unknown_type;
+use cwr_field::Memory;
+use cwr_grammar::Lines;
+use cwr_record::{RecordType, field_at, type_of};
+use std::alloc::Allocator;
+
+/// The remarks on the lines of a text, in the order of the lines, each once.
+///
+/// Of a line they are told in this order: bytes above 126 (where the first is, and how many), a length past the layout of
+/// its record, a record type that CWR 2.2 does not have, and of an SPU with SPT, or an SWR with SWT, that all of these
+/// are exclusions. The SPT of an SPU are those after it, up to the next SPU or the end of the transaction, as for rule
+/// J8; and the SWT of an SWR likewise. Where memory is refused nothing is told.
+pub fn remarks<A: Allocator>(alloc: A, text: &[u8]) -> Result<Vec<Remark, A>, Memory>
+    ensures { IfOk result (λ found. found.items ≡ remarks_from 1 (lines text.now)) }
+{
+    remarks_before(alloc, text, u64::MAX)
+}
+
+/// The remarks on the lines of a text before the one with this number, counted from 1.
+///
+/// Of a file that is refused these are the remarks on the lines before the faulty one. Where memory is refused nothing is
+/// told.
+pub fn remarks_before<A: Allocator>(
+    alloc: A,
+    text: &[u8],
+    end: u64,
+) -> Result<Vec<Remark, A>, Memory>
+    ensures { IfOk result (λ found. found.items ≡ remarks_to end 1 (lines text.now)) }
+{
+    let mut found = Vec::new(alloc);
+    let mut rest = Lines::of(text);
+    let mut number: u64 = 1;
+    while number < end {
+        let Some(line) = rest.next() else {
+            return Ok(found);
+        };
+        push_remarks_on(&mut found, number, line, &rest)?;
+        number += 1;
+    }
+    Ok(found)
+}
+
+/// Appends the remarks on a line with this number, before these lines.
+fn push_remarks_on<A: Allocator>(
+    found: &mut Vec<Remark, A>,
+    number: u64,
+    line: &[u8],
+    after: &Lines,
+) -> Result<(), Memory>
+    ensures { OnOk result (found.new.items ≡ found.old.items ++ remarks_on number line.now after.now) }
+{
+    let record_type = type_of(line);
+    let name = field_at(line, RecordType::COLUMN).bytes();
+    push_remark(found, number, line, high_bytes(line))?;
+    push_remark(found, number, line, past_layout(line.len(), record_type))?;
+    push_remark(found, number, line, unknown_type(record_type, name))?;
+    push_remark(found, number, line, only_excluded(record_type, after)?)?;
+    Ok(())
+}
+
+/// Appends a remark on a line with this number, where there is something to remark.
+fn push_remark<A: Allocator>(
+    found: &mut Vec<Remark, A>,
+    number: u64,
+    line: &[u8],
+    what: Option<Remarked>,
+) -> Result<(), Memory>
+    ensures { OnOk result (found.new.items ≡ found.old.items ++ remark_on number line.now what) }
+{
+    let Some(what) = what else {
+        return Ok(());
+    };
+    found.push(Remark {
+        line: number,
+        rtype: field_at(line, RecordType::COLUMN).bytes(),
+        what,
+    })?;
+    Ok(())
+}
