@@ -4,3 +4,5 @@ pub mod Types
 pub mod Territories
 pub mod Remarks
 pub mod Texts
+pub mod Json
+pub mod Checks

@@ -5,7 +5,9 @@
 //! no decision.
 #![tactic(auto)]
 
+mod checks;
 mod high_bytes;
+mod json;
 mod layouts;
 mod remark;
 mod remarking;
@@ -13,7 +15,9 @@ mod territories;
 mod texts;
 mod types;
 
+pub use checks::{remarked_json, remarked_long};
 pub use cwr_field::Memory;
+pub use cwr_report::Checked;
 pub use remark::{Remark, Remarked};
 pub use remarking::{remarks, remarks_before};
 pub use texts::put_remarks;

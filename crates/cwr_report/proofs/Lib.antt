@@ -1,3 +1,4 @@
+pub mod lemmas
 pub mod Walking
 pub mod Reported
 pub mod Written

@@ -1,10 +1,10 @@
 -- What is told as JSON has no floats.
-use Rattle.std.proofs.Common.{◌≡◌, ℕ, Bool, true, false, List, [], ◌∷◌, map, refl, Option, Some, None, sym, subst, Less, Equal, Greater}
+use Rattle.std.proofs.Common.{◌≡◌, ◌∙◌, ℕ, Bool, true, false, List, [], ◌∷◌, map, refl, Option, Some, None, sym, subst, ap}
 use Rattle.std.specs.Prelude.{codes, ◌||◌, ◌-◌}
 use Rattle.std.specs.List.{flat_map}
 use Rattle.std.specs.Ordering.{nat_cmp, match_ordering}
 use Rattle.std.specs.Cmp.Lexicographic.{slice_cmp}
-use Rattle.serde_json.specs.Data.{Data, null, array, Members, no_members, member, put}
+use Rattle.serde_json.specs.Data.{Data, null, array, object, Members, no_members, member, put}
 use Rattle.serde_json.specs.View.{items_of}
 use Rattle.serde_json.specs.Written.{has_float, items_have_float, members_have_float}
 use Rattle.cwr_report.specs.declared.finding.Finding.{Finding}
@@ -15,25 +15,9 @@ use Rattle.cwr_report.specs.declared.file_finding.RecordPlace.TheVariants as pla
 use Rattle.cwr_report.specs.declared.file_finding.WrongByte.{WrongByte}
 use Rattle.cwr_report.specs.FileText.{counted, file_rule_text, file_wanted_text}
 use Rattle.cwr_report.specs.LongText.{name_text, stands_at, message_of, wanted_text}
-use Rattle.cwr_report.specs.Json.{text_data, count_data, option_data, field_members, spot_data, fields_data, place_members, fault_members, told_data, finding_data, file_place, byte_data, file_told_data, file_data, faults_data, refused_data, report_data}
+use Rattle.cwr_report.specs.Json.{text_data, count_data, option_data, field_members, spot_data, fields_data, place_members, fault_members, told_data, finding_data, file_place, byte_data, file_told_data, file_data, faults_data, refused_data, report_members, report_data}
 use Rattle.cwr_report.specs.Walks.{line_at}
-
-neither : (a b : Bool) → (a || b) ≡ false → (a ≡ false) × (b ≡ false)
-neither true b h = absurd cc
-neither false b h = (refl, h)
-
-both : (a b : Bool) → a ≡ false → b ≡ false → (a || b) ≡ false
-both a b p q = rw p q
-
-float_put : (k : List ℕ) (d : Data) (ms : Members) → has_float d ≡ false → members_have_float ms ≡ false → members_have_float (put k d ms) ≡ false
-float_put k d no_members p q = both (has_float d) false p refl
-float_put k d (member l e ms) p q =
-    let here = neither (has_float e) (members_have_float ms) q in
-    elim (slice_cmp nat_cmp k l) as (λ o. members_have_float (match_ordering o (member k d (member l e ms)) (member l d ms) (member l e (put k d ms))) ≡ false) [
-      | Less ↦ both (has_float d) (has_float e || members_have_float ms) p q
-      | Equal ↦ both (has_float d) (members_have_float ms) p here.1
-      | Greater ↦ both (has_float e) (members_have_float (put k d ms)) here.0 (float_put k d ms p here.1)
-    ]
+use Rattle.cwr_report.proofs.lemmas.Floats.{both, float_put}
 
 no_option : (o : Option ℕ) → has_float (option_data o) ≡ false
 no_option None = refl
@@ -124,7 +108,7 @@ no_refused : (refused : Option FileFinding) → has_float (refused_data refused)
 no_refused None = refl
 no_refused (Some f) = refl
 
-no_report : (lines : List (List ℕ)) (findings : List Finding) (all faulty : ℕ) (refused : Option FileFinding) → has_float (report_data lines findings all faulty refused) ≡ false
+no_report : (lines : List (List ℕ)) (findings : List Finding) (all faulty : ℕ) (refused : Option FileFinding) → members_have_float (report_members lines findings all faulty refused) ≡ false
 no_report lines findings all faulty refused =
     let faults = array (items_of (faults_data lines findings refused)) in
     let a = put (codes "faults") faults no_members in
@@ -140,3 +124,10 @@ pub value_without : (value : Data) (lines : List (List ℕ)) (findings : List Fi
     → value ≡ report_data lines findings all faulty refused → has_float value ≡ false
 value_without value lines findings all faulty refused is =
     subst (λ (d : Data). has_float d ≡ false) (sym is) (no_report lines findings all faulty refused)
+
+-- nor has the report with one member more
+pub value_with : (value : Data) (with_one old : Members) (name : List ℕ) (more : Data) (lines : List (List ℕ)) (findings : List Finding) (all faulty : ℕ) (refused : Option FileFinding)
+    → old ≡ report_members lines findings all faulty refused → with_one ≡ put name more old → value ≡ object with_one → has_float more ≡ false → has_float value ≡ false
+value_with value with_one old name more lines findings all faulty refused is put_in is_object none =
+    let rest = subst (λ (ms : Members). members_have_float ms ≡ false) (sym is) (no_report lines findings all faulty refused) in
+    subst (λ (d : Data). has_float d ≡ false) (sym (is_object ∙ ap object put_in)) (float_put name more old none rest)

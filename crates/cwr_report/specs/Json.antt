@@ -121,12 +121,15 @@ refused_data None = boolean false
 refused_data (Some refused) = boolean true
 
 -- of a report on a file with these lines
-abbrev pub report_data : List (List ℕ) → List Finding → ℕ → ℕ → Option FileFinding → Data
-report_data lines findings all faulty refused =
-    object (put (codes "faulty") (count_data faulty)
+abbrev pub report_members : List (List ℕ) → List Finding → ℕ → ℕ → Option FileFinding → Members
+report_members lines findings all faulty refused =
+    put (codes "faulty") (count_data faulty)
     (put (codes "transactions") (count_data all)
     (put (codes "refused") (refused_data refused)
-    (put (codes "faults") (array (items_of (faults_data lines findings refused))) no_members))))
+    (put (codes "faults") (array (items_of (faults_data lines findings refused))) no_members)))
+
+abbrev pub report_data : List (List ℕ) → List Finding → ℕ → ℕ → Option FileFinding → Data
+report_data lines findings all faulty refused = object (report_members lines findings all faulty refused)
 
 -- a value as a text, and LF
 abbrev pub json_line : Data → List ℕ

@@ -1,8 +1,9 @@
 ghost use Rattle.std.specs.Prelude.{◌≡◌, ◌-◌, ◌∷◌, ◌++◌, [], map, false, IfOk, OnOk};
 ghost use Rattle.std.specs.Str.Lines.{lines};
+ghost use Rattle.serde_json.specs.Data.{object, put as with_member};
 ghost use Rattle.serde_json.specs.View.{view, members_view};
 ghost use Rattle.serde_json.specs.Written.{has_float};
-ghost use Rattle.cwr_report.specs.Json.{json_line, told_data, finding_data, file_place, byte_data, file_told_data, file_data, faults_data, refused_data, report_data, report_json};
+ghost use Rattle.cwr_report.specs.Json.{json_line, told_data, finding_data, file_place, byte_data, file_told_data, file_data, faults_data, refused_data, report_members, report_data, report_json};
 ghost use Rattle.cwr_report.specs.Report.{IsJsonCheck};
 ghost use Rattle.cwr_report.specs.Walks.{IsWalk};
 
@@ -45,6 +46,35 @@ pub fn json_text(alloc: Global, bytes: &[u8], report: &Report) -> Result<Vec<u8>
     Ok(text)
 }
 
+/// What is told of a report as JSON, with one member more: one object, and LF.
+///
+/// The member has this name, and a value without fractions; one of this name that a report has is replaced. The members
+/// stand in the order of their names.
+pub fn json_text_with(
+    alloc: Global,
+    bytes: &[u8],
+    report: &Report,
+    name: &str,
+    more: Value,
+) -> Result<Vec<u8>, Memory>
+    requires { has_float (view more) ≡ false }
+    ensures { IfOk result (λ text. text.items ≡ json_line (object (with_member name.now (view more) (report_members (lines bytes.now) report.now.findings.items report.now.transactions report.now.faulty report.now.refused)))) }
+{
+    let mut map = report_map(alloc, bytes, report)?;
+    put(&mut map, alloc, name, more)?;
+    let value = object_of(map);
+    let mut text = Vec::new(alloc);
+    put_json(alloc, &mut text, &value)?;
+    Ok(text)
+}
+
+/// The object that has these members.
+fn object_of(map: Map<String, Value>) -> Value
+    ensures { view result ≡ object (members_view map.entries) }
+{
+    Value::Object(map)
+}
+
 /// Appends a value that has no fractions as a text, and LF.
 fn put_json(alloc: Global, out: &mut Vec<u8>, value: &Value) -> Result<(), Memory>
     requires { has_float (view value.now) ≡ false }
@@ -59,6 +89,13 @@ fn put_json(alloc: Global, out: &mut Vec<u8>, value: &Value) -> Result<(), Memor
 /// The report as a value of JSON.
 fn report_value(alloc: Global, bytes: &[u8], report: &Report) -> Result<Value, Memory>
     ensures { IfOk result (λ value. view value ≡ report_data (lines bytes.now) report.now.findings.items report.now.transactions report.now.faulty report.now.refused) }
+{
+    Ok(Value::Object(report_map(alloc, bytes, report)?))
+}
+
+/// The members of that value.
+fn report_map(alloc: Global, bytes: &[u8], report: &Report) -> Result<Map<String, Value>, Memory>
+    ensures { IfOk result (λ map. members_view map.entries ≡ report_members (lines bytes.now) report.now.findings.items report.now.transactions report.now.faulty report.now.refused) }
 {
     let mut map = Map::new(alloc);
     let faults = faults_list(alloc, bytes, &report.findings, &report.refused)?;
@@ -76,7 +113,7 @@ fn report_value(alloc: Global, bytes: &[u8], report: &Report) -> Result<Value, M
         Value::from(report.transactions),
     )?;
     put(&mut map, alloc, "faulty", Value::from(report.faulty))?;
-    Ok(Value::Object(map))
+    Ok(map)
 }
 
 /// The faults of the transactions, or the one of the file.

@@ -23,7 +23,8 @@ fn latin(alloc: Global, bytes: &[u8]) -> Result<String, Memory>
     Ok(text)
 }
 
-pub(crate) fn text_value(alloc: Global, bytes: &[u8]) -> Result<Value, Memory>
+/// Bytes as a text of JSON: each byte is the character with its number, so that a text has all of them whatever they are.
+pub fn text_value(alloc: Global, bytes: &[u8]) -> Result<Value, Memory>
     ensures { IfOk result (λ value. view value ≡ text_data bytes.now) }
 {
     let text = latin(alloc, bytes)?;

@@ -29,6 +29,7 @@ pub use cwr_rules::{Over, Totals};
 pub use file_finding::{FileExpected, FileFinding, RecordPlace, WrongByte};
 pub use file_words::file_rule_text;
 pub use finding::{Expected, FieldName, Finding, Spot};
-pub use json::{check_json, json_text};
+pub use json::{check_json, json_text, json_text_with};
+pub use json_values::text_value;
 pub use reporting::{Report, report_on};
 pub use telling::{check_long, long_text};

@@ -26,7 +26,7 @@ fn tells_that_nothing_is_wrong(rt: HostRuntime) -> Result<(), Fail> {
         &rt,
         &input,
         ExitCode::SUCCESS,
-        "{\"faults\":[],\"faulty\":0,\"refused\":false,\"transactions\":1}\n",
+        "{\"faults\":[],\"faulty\":0,\"refused\":false,\"remarks\":[],\"transactions\":1}\n",
     )
 }
 
@@ -41,7 +41,7 @@ fn tells_the_faults_of_transactions(rt: HostRuntime) -> Result<(), Fail> {
     ];
     let input = file_of_lines(rt.alloc(), &lines)?;
     let wanted =
-        "{\"faults\":[{\"byte\":null,\"expected\":\"a title that is not blank\",\"fields\":[{\"bytes\":\"                                                            \",\"length\":60,\"name\":\"work title\",\"start\":20}],\"group\":1,\"line\":3,\"record\":\"NWR\",\"rule\":\"J2\",\"sequence\":0,\"text\":\"TITLE IS BLANK\",\"transaction\":0},{\"byte\":null,\"expected\":\"T, these nine digits and their check digit 1\",\"fields\":[{\"bytes\":\"T0345246802\",\"length\":11,\"name\":\"ISWC\",\"start\":96}],\"group\":1,\"line\":3,\"record\":\"NWR\",\"rule\":\"J4\",\"sequence\":0,\"text\":\"ISWC IS NOT VALID\",\"transaction\":0}],\"faulty\":1,\"refused\":false,\"transactions\":1}\n";
+        "{\"faults\":[{\"byte\":null,\"expected\":\"a title that is not blank\",\"fields\":[{\"bytes\":\"                                                            \",\"length\":60,\"name\":\"work title\",\"start\":20}],\"group\":1,\"line\":3,\"record\":\"NWR\",\"rule\":\"J2\",\"sequence\":0,\"text\":\"TITLE IS BLANK\",\"transaction\":0},{\"byte\":null,\"expected\":\"T, these nine digits and their check digit 1\",\"fields\":[{\"bytes\":\"T0345246802\",\"length\":11,\"name\":\"ISWC\",\"start\":96}],\"group\":1,\"line\":3,\"record\":\"NWR\",\"rule\":\"J4\",\"sequence\":0,\"text\":\"ISWC IS NOT VALID\",\"transaction\":0}],\"faulty\":1,\"refused\":false,\"remarks\":[],\"transactions\":1}\n";
     expect_json(&rt, &input, ExitCode::FAILURE, wanted)
 }
 
@@ -49,7 +49,7 @@ fn tells_the_faults_of_transactions(rt: HostRuntime) -> Result<(), Fail> {
 fn tells_the_fault_of_a_file(rt: HostRuntime) -> Result<(), Fail> {
     let input = miscounted(rt.alloc())?;
     let wanted =
-        "{\"faults\":[{\"byte\":null,\"expected\":\"transaction count 1, record count 4\",\"fields\":[{\"bytes\":\"00000002\",\"length\":8,\"name\":\"record count\",\"start\":17}],\"group\":1,\"line\":5,\"record\":\"GRT\",\"rule\":\"F9\",\"sequence\":null,\"text\":\"the counts of GRT are not those of the group\",\"transaction\":null}],\"faulty\":0,\"refused\":true,\"transactions\":0}\n";
+        "{\"faults\":[{\"byte\":null,\"expected\":\"transaction count 1, record count 4\",\"fields\":[{\"bytes\":\"00000002\",\"length\":8,\"name\":\"record count\",\"start\":17}],\"group\":1,\"line\":5,\"record\":\"GRT\",\"rule\":\"F9\",\"sequence\":null,\"text\":\"the counts of GRT are not those of the group\",\"transaction\":null}],\"faulty\":0,\"refused\":true,\"remarks\":[],\"transactions\":0}\n";
     expect_json(&rt, &input, ExitCode::FAILURE, wanted)
 }
 
@@ -58,7 +58,7 @@ fn tells_the_place_of_a_byte(rt: HostRuntime) -> Result<(), Fail> {
     let input =
         b"HDRPB000000123PUBLISHER A                                  01.102024050112000020240501\r\nGRH\tNWR\r\n";
     let wanted =
-        "{\"faults\":[{\"byte\":{\"byte\":9,\"in_file\":92,\"in_line\":4},\"expected\":\"no byte below 32\",\"fields\":[],\"group\":1,\"line\":2,\"record\":\"GRH\",\"rule\":\"F2\",\"sequence\":null,\"text\":\"a control character in a line\",\"transaction\":null}],\"faulty\":0,\"refused\":true,\"transactions\":0}\n";
+        "{\"faults\":[{\"byte\":{\"byte\":9,\"in_file\":92,\"in_line\":4},\"expected\":\"no byte below 32\",\"fields\":[],\"group\":1,\"line\":2,\"record\":\"GRH\",\"rule\":\"F2\",\"sequence\":null,\"text\":\"a control character in a line\",\"transaction\":null}],\"faulty\":0,\"refused\":true,\"remarks\":[],\"transactions\":0}\n";
     expect_json(&rt, input, ExitCode::FAILURE, wanted)
 }
 
@@ -72,7 +72,7 @@ fn tells_each_byte_as_the_character_with_its_number(rt: HostRuntime) -> Result<(
     for (input, told) in cases {
         let alloc = rt.alloc();
         let wanted = format!(in alloc;
-            "{{\"faults\":[{{\"byte\":null,\"expected\":\"HDR\",\"fields\":[{{\"bytes\":\"{told}\",\"length\":3,\"name\":\"record type\",\"start\":1}}],\"group\":null,\"line\":1,\"record\":null,\"rule\":\"F1\",\"sequence\":null,\"text\":\"the file does not begin with HDR\",\"transaction\":null}}],\"faulty\":0,\"refused\":true,\"transactions\":0}}\n"
+            "{{\"faults\":[{{\"byte\":null,\"expected\":\"HDR\",\"fields\":[{{\"bytes\":\"{told}\",\"length\":3,\"name\":\"record type\",\"start\":1}}],\"group\":null,\"line\":1,\"record\":null,\"rule\":\"F1\",\"sequence\":null,\"text\":\"the file does not begin with HDR\",\"transaction\":null}}],\"faulty\":0,\"refused\":true,\"remarks\":[],\"transactions\":0}}\n"
         )?;
         expect_json(&rt, input, ExitCode::FAILURE, wanted.as_str())?;
     }

@@ -10,6 +10,8 @@ mod long_checks;
 #[cfg(test)]
 mod long_faults;
 #[cfg(test)]
+mod remarks;
+#[cfg(test)]
 mod told_tables;
 #[cfg(test)]
 mod verified_files;

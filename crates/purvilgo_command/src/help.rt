@@ -109,7 +109,9 @@ Options:
 Reads: FILE, or standard input where FILE is -.
 Writes: on standard output a line for each transaction, or the file's first fault.
 With --long some lines for each fault, and none for a transaction without; with --json
-one object. The two are not taken together.
+one object. The two are not taken together. Both tell remarks too, which are no faults
+and leave the status as it is: bytes above 126, a line past its layout, a record type
+that CWR 2.2 does not have, territories that are only excluded.
 Status: 0 no fault; 2 the words are not taken, or help; 1 else.
 
 Example:

@@ -13,7 +13,7 @@ use cwr_check::{Checked, check_text};
 use cwr_desk::{FileOutcome, MOST_BYTES, acknowledge, outcome_line};
 use cwr_field::{Clock, Day, cut, date, time};
 use cwr_record::Stamp;
-use cwr_report::{check_json, check_long};
+use cwr_remarks::{remarked_json, remarked_long};
 use kept_file::Exclusive;
 use std::process::ExitCode;
 use std::rt::{Env, Files};
@@ -25,7 +25,8 @@ use std::{env, io, str};
 ///
 /// Without words it acknowledges standard input to standard output. `run` acknowledges files at one book, which may
 /// come from a register and go to one. `check FILE` tells on standard output which rules a file breaks, with `--long` or
-/// `--json` also where and why, and `audit REGISTER` tells there how many entries a register has, or its first fault.
+/// `--json` also where and why, and what is to be remarked of its lines; and `audit REGISTER` tells there how many entries
+/// a register has, or its first fault.
 /// `explain` tells there what rules ask, `claims`, `works` and `history` tell a register as a table in CSV, and
 /// `summary` tells how much of what is in it. `verify REGISTER FILE..` checks it against files and their acknowledgements.
 /// `--version` tells there the program's version.
@@ -170,8 +171,8 @@ fn check_file<R: AllocGlobal + Input + Print + Eprint + Files>(
     };
     let checked = match form {
         CheckForm::Short => check_text(rt.alloc(), &text),
-        CheckForm::Long => check_long(rt.alloc(), &text),
-        CheckForm::Json => check_json(rt.alloc(), &text),
+        CheckForm::Long => remarked_long(rt.alloc(), &text),
+        CheckForm::Json => remarked_json(rt.alloc(), &text),
     };
     match checked {
         Ok(checked) => tell_check(rt, &checked),

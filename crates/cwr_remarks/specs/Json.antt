@@ -1,0 +1,55 @@
+-- What is told of remarks as JSON: an object for each.
+use Rattle.std.specs.Prelude.{ℕ, List, map, codes, Option, Some, None}
+use Rattle.serde_json.specs.Data.{Data, array, object, Members, no_members, put}
+use Rattle.serde_json.specs.View.{items_of}
+use Rattle.cwr_report.specs.Json.{text_data, count_data, option_data}
+use Rattle.cwr_remarks.specs.declared.remark.Remark.{Remark}
+use Rattle.cwr_remarks.specs.declared.remark.Remarked.{Remarked}
+use Rattle.cwr_remarks.specs.declared.remark.Remarked.TheVariants.{HighBytes, PastLayout, UnknownType, OnlyExcluded}
+use Rattle.cwr_remarks.specs.Texts.{what_text}
+
+-- what is remarked, in two words
+abbrev pub kind_text : Remarked → List ℕ
+kind_text (HighBytes first count) = codes "high bytes"
+kind_text (PastLayout size layout) = codes "past layout"
+kind_text UnknownType = codes "unknown type"
+kind_text OnlyExcluded = codes "only exclusions"
+
+-- the numbers of a remark; none where it has no such number
+abbrev pub first_in : Remarked → Option ℕ
+first_in (HighBytes first count) = Some first
+first_in _ = None
+
+abbrev pub count_in : Remarked → Option ℕ
+count_in (HighBytes first count) = Some count
+count_in _ = None
+
+abbrev pub length_in : Remarked → Option ℕ
+length_in (PastLayout size layout) = Some size
+length_in _ = None
+
+abbrev pub layout_in : Remarked → Option ℕ
+layout_in (PastLayout size layout) = Some layout
+layout_in _ = None
+
+-- where it is
+abbrev pub place_members : Remark → Members
+place_members r = put (codes "record") (text_data r.rtype) (put (codes "line") (count_data r.line) no_members)
+
+-- what it is, in words
+abbrev pub word_members : Remarked → Members → Members
+word_members what ms = put (codes "text") (text_data (what_text what)) (put (codes "kind") (text_data (kind_text what)) ms)
+
+-- and its numbers
+abbrev pub number_members : Remarked → Members → Members
+number_members what ms =
+    put (codes "layout") (option_data (layout_in what))
+    (put (codes "length") (option_data (length_in what))
+    (put (codes "count") (option_data (count_in what))
+    (put (codes "first") (option_data (first_in what)) ms)))
+
+abbrev pub remark_data : Remark → Data
+remark_data r = object (number_members r.what (word_members r.what (place_members r)))
+
+abbrev pub remarks_data : List Remark → Data
+remarks_data remarks = array (items_of (map remark_data remarks))
