@@ -48,7 +48,13 @@ fn expect_long<T: AllocGlobal + Threads + Wait + Sync>(
     status: ExitCode,
     wanted: &str,
 ) -> Result<(), Fail> {
-    expect_check(rt, &["purvilgo", "check", "--long", "-"], lines, status, wanted)
+    expect_check(
+        rt,
+        &["purvilgo", "check", "--long", "-"],
+        lines,
+        status,
+        wanted,
+    )
 }
 
 #[test]
@@ -145,9 +151,15 @@ remark, line 4: SWX: CWR 2.2 has no record of this type; it is carried, and noth
 
 /// A record of each type that has a layout, and the position of its layout's last byte, as the profile has them.
 const LAYOUTS: [(&str, usize); 17] = [
-    ("HDRPB000000123PUBLISHER A                                  01.102024050112000020240501", 167),
+    (
+        "HDRPB000000123PUBLISHER A                                  01.102024050112000020240501",
+        167,
+    ),
     ("GRHNWR0000102.200000000001", 28),
-    ("NWR0000000000000000SONG ONE                                                      W1", 194),
+    (
+        "NWR0000000000000000SONG ONE                                                      W1",
+        194,
+    ),
     ("SPU000000000000000101000000002", 136),
     ("SPT0000000000000002000000002      000000000000000I2136", 58),
     ("OPU0000000000000003", 136),
@@ -159,7 +171,10 @@ const LAYOUTS: [(&str, usize); 17] = [
     ("XRF0000000000000009", 38),
     ("GRT000010000000100000012", 37),
     ("GRHREV0000202.200000000001", 28),
-    ("REV0000000000000000SONG ONE                                                      W1", 194),
+    (
+        "REV0000000000000000SONG ONE                                                      W1",
+        194,
+    ),
     ("OWR0000000000000001", 150),
     ("GRT000020000000100000004", 37),
 ];
@@ -170,7 +185,11 @@ fn filled(alloc: Global, more: usize) -> Result<Vec<u8>, Fail> {
     for (line, layout) in LAYOUTS {
         put_filled(&mut text, line, layout.saturating_add(more))?;
     }
-    put_filled(&mut text, "TRL000020000000200000018", 24usize.saturating_add(more))?;
+    put_filled(
+        &mut text,
+        "TRL000020000000200000018",
+        24usize.saturating_add(more),
+    )?;
     Ok(text)
 }
 

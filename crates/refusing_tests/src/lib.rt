@@ -12,6 +12,8 @@ mod control_records;
 #[cfg(test)]
 mod files;
 #[cfg(test)]
+mod reports;
+#[cfg(test)]
 mod rooms;
 #[cfg(test)]
 mod sweeps;
