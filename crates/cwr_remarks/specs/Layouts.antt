@@ -1,5 +1,5 @@
 -- Where the layout of a record ends, in the columns of the profile.
-use Rattle.std.specs.Prelude.{ℕ, ◌+◌, ◌-◌, nat_lt, List, Option, Some, None, if◌then◌else◌}
+use Rattle.std.specs.Prelude.{ℕ, ◌+◌, ◌-◌, nat_lt, Option, Some, None, if◌then◌else◌}
 use Rattle.cwr_record.specs.Columns as column
 use Rattle.cwr_record.specs.declared.columns.Column.{Column}
 use Rattle.cwr_record.specs.declared.record_type.RecordType.{RecordType}

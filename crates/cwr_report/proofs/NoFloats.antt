@@ -1,10 +1,8 @@
 -- What is told as JSON has no floats.
-use Rattle.std.proofs.Common.{◌≡◌, ◌∙◌, ℕ, Bool, true, false, List, [], ◌∷◌, map, refl, Option, Some, None, sym, subst, ap}
-use Rattle.std.specs.Prelude.{codes, ◌||◌, ◌-◌}
+use Rattle.std.proofs.Common.{◌≡◌, ◌∙◌, ℕ, false, List, [], ◌∷◌, map, refl, Option, Some, None, sym, subst, ap}
+use Rattle.std.specs.Prelude.{codes, ◌-◌}
 use Rattle.std.specs.List.{flat_map}
-use Rattle.std.specs.Ordering.{nat_cmp, match_ordering}
-use Rattle.std.specs.Cmp.Lexicographic.{slice_cmp}
-use Rattle.serde_json.specs.Data.{Data, null, array, object, Members, no_members, member, put}
+use Rattle.serde_json.specs.Data.{Data, null, array, object, Members, no_members, put}
 use Rattle.serde_json.specs.View.{items_of}
 use Rattle.serde_json.specs.Written.{has_float, items_have_float, members_have_float}
 use Rattle.cwr_report.specs.declared.finding.Finding.{Finding}
