@@ -1,5 +1,5 @@
 -- The account of a job over bytes in memory, in terms of these bytes.
-use Rattle.std.proofs.Common.{◌≡◌, ◌∙◌, ℕ, List, [], ap, sym, subst, length}
+use Rattle.std.proofs.Common.{◌≡◌, ◌∙◌, ℕ, List, [], ◌++◌, ap, sym, subst, length}
 use Rattle.std.specs.Prelude.{nat_le, false, Option, Some}
 use Rattle.std.specs.Io.KnownBytes.{Appends}
 use Rattle.cwr_record.specs.Stamp.{StampParts}
@@ -14,25 +14,22 @@ use Rattle.purvilgo_c.specs.Outcomes.{numbers_of}
 use Rattle.purvilgo_c.specs.Files.{IsAnswered}
 use Rattle.purvilgo_c.specs.declared.outcome.Outcome.{Outcome}
 
-pub answered : (stamp : Option StampParts) (parts : StampParts) (file : List ℕ) (numbers : Outcome) (outcome : FileOutcome) (text : List ℕ)
-    (e : Ends) (kept : BookValue) (made : List EntryValue)
-    → stamp ≡ Some parts → numbers ≡ numbers_of outcome
+pub answered : (stamp : StampParts) (file : List ℕ) (numbers : Outcome) (outcome : FileOutcome) (text : List ℕ) (session : ℕ)
+    (e : Ends) (before kept : BookValue) (made : List EntryValue)
+    → numbers ≡ numbers_of outcome
     → e.left_before ≡ Some file → e.taken_before ≡ Some [] → e.taken_after ≡ Some text → e.full ≡ is_full kept → e.may_shut ≡ false
-    → made ≡ replay 1 [] (calls_of made) → kept.history ≡ made → kept.limit ≡ most_entries
-    → IsAccount e parts outcome made → IsAnswered stamp file numbers text
-answered stamp parts file numbers outcome text e kept made stamped told left empty taken full gate replayed history limit a =
+    → made ≡ replay session before.history (calls_of made) → kept.history ≡ before.history ++ made → kept.limit ≡ before.limit → before.limit ≡ most_entries
+    → IsAccount e stamp outcome made → IsAnswered stamp file session before.history numbers text made
+answered stamp file numbers outcome text session e before kept made told left empty taken full gate replayed grown limit most a =
     let file_is : a.input ≡ file = subst (λ (l : Option (List ℕ)). Gives l a.input) left a.given in
     let from : Appends (Some []) e.taken_after a.written = subst (λ (t : Option (List ℕ)). Appends t e.taken_after a.written) empty a.appended in
     let text_is : text ≡ a.written = subst (λ (t : Option (List ℕ)). Appends (Some []) t a.written) taken from in
     record {
-      parts = parts;
-      stamped = stamped;
       outcome = outcome;
       told = told;
-      made = made;
       replayed = replayed;
       ends = e;
-      full = full ∙ ap (λ (n : ℕ). nat_le n (length kept.history)) limit ∙ ap (λ (h : List EntryValue). nat_le most_entries (length h)) history;
+      full = full ∙ ap (λ (n : ℕ). nat_le n (length kept.history)) (limit ∙ most) ∙ ap (λ (h : List EntryValue). nat_le most_entries (length h)) grown;
       gate = gate;
-      account = subst (λ (f : List ℕ). Account e parts f outcome text made) file_is (subst (λ (w : List ℕ). Account e parts a.input outcome w made) (sym text_is) a.account);
+      account = subst (λ (f : List ℕ). Account e stamp f outcome text made) file_is (subst (λ (w : List ℕ). Account e stamp a.input outcome w made) (sym text_is) a.account);
     }

@@ -20,6 +20,12 @@ faulty = 4
 abbrev pub no_outcome : ℕ
 no_outcome = 5
 
+abbrev pub shut : ℕ
+shut = 6
+
+abbrev pub already_open : ℕ
+already_open = 7
+
 -- the text lies at the front of the room, and what is behind it stays
 pub record IsPut (text before after : List ℕ) (status : ℕ) : Type 0 where
   pub is_done : status ≡ done

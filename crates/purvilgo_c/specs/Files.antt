@@ -1,5 +1,5 @@
 -- What becomes of a file that is given as bytes, and whose acknowledgement is handed out as bytes.
-use Rattle.std.specs.Prelude.{◌≡◌, ℕ, nat_le, false, List, [], length, Option, Some}
+use Rattle.std.specs.Prelude.{◌≡◌, ℕ, nat_le, false, List, [], ◌++◌, length, Option, Some}
 use Rattle.cwr_record.specs.Stamp.{StampParts}
 use Rattle.work_registry.specs.EntryValue.{EntryValue}
 use Rattle.work_registry.specs.Numbers.{most_entries}
@@ -9,16 +9,21 @@ use Rattle.cwr_engine.specs.declared.outcome.FileOutcome.{FileOutcome}
 use Rattle.purvilgo_c.specs.Outcomes.{numbers_of}
 use Rattle.purvilgo_c.specs.declared.outcome.Outcome.{Outcome}
 
--- One file was worked into an empty book of as many entries as a book may have: the numbers are those of an outcome, and the account of
--- the job holds of the file, the outcome, the acknowledgement and the entries that its calls get. No gate shuts.
-pub record IsAnswered (stamp : Option StampParts) (file : List ℕ) (numbers : Outcome) (acknowledgement : List ℕ) : Type 0 where
-  pub parts : StampParts
-  pub stamped : stamp ≡ Some parts
+-- One file was worked, as a session, into a book that had these entries and may have as many as any book: the numbers are those of an
+-- outcome, and the account of the job holds of the file, the outcome, the acknowledgement and the entries that its calls get. No gate shuts.
+pub record IsAnswered (stamp : StampParts) (file : List ℕ) (session : ℕ) (before : List EntryValue) (numbers : Outcome) (acknowledgement : List ℕ)
+    (made : List EntryValue) : Type 0 where
   pub outcome : FileOutcome
   pub told : numbers ≡ numbers_of outcome
-  pub made : List EntryValue
-  pub replayed : made ≡ replay 1 [] (calls_of made)
+  pub replayed : made ≡ replay session before (calls_of made)
   pub ends : Ends
-  pub full : ends.full ≡ nat_le most_entries (length made)
+  pub full : ends.full ≡ nat_le most_entries (length (before ++ made))
   pub gate : ends.may_shut ≡ false
-  pub account : Account ends parts file outcome acknowledgement made
+  pub account : Account ends stamp file outcome acknowledgement made
+
+-- the same of an empty book, with the stamp that the bytes tell
+pub record IsAnsweredFirst (stamp : Option StampParts) (file : List ℕ) (numbers : Outcome) (acknowledgement : List ℕ) : Type 0 where
+  pub parts : StampParts
+  pub stamped : stamp ≡ Some parts
+  pub made : List EntryValue
+  pub answered : IsAnswered parts file 1 [] numbers acknowledgement made

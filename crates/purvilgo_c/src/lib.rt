@@ -6,10 +6,13 @@
 //! text is longer than the room that is given for it, the call tells how long it is and writes none of it.
 #![tactic(auto)]
 
+mod bare;
 mod checking;
 mod handing;
+mod handle;
 mod one_file;
 mod outcome;
 mod registers;
+mod registry;
 mod stamp;
 mod status;

@@ -1,6 +1,6 @@
 ghost use Rattle.std.specs.Prelude.{◌≡◌, ◌≢◌, length, None};
 ghost use Rattle.purvilgo_c.specs.Answers.{bad_stamp, IsTold};
-ghost use Rattle.purvilgo_c.specs.Files.{IsAnswered};
+ghost use Rattle.purvilgo_c.specs.Files.{IsAnsweredFirst};
 ghost use Rattle.purvilgo_c.specs.Stamps.{stamp_in};
 
 use crate::handing::hand_out;
@@ -24,7 +24,7 @@ pub extern "C" fn purvilgo_acknowledge(
     length: &mut usize,
     outcome: &mut Outcome,
 ) -> u32
-    ensures answered { result ≢ bad_stamp → IsTold (IsAnswered (stamp_in stamp.now) file.now outcome.new) out.old out.new length.new result }
+    ensures answered { result ≢ bad_stamp → IsTold (IsAnsweredFirst (stamp_in stamp.now) file.now outcome.new) out.old out.new length.new result }
     ensures no_stamp { result ≡ bad_stamp → stamp_in stamp.now ≡ None }
     ensures same { result ≡ bad_stamp → (out.new ≡ out.old) × (length.new ≡ length.old) × (outcome.new ≡ outcome.old) }
 {

@@ -17,3 +17,9 @@ pub const FAULTY: u32 = 4;
 
 /// The numbers are those of no outcome.
 pub const NO_OUTCOME: u32 = 5;
+
+/// The handle is shut: there is no registry behind it.
+pub const SHUT: u32 = 6;
+
+/// The handle is open already: there is a registry behind it.
+pub const ALREADY_OPEN: u32 = 7;

@@ -1,6 +1,6 @@
 use Rattle.std.proofs.Common.{◌∙◌, ap, sym, refl}
-use Rattle.std.specs.Prelude.{Some}
-use Rattle.purvilgo_c.specs.Stamps.{stamp_in}
+use Rattle.std.specs.Prelude.{Some, []}
+use Rattle.work_registry.specs.Numbers.{most_entries}
 use Rattle.purvilgo_c.proofs.Answering.{answered}
 use Rattle.purvilgo_c.proofs.one_file.purvilgo_acknowledge.Goals as goal
 
@@ -13,7 +13,12 @@ returns-clause-answered c some =
     let worked = c.acknowledge-told.ensures.1 in
     record {
       text = c.bytes.result.now;
-      holds = answered (stamp_in c.args.stamp.now) _ c.args.file.now c.numbers_of.result c.acknowledge-told.result c.bytes.result.now _ c.acknowledge-told.ensures.0
-          worked.entries stamped c.numbers_of.ensures left taken text refl refl worked.replayed worked.grown worked.limit worked.account;
+      holds = record {
+        parts = _;
+        stamped = stamped;
+        made = worked.entries;
+        answered = answered _ c.args.file.now c.numbers_of.result c.acknowledge-told.result c.bytes.result.now 1 _ (record { history = []; limit = most_entries }) c.acknowledge-told.ensures.0
+            worked.entries c.numbers_of.ensures left taken text refl refl worked.replayed worked.grown worked.limit refl worked.account;
+      };
       given = c.hand_out.ensures;
     }

@@ -1,0 +1,78 @@
+ghost use Rattle.std.specs.Prelude.{◌≡◌, Option, Some, None};
+ghost use Rattle.std.specs.Option.{option_map};
+ghost use Rattle.purvilgo_c.specs.Ownership.{owns_held, held_coded};
+ghost use Rattle.purvilgo_c.specs.RegistryValue.{RegistryValue};
+
+use crate::bare::Bare;
+use crate::registry::Registry;
+use std::alloc::Global;
+use std::marker::Model;
+use std::mem;
+use std::ptr;
+
+/// What C holds of a registry: a pointer to it, or null where the handle is shut.
+///
+/// A contract sees what it holds. It cannot be dropped, so the check sees to it that no call loses a registry.
+#[repr(C)]
+pub struct Handle {
+    at: *mut u8,
+    ghost held: { Option RegistryValue } by { held_coded },
+}
+
+impl Model for Handle {
+    ghost also_owns = { λ h. owns_held h.at h.held };
+}
+
+impl Handle {
+    /// A shut handle.
+    fn shut() -> Handle
+        ensures { result.held ≡ None }
+    {
+        Handle {
+            at: ptr::null_mut(),
+        }
+    }
+
+    /// A handle of this registry.
+    fn of(registry: Bare<Registry>) -> Handle
+        ensures { result.held ≡ Some registry.value }
+    {
+        let Bare { at } = registry;
+        Handle { at: at as *mut u8 }
+    }
+
+    /// What the handle holds.
+    fn into_bare(self) -> Option<Bare<Registry>>
+        ensures { option_map (λ b. b.value) result ≡ self.held }
+    {
+        let Handle { at } = self;
+        if at.is_null() {
+            return None;
+        }
+        Some(Bare {
+            at: at as *mut Registry,
+        })
+    }
+
+    /// Takes out what the handle holds, which leaves it shut.
+    pub(crate) fn take(&mut self, alloc: Global) -> Option<Box<Registry>>
+        ensures taken { option_map (λ b. b.value) result ≡ self.old.held }
+        ensures shut { self.new.held ≡ None }
+    {
+        match mem::replace(self, Handle::shut()).into_bare() {
+            Some(bare) => Some(bare.into_box(alloc)),
+            None => None,
+        }
+    }
+
+    /// Puts a registry into a shut handle.
+    pub(crate) fn put(&mut self, registry: Box<Registry>)
+        requires { self.old.held ≡ None }
+        ensures { self.new.held ≡ Some registry.value }
+    {
+        match mem::replace(self, Handle::of(Bare::of(registry))).into_bare() {
+            None => {}
+            Some(_) => unreachable!(),
+        }
+    }
+}

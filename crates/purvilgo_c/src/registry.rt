@@ -1,0 +1,86 @@
+ghost use Rattle.std.specs.Prelude.{◌≡◌, ◌≤◌, [], length, IfOk, OnOk};
+ghost use Rattle.work_registry.specs.Numbers.{most_entries};
+ghost use Rattle.work_registry.specs.Register.{register_text};
+ghost use Rattle.purvilgo_c.specs.Registries.{IsReadable, IsRun};
+
+use crate::outcome::{Outcome, numbers_of};
+use cwr_desk::{
+    Book, Feed, Job, MOST_BYTES, MOST_ENTRIES, Memory, Spool, Stamp, work_alone,
+};
+use std::alloc::Global;
+use std::marker::Model;
+use std::mem;
+
+/// What a handle holds: a book of as many entries as a book may have, and the acknowledgement of the last file.
+///
+/// Files are run as session 0, the opening: a book behind a handle is as if it had been read from its register.
+#[derive(Drop)]
+pub struct Registry {
+    book: Book,
+    acknowledgement: Vec<u8>,
+}
+
+impl Model for Registry {
+    ghost use Rattle.std.specs.Prelude.{◌≡◌};
+    ghost use Rattle.work_registry.specs.Numbers.{most_entries};
+    ghost use Rattle.purvilgo_c.specs.RegistryValue.{RegistryValue};
+
+    ghost Value = { RegistryValue };
+
+    ghost view = { λ r. record { history = r.book.history; acknowledgement = r.acknowledgement.items } };
+
+    ghost invariant = { λ r. r.book.limit ≡ most_entries };
+}
+
+impl Registry {
+    /// The registry of a book, into which no file was run.
+    pub(crate) fn of(alloc: Global, book: Book) -> Registry
+        requires { book.limit ≡ most_entries }
+        ensures { result ≡ record { history = book.history; acknowledgement = [] } }
+    {
+        Registry {
+            book,
+            acknowledgement: Vec::new(alloc),
+        }
+    }
+
+    /// Runs a file, and keeps its acknowledgement.
+    pub(crate) fn run(&mut self, alloc: Global, file: &[u8], stamp: &Stamp) -> Outcome
+        ensures { IsRun stamp.now file.now result self.old self.new }
+    {
+        let book = mem::replace(&mut self.book, Book::new(alloc, MOST_ENTRIES));
+        let job = Job {
+            reader: Feed::new(file, MOST_BYTES, None),
+            writer: Spool::new(alloc),
+        };
+        let (book, job, outcome) = work_alone(alloc, book, 0, job, stamp);
+        let Job { reader: _, writer } = job;
+        self.book = book;
+        self.acknowledgement = writer.into_bytes();
+        numbers_of(&outcome)
+    }
+
+    /// The acknowledgement of the file that was run last.
+    pub(crate) fn acknowledgement(&self) -> &[u8]
+        ensures { result.now ≡ self.now.acknowledgement }
+    {
+        &self.acknowledgement
+    }
+
+    /// How many entries there are.
+    pub(crate) fn entries(&self) -> u64
+        ensures { result ≡ length self.now.history }
+    {
+        self.book.len() as u64
+    }
+
+    /// The register.
+    pub(crate) fn register(&self, alloc: Global) -> Result<Vec<u8>, Memory>
+        ensures text { IfOk result (λ text. text.items ≡ register_text self.now.history) }
+        ensures readable { OnOk result (IsReadable self.now.history) }
+    {
+        // Looking at the entries tells what holds in every book.
+        let _entries = self.book.history().len();
+        self.book.write_register(alloc)
+    }
+}
