@@ -1,4 +1,4 @@
-ghost use Rattle.std.specs.Prelude.{◌≡◌, Option, Some, None};
+ghost use Rattle.std.specs.Prelude.{◌≡◌, Option, Some, None, is_some};
 ghost use Rattle.std.specs.Option.{option_map};
 ghost use Rattle.purvilgo_c.specs.Ownership.{owns_held, held_coded};
 ghost use Rattle.purvilgo_c.specs.RegistryValue.{RegistryValue};
@@ -62,6 +62,20 @@ impl Handle {
         match mem::replace(self, Handle::shut()).into_bare() {
             Some(bare) => Some(bare.into_box(alloc)),
             None => None,
+        }
+    }
+
+    /// Whether the handle holds a registry.
+    pub(crate) fn is_open(&mut self, alloc: Global) -> bool
+        ensures open { result ≡ is_some self.old.held }
+        ensures same { self.new.held ≡ self.old.held }
+    {
+        match self.take(alloc) {
+            Some(registry) => {
+                self.put(registry);
+                true
+            }
+            None => false,
         }
     }
 

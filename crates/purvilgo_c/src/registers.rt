@@ -1,6 +1,7 @@
-ghost use Rattle.std.specs.Prelude.{◌≡◌};
+ghost use Rattle.std.specs.Prelude.{◌≡◌, ◌≢◌, ◌⊎◌, ℕ, List};
 ghost use Rattle.work_registry.specs.Numbers.{most_entries};
 ghost use Rattle.work_registry.specs.Register.{IsAudited};
+ghost use Rattle.work_registry.specs.RegisterFaults.{IsRefusal};
 ghost use Rattle.purvilgo_c.specs.Answers.{done, no_memory, faulty};
 ghost use Rattle.purvilgo_c.specs.Registers.{IsFirstFault, IsAuditStatus};
 
@@ -39,13 +40,24 @@ pub extern "C" fn purvilgo_audit(
             *entries = count;
             DONE
         }
-        Err(RegisterRefusal::Fault { number, line }) => {
+        Err(refusal) => tell_refusal(refusal, fault),
+    }
+}
+
+/// Tells why there is no book of a text, and which status that is.
+pub(crate) fn tell_refusal(refusal: RegisterRefusal, fault: &mut RegisterFault) -> u32
+    ensures fault { (text : List ℕ) → IsRefusal most_entries text refusal → result ≡ faulty → IsFirstFault most_entries text fault.new }
+    ensures same { result ≢ faulty → fault.new ≡ fault.old }
+    ensures status { (result ≡ faulty) ⊎ (result ≡ no_memory) }
+{
+    match refusal {
+        RegisterRefusal::Fault { number, line } => {
             *fault = RegisterFault {
                 number: number as u32,
                 line,
             };
             FAULTY
         }
-        Err(RegisterRefusal::Memory) => NO_MEMORY,
+        RegisterRefusal::Memory => NO_MEMORY,
     }
 }

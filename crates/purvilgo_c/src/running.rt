@@ -1,0 +1,64 @@
+ghost use Rattle.std.specs.Prelude.{◌≡◌, ◌≢◌, MatchOption, IsSomeAnd};
+ghost use Rattle.purvilgo_c.specs.Answers.{done, bad_stamp, shut, IsGiven};
+ghost use Rattle.purvilgo_c.specs.Registries.{IsRun};
+ghost use Rattle.purvilgo_c.specs.Stamps.{stamp_in};
+
+use crate::handing::hand_out;
+use crate::handle::Handle;
+use crate::outcome::Outcome;
+use crate::stamp::{StampBytes, stamp_of};
+use crate::status::{BAD_STAMP, DONE, SHUT};
+use std::alloc::Global;
+
+/// Runs a file: decides its transactions in file order, after all that was decided before, and keeps its
+/// acknowledgement behind the handle, in the place of the one before.
+///
+/// `outcome` tells what became of the file, want of memory for the work too. `SHUT` and `BAD_STAMP` leave `outcome` as it
+/// was, and what the handle holds.
+#[unsafe(no_mangle)]
+pub extern "C" fn purvilgo_registry_run(
+    alloc: Global,
+    handle: &mut Handle,
+    file: &[u8],
+    stamp: &StampBytes,
+    outcome: &mut Outcome,
+) -> u32
+    ensures ran { MatchOption handle.old.held (result ≡ shut) (λ before. MatchOption (stamp_in stamp.now) (result ≡ bad_stamp) (λ parts.
+        (result ≡ done) × IsSomeAnd handle.new.held (IsRun parts file.now outcome.new before))) }
+    ensures same { result ≢ done → (handle.new.held ≡ handle.old.held) × (outcome.new ≡ outcome.old) }
+{
+    let Some(mut registry) = handle.take(alloc) else {
+        return SHUT;
+    };
+    let Some(stamp) = stamp_of(stamp) else {
+        handle.put(registry);
+        return BAD_STAMP;
+    };
+    *outcome = registry.run(alloc, file, &stamp);
+    handle.put(registry);
+    DONE
+}
+
+/// The acknowledgement of the file that was run last, at the front of `out`; it is empty where that file was refused or
+/// stopped, and before the first.
+///
+/// `NO_ROOM` where it does not fit: then `length` is told, and `out` stays as it was. `SHUT` leaves both. What the handle
+/// holds stays.
+#[unsafe(no_mangle)]
+pub extern "C" fn purvilgo_registry_acknowledgement(
+    alloc: Global,
+    handle: &mut Handle,
+    out: &mut [u8],
+    length: &mut usize,
+) -> u32
+    ensures told { MatchOption handle.old.held ((result ≡ shut) × (out.new ≡ out.old) × (length.new ≡ length.old)) (λ registry.
+        IsGiven registry.acknowledgement out.old out.new length.new result) }
+    ensures same { handle.new.held ≡ handle.old.held }
+{
+    let Some(registry) = handle.take(alloc) else {
+        return SHUT;
+    };
+    let status = hand_out(registry.acknowledgement(), out, length);
+    handle.put(registry);
+    status
+}
