@@ -90,3 +90,6 @@ impl Handle {
         }
     }
 }
+
+// SAFETY: what it owns any thread may have, and give back to the heap.
+unsafe impl Send for Handle {}
