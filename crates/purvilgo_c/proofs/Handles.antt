@@ -9,7 +9,7 @@ use seplogic.Ra.Ura.{Ura}
 use mir.Val.{Val, vstruct, vcons, vnil, of_list}
 use base.Logic.{never, fst∗}
 use types.Logic.{Logic, sem}
-use types.Kit.{Goal, Step, step, Seq, Item, ‵, ◌$◌, move, drop, rewrite, fsplit, fjoin, fpick, fpack, feq_l, feq_i}
+use types.Kit.{Goal, Step, step, Seq, Item, ‵, ◌$◌, drop, fsplit, fjoin, fpick, fpack, feq_l, feq_i}
 use mir.Raw.{raw as bare}
 use mir.Syntax.{impl, tcons, tnil, dnil}
 use denote.Exit.{no}

@@ -1,5 +1,5 @@
 -- What a call does with a registry behind a handle.
-use Rattle.std.specs.Prelude.{◌≡◌, ℕ, ◌≤◌, ◌⊎◌, List, [], ◌++◌, length, map, Option, Some, None, IsTrue, ◌≢◌, IsSomeAnd}
+use Rattle.std.specs.Prelude.{◌≡◌, ℕ, ◌≤◌, ◌⊎◌, List, [], ◌++◌, length, map, Option, None, IsTrue, IsSomeAnd}
 use Rattle.std.specs.List.{AllByRecursion}
 use Rattle.cwr_record.specs.Stamp.{StampParts}
 use Rattle.work_registry.specs.EntryValue.{EntryValue}
@@ -7,7 +7,7 @@ use Rattle.work_registry.specs.History.{IsHistory}
 use Rattle.work_registry.specs.Numbers.{most_entries}
 use Rattle.work_registry.specs.Replay.{is_opening}
 use Rattle.work_registry.specs.Register.{register_text, opened, IsWholeEntry}
-use Rattle.purvilgo_c.specs.Answers.{done, no_memory, faulty}
+use Rattle.purvilgo_c.specs.Answers.{done, no_memory}
 use Rattle.purvilgo_c.specs.Files.{IsAnswered}
 use Rattle.purvilgo_c.specs.RegistryValue.{RegistryValue}
 use Rattle.purvilgo_c.specs.declared.outcome.Outcome.{Outcome}

@@ -7,8 +7,7 @@ use crate::bare::Bare;
 use crate::registry::Registry;
 use std::alloc::Global;
 use std::marker::Model;
-use std::mem;
-use std::ptr;
+use std::{mem, ptr};
 
 /// What C holds of a registry: a pointer to it, or null where the handle is shut.
 ///

@@ -4,9 +4,7 @@ ghost use Rattle.work_registry.specs.Register.{register_text};
 ghost use Rattle.purvilgo_c.specs.Registries.{IsReadable, IsRun};
 
 use crate::outcome::{Outcome, numbers_of};
-use cwr_desk::{
-    Book, Feed, Job, MOST_BYTES, MOST_ENTRIES, Memory, Spool, Stamp, work_alone,
-};
+use cwr_desk::{Book, Feed, Job, MOST_BYTES, MOST_ENTRIES, Memory, Spool, Stamp, work_alone};
 use std::alloc::Global;
 use std::marker::Model;
 use std::mem;

@@ -5,7 +5,7 @@ use lib.Dec.{T as Holds}
 use mir.MapTy.{inst_fn}
 use mir.Syntax.{Fn, a_type}
 use mir.Val.{Val, has_ty, WT}
-use base.Fml.{ftrue, fsep, flft, Share}
+use base.Fml.{ftrue, fsep, flft}
 use base.Logic.{emp, id⊢}
 use base.Share
 use prog.Wp.{WpFn}
@@ -18,7 +18,6 @@ use types.Run.{enter, of_opd, and_then, no_more, stop, fld, first, blocks, exec,
 use types.ByLocal.{alloc_all, pass_all, free_all, look_at, get, get_in, sets, lands_last, env}
 use denote.Exit.{yes, no}
 use denote.Param.{param, layouts}
-use denote.Param.Laws.{Laws}
 use denote.Param.NoDrop.{glues}
 use denote.RattleType.{RattleType}
 use denote.RawPtr.{block_ptr, ptr_val}
@@ -38,7 +37,6 @@ use Rattle.std_alloc.specs.contracts.boxed.Box.from_raw as made
 use Rattle.std_alloc.proofs.boxed.Box.from_raw.Met.{met}
 use Rattle.std_heap.specs.contracts.Global as Heap
 use Rattle.std_heap.proofs.GlobalAllocator.TheImpl.Met as heap
-use Rattle.purvilgo_c.specs.Ownership.{owns_boxed}
 use Rattle.purvilgo_c.specs.contracts.bare.Bare as Bare
 use Rattle.purvilgo_c.specs.contracts.bare.Bare.into_box as f
 use Rattle.purvilgo_c.proofs.Handles.{bare_out, boxed, heap_arg}

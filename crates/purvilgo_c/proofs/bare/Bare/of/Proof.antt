@@ -1,11 +1,11 @@
 -- `of` takes the pointer that `into_raw` gives, with what is behind it.
-use mathlib.Core.Path.{◌≡◌, refl, sym, ap, ◌∙◌}
+use mathlib.Core.Path.{refl, ap, ◌∙◌}
 use mathlib.Core.List.{List, [], ◌∷◌, ◌++◌}
 use mir.MapTy.{inst_fn}
 use mir.Raw.{raw as lain}
 use mir.Syntax.{Fn, Args, a_type, dcons, dnil}
 use mir.Val.{Val}
-use base.Fml.{ftrue, fsep, flft, Share}
+use base.Fml.{ftrue, fsep, flft}
 use base.Logic.{emp, id⊢, never, fst∗}
 use base.Share
 use prog.Wp.{WpFn}
@@ -41,7 +41,6 @@ use Rattle.std_heap.specs.contracts.Global as Heap
 use Rattle.std_heap.specs.contracts.GlobalAllocator.TheImpl.{ghosts}
 use Rattle.std_heap.proofs.GlobalAllocator.TheImpl.Met as heap
 use Rattle.purvilgo_c.specs.Ownership.{owns_boxed, frees}
-use Rattle.purvilgo_c.specs.contracts.bare.Bare as Bare
 use Rattle.purvilgo_c.specs.contracts.bare.Bare.of as f
 use Rattle.purvilgo_c.proofs.Handles.{word, bare_in, boxed, heap_arg}
 use Rattle.purvilgo_c.proofs.bare.Bare.of.Statement.{statement}

@@ -1,5 +1,5 @@
 -- `into_bare` asks whether the pointer is null: if so nothing is behind it, else what was there goes with it.
-use mathlib.Core.Path.{◌≡◌, refl, sym, ap, ◌∙◌}
+use mathlib.Core.Path.{◌≡◌, refl, sym}
 use mathlib.Core.List.{List, [], ◌∷◌, ◌++◌}
 use lib.Dec.{lit<}
 use seplogic.Ra.Ura.{Ura}
@@ -7,14 +7,12 @@ use mir.Raw.{raw as lain}
 use mir.Val.{Val, of_list}
 use base.Logic.{SProp, guard_i}
 use base.Fml.{Fml, ftrue, fsep}
-use prog.Memory.{Memory}
 use prog.Model.{Model}
-use prog.Routine.{Routine}
 use prog.Wp.{WpFn}
 use types.Logic.{Logic, sem}
 use contract.Monad.{fact_use}
 use contract.Running.{Running, MachineTables, tables}
-use types.Kit.{Sq, ‵, prop, at_ret, given, ◌⊛◌, ◌$◌, ◌∵◌, !, qed, by, move, drop, use0, use1, learn, split, join, fsplit, fjoin, feq_l, regoal, suffices, done}
+use types.Kit.{Sq, ‵, prop, at_ret, given, ◌⊛◌, ◌$◌, ◌∵◌, !, qed, move, drop, use0, use1, learn, split, join, fsplit, fjoin, feq_l, regoal, suffices, done}
 use types.Match.{live}
 use types.Part.{agg, whole, sub}
 use types.Run.{enter, of_opd, lit, bin, and_then, no_more, stop, fld, first, branches, skips, exec, returns, returns_within}

@@ -1,13 +1,12 @@
 -- `shut` makes a null pointer, which owns nothing.
 use mathlib.Core.Path.{refl}
-use mathlib.Core.List.{List, [], ◌∷◌}
+use mathlib.Core.List.{[], ◌∷◌}
 use Rattle.std.specs.Prelude.{None}
 use lib.Dec.{lit<}
-use mir.Val.{vnull}
 use base.Fml.{ftrue}
-use types.Kit.{‵, raw, ◌$◌, ◌∵◌, !, qed, drop, join, feq_i, suffices, done}
+use types.Kit.{‵, raw, ◌$◌, ◌∵◌, !, qed, drop, feq_i, suffices, done}
 use types.Part.{agg}
-use types.Run.{enter, of_opd, lit, and_then, no_more, returns}
+use types.Run.{enter, lit, and_then, no_more, returns}
 use types.ByLocal.{alloc_all, pass_all, free_all, look_at, sets}
 use contract.Running.{tables}
 use denote.RawPtr.{Ptr, null_ptr}
