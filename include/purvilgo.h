@@ -1,17 +1,25 @@
-/* Checks, acknowledgements and audits of the registry of musical works, for C and for all that calls C.
+/* The registry of musical works, for C and for all that calls C: checks, acknowledgements, audits, and a registry that
+ * goes on from file to file.
  *
  * Bytes go in and bytes come out. No call opens a file, starts a thread, prints or waits, and none ends the process.
  *
  * What every call asks of its caller:
  *   - No pointer is null, not even one whose length is 0, and each points at as many bytes as its length says.
- *   - What a call writes (out, length, clean, outcome, entries, fault) overlaps nothing else that it is given.
+ *   - What a call writes (registry, out, length, clean, outcome, entries, fault) overlaps nothing else that it is given.
  *   - Bytes that a call reads are written by nobody while it runs.
  *   - No call is made from a signal handler, nor in the child of a fork of a process that has threads.
  *   - malloc, realloc and free belong together, and align blocks as C asks for.
  * Calls on different data may run at once, in as many threads as there are.
  *
- * Who frees what: all memory behind these pointers is the caller's. A call frees what it took before it returns, and
- * nothing is kept from one call to the next.
+ * What the calls of a registry ask beside that:
+ *   - A `struct purvilgo_registry` begins as PURVILGO_REGISTRY_SHUT, and from then on only these calls write it.
+ *   - One call at a time is made on it, also of those that only tell something. Another thread may make the next one,
+ *     where a lock, or the start or end of a thread, puts it after the one before.
+ *   - It may be copied to another place, if the copy alone is used from then on.
+ *
+ * Who frees what: all memory behind these pointers is the caller's, but for what `at` of a registry points to, which
+ * purvilgo_registry_close frees. A call frees what else it took before it returns, and nothing else is kept from one call
+ * to the next.
  *
  * Texts: a call that gives a text takes a room, `out` of `out_size` bytes, and tells the text's length in `*length`.
  * Where the text fits it goes to the front of the room, and what is behind it stays as it was; it has no 0 at its end.
@@ -43,7 +51,11 @@ enum {
     /* The text is no register of one registry: its first fault is told. */
     PURVILGO_FAULTY = 4,
     /* The numbers are those of no outcome. */
-    PURVILGO_NO_OUTCOME = 5
+    PURVILGO_NO_OUTCOME = 5,
+    /* The registry is shut: all stays as it was. */
+    PURVILGO_SHUT = 6,
+    /* The registry is open already: all stays as it was. */
+    PURVILGO_ALREADY_OPEN = 7
 };
 
 /* What became of a file. */
@@ -56,9 +68,9 @@ enum {
     PURVILGO_STOPPED = 2
 };
 
-/* Why it stopped. purvilgo_acknowledge stops for memory (also as PURVILGO_FOR_WRITE, where there was none for the
- * acknowledgement) or for the file's length. The others are those of jobs of other kinds, of which
- * purvilgo_outcome_line tells the line too. */
+/* Why it stopped. purvilgo_acknowledge and purvilgo_registry_run stop for memory (also as PURVILGO_FOR_WRITE, where
+ * there was none for the acknowledgement), for the file's length, and the latter for a registry of 99,999,999 entries.
+ * The others are those of jobs of other kinds, of which purvilgo_outcome_line tells the line too. */
 enum {
     PURVILGO_FOR_MEMORY = 1,
     PURVILGO_FOR_FULL_BOOK = 2,
@@ -129,6 +141,66 @@ uint32_t purvilgo_audit(const uint8_t *text, size_t text_length, uint64_t *entri
  * Answers PURVILGO_DONE, PURVILGO_NO_ROOM, PURVILGO_NO_MEMORY, or PURVILGO_NO_OUTCOME, which leaves all as it was. */
 uint32_t purvilgo_outcome_line(const uint8_t *name, size_t name_length, const struct purvilgo_outcome *outcome,
                                uint8_t *out, size_t out_size, size_t *length);
+
+/* A registry of musical works, which goes on from file to file: a handle, shut or open.
+ *
+ *     struct purvilgo_registry registry = PURVILGO_REGISTRY_SHUT;
+ *     if (purvilgo_registry_open(&registry) == PURVILGO_DONE) {
+ *         ..
+ *         purvilgo_registry_close(&registry);
+ *     }
+ *
+ * It holds all that was decided, in memory: some 300 to 400 bytes for each transaction. It is as if it had been read
+ * from its register: runs are not told apart in it, nor in a register. */
+struct purvilgo_registry {
+    /* The library's own; null where it is shut. */
+    void *at;
+};
+
+#define PURVILGO_REGISTRY_SHUT {0}
+
+/* Opens an empty registry.
+ * Answers PURVILGO_DONE; PURVILGO_NO_MEMORY, which leaves it shut; or PURVILGO_ALREADY_OPEN. */
+uint32_t purvilgo_registry_open(struct purvilgo_registry *registry);
+
+/* Opens the registry that a register tells, as purvilgo_registry_register or `purvilgo run --to` wrote it. Each of its
+ * decisions is made anew, and compared.
+ * Answers PURVILGO_DONE; PURVILGO_FAULTY, and tells in `*fault` the first fault of a text that is no register of one
+ * registry; PURVILGO_NO_MEMORY; both leave it shut; or PURVILGO_ALREADY_OPEN. `*fault` stays as it was but for
+ * PURVILGO_FAULTY. */
+uint32_t purvilgo_registry_read(struct purvilgo_registry *registry, const uint8_t *text, size_t text_length,
+                                struct purvilgo_register_fault *fault);
+
+/* Runs one file: decides its transactions, in file order, after all that was decided before. What became of it stands in
+ * `*outcome`, and its acknowledgement stays behind the handle, in the place of the one before, until the next run:
+ * purvilgo_registry_acknowledgement copies it out, as often as it is asked. So this call takes no room, and no file is
+ * decided twice for want of one.
+ *
+ * A file that is refused, or too long, decides nothing. One that is stopped for memory, or for a registry that is full,
+ * leaves what was decided of it, `outcome->transactions`, in the registry, and no acknowledgement: who wants none of it
+ * closes the registry, and reads a register from before. PURVILGO_FOR_WRITE says that all of it was decided.
+ *
+ * Answers PURVILGO_DONE, PURVILGO_SHUT, or PURVILGO_BAD_STAMP, which leaves all as it was. */
+uint32_t purvilgo_registry_run(struct purvilgo_registry *registry, const uint8_t *file, size_t file_length,
+                               const struct purvilgo_stamp *stamp, struct purvilgo_outcome *outcome);
+
+/* The acknowledgement file of the last run: a text of no bytes where that file was not acknowledged, and before the first
+ * run. It asks for no memory.
+ * Answers PURVILGO_DONE, PURVILGO_NO_ROOM or PURVILGO_SHUT. */
+uint32_t purvilgo_registry_acknowledgement(struct purvilgo_registry *registry, uint8_t *out, size_t out_size,
+                                           size_t *length);
+
+/* Tells in `*entries` how many transactions were decided, those of the register that it was read from among them.
+ * Answers PURVILGO_DONE or PURVILGO_SHUT. */
+uint32_t purvilgo_registry_entries(struct purvilgo_registry *registry, uint64_t *entries);
+
+/* The register: all that was decided, as `purvilgo run --to` writes it. It has 12 bytes, and for each transaction 174, and
+ * 13 for each fault of it. It is made anew by each call, so ask with a room that may do.
+ * Answers PURVILGO_DONE, PURVILGO_NO_ROOM, PURVILGO_NO_MEMORY or PURVILGO_SHUT. */
+uint32_t purvilgo_registry_register(struct purvilgo_registry *registry, uint8_t *out, size_t out_size, size_t *length);
+
+/* Closes a registry: frees all that is behind the handle, which is shut then. Nothing happens to one that is shut. */
+void purvilgo_registry_close(struct purvilgo_registry *registry);
 
 #ifdef __cplusplus
 }

@@ -41,8 +41,8 @@ void __wrap_free(void *at) {
 }
 
 enum { ROOM = 1 << 16 };
-static uint8_t room[ROOM], expected[3][ROOM];
-static size_t expected_length[3];
+static uint8_t room[ROOM], expected[5][ROOM];
+static size_t expected_length[5];
 
 static void must(bool holds, const char *what) {
     if (!holds) {
@@ -152,6 +152,100 @@ static void audit(struct bytes text) {
          "an audit told something else");
 }
 
+/* A registry is opened: of the text where that is a register, else an empty one. What is refused memory leaves it shut,
+ * and is done again, which nothing refuses. True where it was refused. */
+static bool open_registry(struct purvilgo_registry *registry, struct bytes text) {
+    struct purvilgo_register_fault fault = {77, 77};
+    uint32_t status;
+    failed = false;
+    counts = true;
+    status = purvilgo_registry_read(registry, text.at, text.length, &fault);
+    if (status == PURVILGO_FAULTY)
+        status = purvilgo_registry_open(registry);
+    else
+        must(fault.number == 77 && fault.line == 77, "a fault was told of a register that has none");
+    counts = false;
+    must(status == (failed ? PURVILGO_NO_MEMORY : PURVILGO_DONE), "a registry was not opened as it is");
+    must((registry->at == NULL) == failed, "a registry that was refused is open");
+    must(held > 0 || failed, "a registry holds no memory");
+    must(held == 0 || !failed, "a registry that was refused holds memory");
+    if (!failed)
+        return false;
+    must(!open_registry(registry, text), "two requests were refused");
+    return true;
+}
+
+/* How many entries a registry has. */
+static uint64_t entries_of(struct purvilgo_registry *registry) {
+    uint64_t entries = 77;
+    must(purvilgo_registry_entries(registry, &entries) == PURVILGO_DONE, "the entries were not told");
+    return entries;
+}
+
+/* A file is run: it is stopped where memory was refused, and what was decided of it is there. True where it was. */
+static bool run(struct purvilgo_registry *registry, struct bytes file, const struct purvilgo_stamp *stamp) {
+    uint64_t before = entries_of(registry);
+    struct purvilgo_outcome outcome;
+    uint32_t status;
+    failed = false;
+    counts = true;
+    status = purvilgo_registry_run(registry, file.at, file.length, stamp, &outcome);
+    counts = false;
+    must(status == PURVILGO_DONE, "a run was not done");
+    must(failed == (outcome.kind == PURVILGO_STOPPED), "want of memory was not told by the outcome of a run");
+    must(entries_of(registry) == before + outcome.transactions, "a run left other entries than it told");
+    must(outcome.kind != PURVILGO_STOPPED || outcome.cause == PURVILGO_FOR_MEMORY || outcome.cause == PURVILGO_FOR_WRITE,
+         "a run was stopped for another cause");
+    return failed;
+}
+
+/* The acknowledgement of the last run is told, without a request: no bytes where it was stopped. */
+static void tell_last(struct purvilgo_registry *registry, bool stopped, bool same) {
+    size_t length, requests = asked;
+    uint32_t status;
+    fill(&length);
+    status = purvilgo_registry_acknowledgement(registry, room, ROOM, &length);
+    must(asked == requests, "an acknowledgement asked for memory");
+    if (stopped)
+        must(status == PURVILGO_DONE && length == 0 && is_filled(), "there is an acknowledgement of a run that was stopped");
+    else
+        told(3, status, length, same);
+    counts = false;
+}
+
+/* The register is told, and is that of as many entries as there are. */
+static void tell_register(struct purvilgo_registry *registry, bool same) {
+    struct purvilgo_register_fault fault;
+    uint64_t entries = 0;
+    size_t length;
+    uint32_t status;
+    fill(&length);
+    status = purvilgo_registry_register(registry, room, ROOM, &length);
+    told(4, status, length, same);
+    if (status == PURVILGO_DONE) {
+        must(purvilgo_audit(room, length, &entries, &fault) == PURVILGO_DONE, "the register is none");
+        must(entries == entries_of(registry), "the register has other entries");
+    }
+}
+
+/* A registry is opened, a file is run twice, and all is told and freed. What is told is that of the first run as long as
+ * no run was refused memory. */
+static void carry_on(struct bytes file, struct bytes text, const struct purvilgo_stamp *stamp) {
+    struct purvilgo_registry registry = PURVILGO_REGISTRY_SHUT;
+    bool stopped, any = false;
+    open_registry(&registry, text);
+    any = run(&registry, file, stamp);
+    stopped = run(&registry, file, stamp);
+    any = any || stopped;
+    tell_last(&registry, stopped, !any);
+    tell_register(&registry, !any);
+    counts = true;
+    purvilgo_registry_close(&registry);
+    purvilgo_registry_close(&registry);
+    counts = false;
+    must(held == 0 && registry.at == NULL, "a registry that was closed holds memory");
+}
+
 /* Each call once. */
 static void calls(struct bytes file, struct bytes text, const struct purvilgo_stamp *stamp) {
     struct purvilgo_outcome outcome;
@@ -159,6 +253,7 @@ static void calls(struct bytes file, struct bytes text, const struct purvilgo_st
     outcome = acknowledge(file, stamp);
     tell_line(&outcome);
     audit(text);
+    carry_on(file, text, stamp);
 }
 
 int main(int argc, char **argv) {

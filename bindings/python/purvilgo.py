@@ -1,4 +1,5 @@
-"""Checks, acknowledgements and audits of the registry of musical works, for Python: bytes in, bytes out.
+"""The registry of musical works, for Python: checks, acknowledgements, audits, and a registry that goes on from file to
+file. Bytes in, bytes out.
 
     >>> import purvilgo
     >>> told = purvilgo.check(open("works.v22", "rb").read())
@@ -6,10 +7,14 @@
     >>> answer = purvilgo.acknowledge(open("works.v22", "rb").read(), stamp)
     >>> answer.outcome, answer.file
     >>> purvilgo.audit(open("old.register", "rb").read())
+    >>> with purvilgo.Registry.open(open("old.register", "rb").read()) as registry:
+    ...     answer = registry.run(open("works.v22", "rb").read(), stamp)
+    ...     open("new.register", "wb").write(registry.register())
 
 All of it is done by the library `libpurvilgo.so`, which is looked for at the path in the environment variable
 `PURVILGO_LIBRARY`, then beside this file, then in `bindings/out`, and then where the system keeps libraries. Calls on
-different data may run in different threads at once. Want of memory is a `MemoryError`, whatever memory it was.
+different data may run in different threads at once, and calls of one registry one after the other. Want of memory is a
+`MemoryError`, whatever memory it was.
 """
 
 from __future__ import annotations
@@ -20,14 +25,19 @@ import datetime
 import enum
 import os
 import pathlib
+import threading
 from dataclasses import dataclass
-from typing import Callable, Union
+from types import TracebackType
+from typing import Callable, Optional, Type, Union
 
-__all__ = ["Acknowledgement", "Cause", "Check", "Kind", "Outcome", "RegisterError", "Stamp", "acknowledge", "audit", "check"]
+__all__ = [
+    "Acknowledgement", "Cause", "Check", "Kind", "Outcome", "RegisterError", "Registry", "Stamp", "StoppedError",
+    "acknowledge", "audit", "check",
+]
 
 Bytes = Union[bytes, bytearray, memoryview]
 
-_DONE, _NO_ROOM, _NO_MEMORY, _BAD_STAMP, _FAULTY, _NO_OUTCOME = range(6)
+_DONE, _NO_ROOM, _NO_MEMORY, _BAD_STAMP, _FAULTY, _NO_OUTCOME, _SHUT, _ALREADY_OPEN = range(8)
 
 
 class Kind(enum.IntEnum):
@@ -59,6 +69,15 @@ class RegisterError(ValueError):
         self.line = line
 
 
+class StoppedError(MemoryError):
+    """There was no memory to run a file to its end. `outcome` tells how many of its transactions were decided: these stay
+    in the registry, and there is no acknowledgement of them."""
+
+    def __init__(self, outcome: Outcome) -> None:
+        super().__init__(str(outcome))
+        self.outcome = outcome
+
+
 class _Stamp(ctypes.Structure):
     _fields_ = [
         ("society", ctypes.c_uint16),
@@ -81,6 +100,10 @@ class _Outcome(ctypes.Structure):
 
 class _RegisterFault(ctypes.Structure):
     _fields_ = [("number", ctypes.c_uint32), ("line", ctypes.c_uint64)]
+
+
+class _Registry(ctypes.Structure):
+    _fields_ = [("at", ctypes.c_void_p)]
 
 
 def _find() -> str:
@@ -108,8 +131,20 @@ def _load() -> ctypes.CDLL:
     library.purvilgo_acknowledge.argtypes = [*text, ctypes.POINTER(_Stamp), *room, outcome]
     library.purvilgo_audit.argtypes = [*text, ctypes.POINTER(ctypes.c_uint64), ctypes.POINTER(_RegisterFault)]
     library.purvilgo_outcome_line.argtypes = [*text, outcome, *room]
-    for call in ("check", "acknowledge", "audit", "outcome_line"):
+    handle = ctypes.POINTER(_Registry)
+    library.purvilgo_registry_open.argtypes = [handle]
+    library.purvilgo_registry_read.argtypes = [handle, *text, ctypes.POINTER(_RegisterFault)]
+    library.purvilgo_registry_run.argtypes = [handle, *text, ctypes.POINTER(_Stamp), outcome]
+    library.purvilgo_registry_acknowledgement.argtypes = [handle, *room]
+    library.purvilgo_registry_entries.argtypes = [handle, ctypes.POINTER(ctypes.c_uint64)]
+    library.purvilgo_registry_register.argtypes = [handle, *room]
+    library.purvilgo_registry_close.argtypes = [handle]
+    for call in (
+        "check", "acknowledge", "audit", "outcome_line", "registry_open", "registry_read", "registry_run",
+        "registry_acknowledgement", "registry_entries", "registry_register",
+    ):
         getattr(library, "purvilgo_" + call).restype = ctypes.c_uint32
+    library.purvilgo_registry_close.restype = None
     return library
 
 
@@ -124,6 +159,8 @@ def _answered(status: int) -> None:
         raise ValueError("not a stamp")
     if status == _NO_OUTCOME:
         raise ValueError("not an outcome")
+    if status == _SHUT:
+        raise ValueError("the registry is closed")
 
 
 def _told(size: int, call: Callable[..., int]) -> bytes:
@@ -255,3 +292,91 @@ def audit(register: Bytes) -> int:
     if status == _FAULTY:
         raise RegisterError(fault.number, fault.line)
     return entries.value
+
+
+class Registry:
+    """A registry of musical works, which goes on from file to file: `Registry()` is an empty one, `Registry.open(register)`
+    the one that a register tells.
+
+    It holds all that was decided, in memory, until `close`; as a context manager it closes itself. A call of one that is
+    closed is a `ValueError`. Threads may share it: their calls wait for one another.
+    """
+
+    def __init__(self) -> None:
+        self._lock = threading.Lock()
+        self._handle = _Registry()
+        _answered(_library.purvilgo_registry_open(ctypes.byref(self._handle)))
+
+    @classmethod
+    def open(cls, register: Bytes) -> Registry:
+        """The registry that a register tells, once each of its decisions is made anew; `RegisterError` where it is none."""
+        register = bytes(register)
+        opened = cls.__new__(cls)
+        opened._lock = threading.Lock()
+        opened._handle = _Registry()
+        fault = _RegisterFault()
+        status = _library.purvilgo_registry_read(
+            ctypes.byref(opened._handle), register, len(register), ctypes.byref(fault)
+        )
+        _answered(status)
+        if status == _FAULTY:
+            raise RegisterError(fault.number, fault.line)
+        return opened
+
+    def run(self, file: Bytes, stamp: Stamp) -> Acknowledgement:
+        """Runs one file: decides its transactions, in file order, after all that was decided before.
+
+        A file that is not well-formed is no error: the outcome tells its fault. `ValueError` for a stamp that is none,
+        `StoppedError` for want of memory, which is a `MemoryError`.
+        """
+        file = bytes(file)
+        who = stamp._bytes()
+        numbers = _Outcome()
+        with self._lock:
+            handle = ctypes.byref(self._handle)
+            _answered(
+                _library.purvilgo_registry_run(handle, file, len(file), ctypes.byref(who), ctypes.byref(numbers))
+            )
+            outcome = _outcome(numbers)
+            if outcome.cause in (Cause.MEMORY, Cause.WRITE):
+                raise StoppedError(outcome)
+            text = _told(0, lambda *room: _library.purvilgo_registry_acknowledgement(handle, *room))
+        return Acknowledgement(outcome, text)
+
+    @property
+    def entries(self) -> int:
+        """How many transactions were decided, those of the register that it was opened from among them."""
+        with self._lock:
+            return self._entries()
+
+    def _entries(self) -> int:
+        entries = ctypes.c_uint64()
+        _answered(_library.purvilgo_registry_entries(ctypes.byref(self._handle), ctypes.byref(entries)))
+        return entries.value
+
+    def register(self) -> bytes:
+        """The register: all that was decided, as `purvilgo run --to` writes it."""
+        with self._lock:
+            size = 12 + 192 * self._entries()
+            handle = ctypes.byref(self._handle)
+            return _told(size, lambda *room: _library.purvilgo_registry_register(handle, *room))
+
+    def close(self) -> None:
+        """Frees all that it holds. Nothing happens to one that is closed."""
+        with self._lock:
+            _library.purvilgo_registry_close(ctypes.byref(self._handle))
+
+    def __enter__(self) -> Registry:
+        return self
+
+    def __exit__(
+        self,
+        kind: Optional[Type[BaseException]],
+        error: Optional[BaseException],
+        trace: Optional[TracebackType],
+    ) -> None:
+        self.close()
+
+    def __del__(self) -> None:
+        if hasattr(self, "_handle"):
+            self.close()

@@ -1,0 +1,118 @@
+/* Carries a register on for a day: runs files, one after the other, against the registry that REGISTER tells, or against
+ * an empty one where there is no such file.
+ *
+ *     day REGISTER SOCIETY NAME YYYYMMDD HHMMSS FILE..
+ *
+ * Tells what became of each FILE as `purvilgo run` does, and writes REGISTER anew and FILE.ack of each that was
+ * acknowledged. The register takes its name first, so that nobody finds an answer that it does not know. The status is 0
+ * where all files were acknowledged and all was written, else 1. */
+#include "files.h"
+#include "purvilgo.h"
+#include "stamps.h"
+#include <unistd.h>
+
+/* A call that gives a text of a registry. */
+typedef uint32_t text_call(struct purvilgo_registry *, uint8_t *, size_t, size_t *);
+
+/* The text of a call, which is given a room of `size` bytes and, where that is too small, one that is not. `at` is null
+ * for want of memory. */
+static struct bytes text_of(struct purvilgo_registry *registry, text_call *call, size_t size) {
+    struct bytes text = {malloc(size + 1), 0};
+    uint32_t status = text.at ? call(registry, text.at, size, &text.length) : PURVILGO_NO_MEMORY;
+    if (status == PURVILGO_NO_ROOM) {
+        free(text.at);
+        size = text.length;
+        text.at = malloc(size);
+        status = text.at ? call(registry, text.at, size, &text.length) : PURVILGO_NO_MEMORY;
+    }
+    if (status != PURVILGO_DONE) {
+        free(text.at);
+        text.at = NULL;
+    }
+    return text;
+}
+
+/* Writes a text as a draft, PATH with `ending` and ".new", and frees it. 0 where all of it is written. */
+static int draft(const char *path, const char *ending, struct bytes text) {
+    char name[4096];
+    int written = -1;
+    snprintf(name, sizeof name, "%s%s.new", path, ending);
+    if (text.at)
+        written = write_file(name, text.at, text.length);
+    free(text.at);
+    return written;
+}
+
+/* Gives a draft its name. */
+static int take_name(const char *path, const char *ending) {
+    char before[4096], after[4096];
+    snprintf(before, sizeof before, "%s%s.new", path, ending);
+    snprintf(after, sizeof after, "%s%s", path, ending);
+    return rename(before, after);
+}
+
+/* Opens the registry of a register, or an empty one where there is no register. */
+static int open_registry(struct purvilgo_registry *registry, const char *path) {
+    struct purvilgo_register_fault fault;
+    struct bytes text;
+    uint32_t status = PURVILGO_NO_MEMORY;
+    if (access(path, F_OK) != 0)
+        return purvilgo_registry_open(registry) == PURVILGO_DONE ? 0 : -1;
+    text = read_file(path);
+    if (text.at)
+        status = purvilgo_registry_read(registry, text.at, text.length, &fault);
+    if (status == PURVILGO_FAULTY)
+        fprintf(stderr, "%s: refused G%u at line %llu\n", path, fault.number, (unsigned long long)fault.line);
+    free(text.at);
+    return status == PURVILGO_DONE ? 0 : -1;
+}
+
+/* Runs one file, and leaves its acknowledgement as a draft. 0 where it was acknowledged. */
+static int run(struct purvilgo_registry *registry, const char *path, const struct purvilgo_stamp *stamp) {
+    struct purvilgo_outcome outcome;
+    struct bytes file = read_file(path);
+    uint32_t status = PURVILGO_NO_MEMORY;
+    if (file.at)
+        status = purvilgo_registry_run(registry, file.at, file.length, stamp, &outcome);
+    free(file.at);
+    if (status != PURVILGO_DONE)
+        return -1;
+    tell(path, &outcome);
+    if (outcome.kind != PURVILGO_ACKNOWLEDGED)
+        return -1;
+    return draft(path, ".ack", text_of(registry, purvilgo_registry_acknowledgement, 4096));
+}
+
+/* Runs all files, and keeps the register and then the acknowledgements. */
+static int day(struct purvilgo_registry *registry, const char *kept, const struct purvilgo_stamp *stamp, char **files,
+               int count) {
+    uint64_t entries = 0;
+    int worst = 0;
+    for (int i = 0; i < count; i++) {
+        if (run(registry, files[i], stamp) != 0) {
+            files[i] = NULL;
+            worst = 1;
+        }
+    }
+    purvilgo_registry_entries(registry, &entries);
+    if (draft(kept, "", text_of(registry, purvilgo_registry_register, 12 + 192 * entries)) != 0 || take_name(kept, "") != 0)
+        return 1;
+    for (int i = 0; i < count; i++)
+        if (files[i] && take_name(files[i], ".ack") != 0)
+            worst = 1;
+    return worst;
+}
+
+int main(int argc, char **argv) {
+    struct purvilgo_registry registry = PURVILGO_REGISTRY_SHUT;
+    struct purvilgo_stamp stamp;
+    int told = 1;
+    if (argc < 7 || set_stamp(&stamp, argv + 2) != 0) {
+        fprintf(stderr, "day REGISTER SOCIETY NAME YYYYMMDD HHMMSS FILE..\n");
+        return 2;
+    }
+    if (open_registry(&registry, argv[1]) == 0)
+        told = day(&registry, argv[1], &stamp, argv + 6, argc - 6);
+    purvilgo_registry_close(&registry);
+    return told;
+}
