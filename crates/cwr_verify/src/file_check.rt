@@ -40,30 +40,33 @@ pub(crate) fn check_file<A: Allocator + Copy + Drop>(
     };
     let past = Past::of(book, owners, number);
     let (outcome, is_over) = work_again(alloc, past, file.text, &mut writer, &stamp);
-    match outcome {
-        FileOutcome::Acked { transactions: _ } => {
-            if is_over && are_same_bytes(writer.bytes(), file.acknowledgement) {
-                Ok(())
-            } else {
-                Err(other_line(number, writer.bytes(), file.acknowledgement))
-            }
+    if let FileOutcome::Acked { transactions: _ } = outcome {
+        if is_over && are_same_bytes(writer.bytes(), file.acknowledgement) {
+            return Ok(());
         }
+    }
+    Err(unanswered(alloc, number, file, outcome, writer.bytes()))
+}
+
+/// Why a file is not verified whose work ended so, having written these bytes.
+fn unanswered<A: Allocator + Copy>(
+    alloc: A,
+    number: usize,
+    file: &SentFile,
+    outcome: FileOutcome,
+    written: &[u8],
+) -> Unverified {
+    match outcome {
+        FileOutcome::Acked { transactions: _ } => other_line(number, written, file.acknowledgement),
         FileOutcome::Refused {
             number: fault,
             line,
-        } => Err(Unverified::Refused {
+        } => Unverified::Refused {
             file: number,
             number: fault,
             line,
-        }),
-        FileOutcome::Stopped { handed, why } => Err(stopped(
-            alloc,
-            number,
-            file,
-            handed,
-            why,
-            writer.bytes(),
-        )),
+        },
+        FileOutcome::Stopped { handed, why } => stopped(alloc, number, file, handed, why, written),
     }
 }
 

@@ -64,16 +64,8 @@ fn expect_each<'a>(
         (first, answer, missing(0)),
         (second, answer, missing(0)),
         (works, &whole[..FIRST_ANSWER_END], missing(1)),
-        (
-            works,
-            trailer,
-            Unverified::Acknowledgement { file: 1, line: 7 },
-        ),
-        (
-            works,
-            &whole[..0],
-            Unverified::Acknowledgement { file: 1, line: 1 },
-        ),
+        (works, trailer, other_line(7)),
+        (works, &whole[..0], other_line(1)),
         (
             refused,
             answer,
@@ -90,6 +82,11 @@ fn expect_each<'a>(
         same("why", &told, &Some(why))?;
     }
     Ok(())
+}
+
+/// This line of the second file's acknowledgement is another.
+fn other_line(line: usize) -> Unverified {
+    Unverified::Acknowledgement { file: 1, line }
 }
 
 /// The transaction of this sequence of the second file has no entry.

@@ -5,6 +5,7 @@ ghost use Rattle.work_registry.specs.Register.{register_text};
 ghost use Rattle.work_registry.specs.RegisterFaults.{IsRefusal};
 ghost use Rattle.work_registry.specs.Replay.{is_opening};
 ghost use Rattle.work_registry.specs.declared.register.refusal.RegisterRefusal.{RegisterRefusal};
+ghost use Rattle.work_registry.specs.declared.register.refusal.RegisterRefusal.TheVariants.{Memory as refused};
 ghost use Rattle.kept_register.specs.declared.reading.NoBook.{NoBook};
 
 use byte_streams::{ReadRefused, Source, read_file};
@@ -52,6 +53,7 @@ pub fn read_book<S: Source, A: Allocator + Copy + Drop>(
     ensures lawful { IfOk result (λ book. IsHistory book.history) }
     ensures opening { IfOk result (λ book. IsTrue (is_opening book.history)) }
     ensures limit { IfOk result (λ book. book.limit ≡ most_entries) }
+    ensures want { IsErrOf result (NoBook.Refused refused) → ⊥ }
     ensures fault { (r : RegisterRefusal) → IsErrOf result (NoBook.Refused r) → IfSome (S.left reader.old) (λ bytes. IsRefusal most_entries bytes r) }
     ensures too_long { IsErrOf result NoBook.TooLong → IfSome (S.left reader.old) (λ bytes. 68719476736 < length bytes) }
     ensures failed { IsErrOf result NoBook.Read → S.has_failed reader.new ≡ true }
