@@ -1,76 +1,60 @@
 //! The program's commands, over a runtime of the tests' own.
 
-use cwr_sheets::{file_of_lines, one_answer, one_writer, plain_file};
-use program_runs::{Fake, FakeFile, expect_program};
+use program_runs::{Fake, Given, Step, Text, expect_play, expect_program};
 use std::process::ExitCode;
 use std::test::Fail;
 
 #[test]
 fn runs_on_standard_input(rt: HostRuntime) -> Result<(), Fail> {
-    let alloc = rt.alloc();
-    let input = plain_file(alloc)?;
-    let wanted = one_answer(alloc, "AS")?;
-    let cases: [(&[&str], &[u8], ExitCode, &[u8], &str); 3] = [
-        (&["purvilgo"], &input, ExitCode::SUCCESS, &wanted, ""),
-        (
-            &["purvilgo"],
-            b"",
-            ExitCode::FAILURE,
-            b"",
-            "-: refused F1 at line 1\n",
-        ),
-        (
-            &["purvilgo", "a.v22"],
-            &input,
-            ExitCode::from(2),
-            b"",
-            "error: unrecognized subcommand 'a.v22'\n\nUsage: purvilgo [COMMAND]\n\nFor more information, try '--help'.\n",
-        ),
-    ];
-    for (words, input, status, printed, complained) in cases {
-        let fake = Fake::new(&rt, words, input);
-        expect_program(fake, status, printed, complained)?;
-    }
-    Ok(())
+    expect_play(
+        &rt,
+        &[],
+        &[],
+        &[
+            Step::of(&[]).reads(Text::Plain).gives(Text::Answer("AS")),
+            Step::of(&[]).ends(1).complains("-: refused F1 at line 1\n"),
+            Step::of(&["a.v22"]).reads(Text::Plain).ends(2).complains(
+                "error: unrecognized subcommand 'a.v22'\n\nUsage: purvilgo [COMMAND]\n\nFor more information, try '--help'.\n",
+            ),
+        ],
+    )
 }
 
 #[test]
 fn checks_a_file(rt: HostRuntime) -> Result<(), Fail> {
-    let alloc = rt.alloc();
-    let clean = plain_file(alloc)?;
-    let faulty = one_writer(alloc, ["10001", "10000", "10000"])?;
-    let refused = file_of_lines(alloc, &["TRL000000000000000000003"])?;
-    let files = [
-        ("clean", FakeFile::Holds(&clean)),
-        ("faulty", FakeFile::Holds(&faulty)),
-        ("refused", FakeFile::Holds(&refused)),
-        ("endless", FakeFile::Endless),
-        ("broken", FakeFile::Broken),
-    ];
-    let cases: [(&str, ExitCode, &str, &str); 6] = [
-        (
-            "clean",
-            ExitCode::SUCCESS,
-            "00001 00000000 NWR ok\n1 transactions, 0 with faults\n",
-            "",
-        ),
-        (
-            "faulty",
-            ExitCode::FAILURE,
-            "00001 00000000 NWR rejected 1:J6\n1 transactions, 1 with faults\n",
-            "",
-        ),
-        ("refused", ExitCode::FAILURE, "refused F10 at line 2\n", ""),
-        ("endless", ExitCode::FAILURE, "", "stopped: too long\n"),
-        ("broken", ExitCode::FAILURE, "", "stopped: read\n"),
-        ("absent", ExitCode::FAILURE, "", "stopped: read\n"),
-    ];
-    for (name, status, printed, complained) in cases {
-        let words = ["purvilgo", "check", name];
-        let fake = Fake::new(&rt, &words, b"").with_files(&files, &[]);
-        expect_program(fake, status, printed.as_bytes(), complained)?;
-    }
-    Ok(())
+    let faulty = Text::Writer("10001", "10000", "10000");
+    let refused = Text::Lines(&["TRL000000000000000000003"]);
+    expect_play(
+        &rt,
+        &[
+            ("clean", Given::Holds(Text::Plain)),
+            ("faulty", Given::Holds(faulty)),
+            ("refused", Given::Holds(refused)),
+            ("endless", Given::Endless),
+            ("broken", Given::Broken),
+        ],
+        &[],
+        &[
+            Step::of(&["check", "clean"]).prints(
+                "00001 00000000 NWR ok\n1 transactions, 0 with faults\n",
+            ),
+            Step::of(&["check", "faulty"]).ends(1).prints(
+                "00001 00000000 NWR rejected 1:J6\n1 transactions, 1 with faults\n",
+            ),
+            Step::of(&["check", "refused"])
+                .ends(1)
+                .prints("refused F10 at line 2\n"),
+            Step::of(&["check", "endless"])
+                .ends(1)
+                .complains("stopped: too long\n"),
+            Step::of(&["check", "broken"])
+                .ends(1)
+                .complains("stopped: read\n"),
+            Step::of(&["check", "absent"])
+                .ends(1)
+                .complains("stopped: read\n"),
+        ],
+    )
 }
 
 #[test]

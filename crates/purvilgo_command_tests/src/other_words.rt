@@ -1,7 +1,6 @@
 //! The version, and standard input by its name.
 
-use cwr_sheets::{one_writer, plain_file};
-use program_runs::{Fake, FakeFile, expect_program};
+use program_runs::{Fake, Given, Step, Text, expect_play, expect_program};
 use std::process::ExitCode;
 use std::test::Fail;
 
@@ -18,31 +17,27 @@ fn tells_its_version(rt: HostRuntime) -> Result<(), Fail> {
 /// A file of the name `-` is there, and is not read.
 #[test]
 fn reads_standard_input_by_its_name(rt: HostRuntime) -> Result<(), Fail> {
-    let alloc = rt.alloc();
-    let clean = plain_file(alloc)?;
-    let faulty = one_writer(alloc, ["10001", "10000", "10000"])?;
-    let files = [("-", FakeFile::Broken), ("./-", FakeFile::Holds(&clean))];
+    let faulty = Text::Writer("10001", "10000", "10000");
     let ok = "00001 00000000 NWR ok\n1 transactions, 0 with faults\n";
-    let done = ExitCode::SUCCESS;
-    let failed = ExitCode::FAILURE;
-    let cases: [(&str, &str, &[u8], ExitCode, &str); 6] = [
-        ("check", "-", &clean, done, ok),
-        (
-            "check",
-            "-",
-            &faulty,
-            failed,
-            "00001 00000000 NWR rejected 1:J6\n1 transactions, 1 with faults\n",
-        ),
-        ("check", "-", b"", failed, "refused F1 at line 1\n"),
-        ("check", "./-", b"", done, ok),
-        ("audit", "-", b"REG00000000\n", done, "0 entries\n"),
-        ("audit", "-", b"", failed, "refused G2 at line 1\n"),
-    ];
-    for (command, name, input, status, printed) in cases {
-        let words = ["purvilgo", command, name];
-        let fake = Fake::new(&rt, &words, input).with_files(&files, &[]);
-        expect_program(fake, status, printed.as_bytes(), "")?;
-    }
-    Ok(())
+    expect_play(
+        &rt,
+        &[("-", Given::Broken), ("./-", Given::Holds(Text::Plain))],
+        &[],
+        &[
+            Step::of(&["check", "-"]).reads(Text::Plain).prints(ok),
+            Step::of(&["check", "-"]).reads(faulty).ends(1).prints(
+                "00001 00000000 NWR rejected 1:J6\n1 transactions, 1 with faults\n",
+            ),
+            Step::of(&["check", "-"])
+                .ends(1)
+                .prints("refused F1 at line 1\n"),
+            Step::of(&["check", "./-"]).prints(ok),
+            Step::of(&["audit", "-"])
+                .reads(Text::Bytes(b"REG00000000\n"))
+                .prints("0 entries\n"),
+            Step::of(&["audit", "-"])
+                .ends(1)
+                .prints("refused G2 at line 1\n"),
+        ],
+    )
 }

@@ -1,7 +1,10 @@
 //! Runs that write over no acknowledgement, and runs in turn.
 
-use cwr_sheets::{one_answer, plain_file, rival_claims};
-use program_runs::{Fake, FakeFile, expect, expect_held, expect_program, keeping, run_with};
+use cwr_sheets::plain_file;
+use program_runs::{
+    Fake, FakeFile, Given, Kept, Step, Text, expect_held, expect_play, expect_program, keeping,
+    run_with,
+};
 use std::fs;
 use std::fs::Metadata;
 use std::process::ExitCode;
@@ -49,77 +52,63 @@ fn leaves_acknowledgements_that_are_there(rt: HostRuntime) -> Result<(), Fail> {
     expect_held(&kept[2], b"older")
 }
 
+const ACKNOWLEDGED: &str = "a: acknowledged 1\n";
+
 #[test]
 fn makes_acknowledgements_that_are_not_there(rt: HostRuntime) -> Result<(), Fail> {
-    let alloc = rt.alloc();
-    let input = plain_file(alloc)?;
-    let files = [("a", FakeFile::Holds(&input))];
-    let kept = [keeping(alloc, "a.ack", b"", 1000)?];
-    let words = run_with(alloc, &["--no-clobber", "a"])?;
-    let done = ExitCode::SUCCESS;
-    expect(&rt, &words, &files, &kept, done, "a: acknowledged 1\n", "")?;
-    expect_held(&kept[0], &one_answer(alloc, "AS")?)
+    expect_play(
+        &rt,
+        &[("a", Given::Holds(Text::Plain))],
+        &[Kept::new("a.ack", Text::Bytes(b""))],
+        &[
+            Step::run(&["--no-clobber", "a"])
+                .prints(ACKNOWLEDGED)
+                .leaves(&[("a.ack", Text::Answer("AS"))]),
+        ],
+    )
 }
 
 /// The acknowledgement was not there when the run began, and is when it is to be written.
 #[test]
 fn leaves_an_acknowledgement_that_came_in_between(rt: HostRuntime) -> Result<(), Fail> {
-    let alloc = rt.alloc();
-    let input = plain_file(alloc)?;
-    let files = [("a", FakeFile::Holds(&input))];
-    let kept = [keeping(alloc, "a.ack", b"older", 1000)?];
-    let words = run_with(alloc, &["--no-clobber", "a"])?;
-    let told = "a: stopped after 1: write after 0 bytes\n";
-    expect(&rt, &words, &files, &kept, ExitCode::FAILURE, told, "")?;
-    expect_held(&kept[0], b"older")
+    let older = Text::Bytes(b"older");
+    expect_play(
+        &rt,
+        &[("a", Given::Holds(Text::Plain))],
+        &[Kept::new("a.ack", older)],
+        &[
+            Step::run(&["--no-clobber", "a"])
+                .ends(1)
+                .prints("a: stopped after 1: write after 0 bytes\n")
+                .leaves(&[("a.ack", older)]),
+        ],
+    )
 }
 
 /// Of two claims to one work that of the file named first is accepted, each time.
 #[test]
 fn runs_files_in_turn(rt: HostRuntime) -> Result<(), Fail> {
-    let alloc = rt.alloc();
-    let claims = rival_claims(alloc)?;
-    let [first, second] = &claims;
-    let files = [
-        ("a", FakeFile::Holds(first)),
-        ("b", FakeFile::Holds(second)),
-    ];
-    let accepted = one_answer(alloc, "AS")?;
-    let conflict = one_answer(alloc, "CO")?;
-    let cases: [(&[&str], &str, &[u8], &[u8]); 3] = [
-        (
-            &["--in-turn", "a", "b"],
-            "a: acknowledged 1\nb: acknowledged 1\n",
-            &accepted,
-            &conflict,
-        ),
-        (
-            &["--in-turn", "b", "a"],
-            "b: acknowledged 1\na: acknowledged 1\n",
-            &conflict,
-            &accepted,
-        ),
-        (
-            &["b", "--in-turn", "absent", "a"],
-            "b: acknowledged 1\nabsent: stopped after 0: read\na: acknowledged 1\n",
-            &conflict,
-            &accepted,
-        ),
-    ];
-    for (more, told, of_a, of_b) in cases {
-        let kept = [
-            keeping(alloc, "a.ack", b"older", 1000)?,
-            keeping(alloc, "b.ack", b"older", 1000)?,
-        ];
-        let words = run_with(alloc, more)?;
-        let status = if more.len() == 3 {
-            ExitCode::SUCCESS
-        } else {
-            ExitCode::FAILURE
-        };
-        expect(&rt, &words, &files, &kept, status, told, "")?;
-        expect_held(&kept[0], of_a)?;
-        expect_held(&kept[1], of_b)?;
-    }
-    Ok(())
+    let older = Text::Bytes(b"older");
+    let accepted = Text::Answer("AS");
+    let conflict = Text::Answer("CO");
+    expect_play(
+        &rt,
+        &[
+            ("a", Given::Holds(Text::FirstClaim)),
+            ("b", Given::Holds(Text::SecondClaim)),
+        ],
+        &[Kept::new("a.ack", older), Kept::new("b.ack", older)],
+        &[
+            Step::run(&["--in-turn", "a", "b"])
+                .prints("a: acknowledged 1\nb: acknowledged 1\n")
+                .leaves(&[("a.ack", accepted), ("b.ack", conflict)]),
+            Step::run(&["--in-turn", "b", "a"])
+                .prints("b: acknowledged 1\na: acknowledged 1\n")
+                .leaves(&[("a.ack", conflict), ("b.ack", accepted)]),
+            Step::run(&["b", "--in-turn", "absent", "a"])
+                .ends(1)
+                .prints("b: acknowledged 1\nabsent: stopped after 0: read\na: acknowledged 1\n")
+                .leaves(&[("a.ack", conflict), ("b.ack", accepted)]),
+        ],
+    )
 }

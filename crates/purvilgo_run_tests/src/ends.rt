@@ -1,9 +1,9 @@
 //! Which of several files fails, and what becomes of the others.
 
-use cwr_sheets::{
-    OTHER_SENDER, SENDER, acknowledgement, decision, miscounted, one_work, plain_file, same,
+use cwr_sheets::{OTHER_SENDER, SENDER, acknowledgement, decision, miscounted, one_work, same};
+use program_runs::{
+    FakeFile, Given, Kept, Step, Text, expect, expect_held, expect_play, keeping, run_with,
 };
-use program_runs::{FakeFile, expect, expect_held, keeping, run_with};
 use std::alloc::Global;
 use std::process::ExitCode;
 use std::sync::Wait;
@@ -87,21 +87,19 @@ fn tells_which_of_three_files_fails(rt: HostRuntime) -> Result<(), Fail> {
 /// A second read would find the rest of the file.
 #[test]
 fn reads_no_more_of_a_file_that_fails(rt: HostRuntime) -> Result<(), Fail> {
-    let alloc = rt.alloc();
-    let text = plain_file(alloc)?;
-    let (first, rest) = text.split_at_checked(100).ok_or("100 bytes")?;
-    let breaks = FakeFile::Breaks {
-        first,
-        rest,
-        broken: false,
-    };
-    let files = [("a", breaks)];
-    let kept = [keeping(alloc, "a.ack", b"", 1000)?];
-    let failed = ExitCode::FAILURE;
-    let check = ["purvilgo", "check", "a"];
-    expect(&rt, &check, &files, &kept, failed, "", "stopped: read\n")?;
-    let words = run_with(alloc, &["a"])?;
-    let told = "a: stopped after 0: read\n";
-    expect(&rt, &words, &files, &kept, failed, told, "")?;
-    expect_held(&kept[0], b"")
+    let empty = Text::Bytes(b"");
+    expect_play(
+        &rt,
+        &[("a", Given::Breaks(Text::Plain))],
+        &[Kept::new("a.ack", empty)],
+        &[
+            Step::of(&["check", "a"])
+                .ends(1)
+                .complains("stopped: read\n"),
+            Step::run(&["a"])
+                .ends(1)
+                .prints("a: stopped after 0: read\n")
+                .leaves(&[("a.ack", empty)]),
+        ],
+    )
 }

@@ -1,9 +1,8 @@
 //! Registers and acknowledgements that are replaced whole: what is there when a call of the system is refused.
 
-use crate::kept_registers::register;
 use cwr_sheets::{one_answer, plain_file, same, same_text};
 use program_runs::{
-    Calls, Disk, Fake, FakeFile, KeptFile, expect_held, expect_program, keeping, run_with,
+    Calls, Disk, Fake, FakeFile, KeptFile, expect_held, expect_program, keeping, register, run_with,
 };
 use std::alloc::Global;
 use std::fs;

@@ -1,7 +1,10 @@
 //! The program's runs, over a runtime of the tests' own.
 
-use cwr_sheets::{miscounted, one_answer, plain_file, rival_claims, same};
-use program_runs::{FakeFile, KeptFile, expect, expect_held, keeping, run_with};
+use cwr_sheets::{miscounted, one_answer, plain_file, rival_claims};
+use program_runs::{
+    FakeFile, Given, Kept, KeptFile, Step, Text, expect, expect_held, expect_play, keeping,
+    run_with,
+};
 use std::alloc::Global;
 use std::process::ExitCode;
 use std::sync::Wait;
@@ -14,18 +17,24 @@ fn text_in(alloc: Global, file: &KeptFile) -> Result<Vec<u8>, Fail> {
     Ok(Vec::from_slice(alloc, held.as_slice())?)
 }
 
+/// The acknowledgement has 425 bytes, and all of them go out.
 #[test]
 fn acknowledges_a_file_beside_it(rt: HostRuntime) -> Result<(), Fail> {
-    let alloc = rt.alloc();
-    let input = plain_file(alloc)?;
-    let wanted = one_answer(alloc, "AS")?;
-    same("its length", &wanted.len(), &425)?;
-    let kept = [keeping(alloc, "a.v22.ack", b"an older acknowledgement", 425)?];
-    let files = [("a.v22", FakeFile::Holds(&input))];
-    let words = run_with(alloc, &["a.v22"])?;
-    let told = "a.v22: acknowledged 1\n";
-    expect(&rt, &words, &files, &kept, ExitCode::SUCCESS, told, "")?;
-    expect_held(&kept[0], &wanted)
+    let beside = Kept {
+        name: "a.v22.ack",
+        held: Text::Bytes(b"an older acknowledgement"),
+        room: 425,
+    };
+    expect_play(
+        &rt,
+        &[("a.v22", Given::Holds(Text::Plain))],
+        &[beside],
+        &[
+            Step::run(&["a.v22"])
+                .prints("a.v22: acknowledged 1\n")
+                .leaves(&[("a.v22.ack", Text::Answer("AS"))]),
+        ],
+    )
 }
 
 /// Runs the files `b` and `a` at once: both must be acknowledged.
@@ -138,6 +147,7 @@ fn takes_63_files_and_no_more(rt: HostRuntime) -> Result<(), Fail> {
     run_absent(&rt, &names, ExitCode::from(2), "", "too many files\n")
 }
 
+/// One word of a run is another, and nothing is read.
 #[test]
 fn refuses_wrong_words(rt: HostRuntime) -> Result<(), Fail> {
     let alloc = rt.alloc();
@@ -159,22 +169,33 @@ fn refuses_wrong_words(rt: HostRuntime) -> Result<(), Fail> {
     Ok(())
 }
 
+const NO_WORDS: &str =
+    "error: the following required arguments were not provided:\n  --society <NNN>\n  --name <TEXT>\n  --date <YYYYMMDD>\n  --time <HHMMSS>\n  <FILE>...\n\nUsage: purvilgo run --society <NNN> --name <TEXT> --date <YYYYMMDD> --time <HHMMSS> <FILE>...\n\nFor more information, try '--help'.\n";
+
+const NO_FILE: &str =
+    "error: the following required arguments were not provided:\n  <FILE>...\n\nUsage: purvilgo run --society <NNN> --name <TEXT> --date <YYYYMMDD> --time <HHMMSS> <FILE>...\n\nFor more information, try '--help'.\n";
+
+const FROM_TWICE: &str =
+    "error: the argument '--from <REGISTER>' cannot be used multiple times\n\nUsage: purvilgo run [OPTIONS] --society <NNN> --name <TEXT> --date <YYYYMMDD> --time <HHMMSS> <FILE>...\n\nFor more information, try '--help'.\n";
+
+const TO_TWICE: &str =
+    "error: the argument '--to <REGISTER>' cannot be used multiple times\n\nUsage: purvilgo run [OPTIONS] --society <NNN> --name <TEXT> --date <YYYYMMDD> --time <HHMMSS> <FILE>...\n\nFor more information, try '--help'.\n";
+
 #[test]
 fn tells_how_a_run_is_called(rt: HostRuntime) -> Result<(), Fail> {
-    let alloc = rt.alloc();
-    let status = ExitCode::from(2);
-    let none =
-        "error: the following required arguments were not provided:\n  --society <NNN>\n  --name <TEXT>\n  --date <YYYYMMDD>\n  --time <HHMMSS>\n  <FILE>...\n\nUsage: purvilgo run --society <NNN> --name <TEXT> --date <YYYYMMDD> --time <HHMMSS> <FILE>...\n\nFor more information, try '--help'.\n";
-    expect(&rt, &["purvilgo", "run"], &[], &[], status, "", none)?;
-    let no_file =
-        "error: the following required arguments were not provided:\n  <FILE>...\n\nUsage: purvilgo run --society <NNN> --name <TEXT> --date <YYYYMMDD> --time <HHMMSS> <FILE>...\n\nFor more information, try '--help'.\n";
-    expect(&rt, &run_with(alloc, &[])?, &[], &[], status, "", no_file)?;
-    for option in ["--from", "--to"] {
-        let words = run_with(alloc, &[option, "x", option, "y", "a"])?;
-        let twice = format!(in alloc;
-            "error: the argument '{option} <REGISTER>' cannot be used multiple times\n\nUsage: purvilgo run [OPTIONS] --society <NNN> --name <TEXT> --date <YYYYMMDD> --time <HHMMSS> <FILE>...\n\nFor more information, try '--help'.\n"
-        )?;
-        expect(&rt, &words, &[], &[], status, "", &twice)?;
-    }
-    Ok(())
+    expect_play(
+        &rt,
+        &[],
+        &[],
+        &[
+            Step::of(&["run"]).ends(2).complains(NO_WORDS),
+            Step::run(&[]).ends(2).complains(NO_FILE),
+            Step::run(&["--from", "x", "--from", "y", "a"])
+                .ends(2)
+                .complains(FROM_TWICE),
+            Step::run(&["--to", "x", "--to", "y", "a"])
+                .ends(2)
+                .complains(TO_TWICE),
+        ],
+    )
 }

@@ -1,0 +1,108 @@
+//! Commands, with what must become of them.
+
+use crate::runs::run_with;
+use crate::text::Text;
+use std::alloc::Global;
+use std::test::Fail;
+
+/// A command, how it ends, what it prints and complains of, and what files hold then.
+#[derive(Clone, Copy)]
+pub struct Step<'a> {
+    words: &'a [&'a str],
+    /// Whether the words stand behind those of a run with the stamp of all acknowledgements.
+    is_run: bool,
+    pub(crate) input: Text<'a>,
+    pub(crate) status: u8,
+    pub(crate) printed: Text<'a>,
+    pub(crate) complained: &'a str,
+    pub(crate) held: &'a [(&'a str, Text<'a>)],
+}
+
+impl<'a> Step<'a> {
+    /// The command of these words behind `purvilgo`. It finds no standard input, and must end with status 0, print nothing and
+    /// complain of nothing.
+    pub fn of(words: &'a [&'a str]) -> Step<'a> {
+        Step {
+            words,
+            is_run: false,
+            input: Text::Bytes(b""),
+            status: 0,
+            printed: Text::Bytes(b""),
+            complained: "",
+            held: &[],
+        }
+    }
+
+    /// A run with these words behind the stamp's.
+    pub fn run(more: &'a [&'a str]) -> Step<'a> {
+        let mut step = Step::of(more);
+        step.is_run = true;
+        step
+    }
+
+    /// The same with this standard input.
+    pub fn reads(self, input: Text<'a>) -> Step<'a> {
+        let mut step = self;
+        step.input = input;
+        step
+    }
+
+    /// The same, which must end with this status.
+    pub fn ends(self, status: u8) -> Step<'a> {
+        let mut step = self;
+        step.status = status;
+        step
+    }
+
+    /// The same, which must print this.
+    pub fn prints(self, text: &'a str) -> Step<'a> {
+        self.gives(Text::Bytes(text.as_bytes()))
+    }
+
+    /// The same, which must print this text.
+    pub fn gives(self, text: Text<'a>) -> Step<'a> {
+        let mut step = self;
+        step.printed = text;
+        step
+    }
+
+    /// The same, which must complain of this.
+    pub fn complains(self, text: &'a str) -> Step<'a> {
+        let mut step = self;
+        step.complained = text;
+        step
+    }
+
+    /// The same, after which these files must hold these texts.
+    pub fn leaves(self, held: &'a [(&'a str, Text<'a>)]) -> Step<'a> {
+        let Step {
+            words,
+            is_run,
+            input,
+            status,
+            printed,
+            complained,
+            held: _,
+        } = self;
+        Step {
+            words,
+            is_run,
+            input,
+            status,
+            printed,
+            complained,
+            held,
+        }
+    }
+
+    /// The whole command line.
+    pub(crate) fn line(&self, alloc: Global) -> Result<Vec<&'a str>, Fail> {
+        if self.is_run {
+            return run_with(alloc, self.words);
+        }
+        let mut line = Vec::new(alloc);
+        line.push("purvilgo")?;
+        line.extend_from_slice(self.words)?;
+        Ok(line)
+    }
+}
