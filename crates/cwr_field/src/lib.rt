@@ -13,8 +13,6 @@ mod day;
 mod field;
 mod memory;
 mod number;
-#[cfg(test)]
-mod tests;
 mod text;
 mod work_code;
 

@@ -2,6 +2,7 @@
 
 use crate::lines::{clock, day, line, text};
 use cwr_record::{Ack, Message, Prefix, read_ack, read_message, write_ack, write_message};
+use cwr_sheets::{same, same_bytes};
 use std::test::Fail;
 
 #[test]
@@ -34,9 +35,8 @@ fn acknowledgement(rt: HostRuntime) -> Result<(), Fail> {
     };
     let mut out = Vec::new(rt.alloc());
     write_ack(&mut out, &ack)?;
-    assert_eq!(rt; out.as_slice(), vector.as_slice());
-    assert_eq!(rt; read_ack(&vector), Ok(ack));
-    Ok(())
+    same_bytes("the line", &out, &vector)?;
+    same("the ack that is read", &read_ack(&vector), &Ok(ack))
 }
 
 #[test]
@@ -62,7 +62,10 @@ fn message(rt: HostRuntime) -> Result<(), Fail> {
     };
     let mut out = Vec::new(rt.alloc());
     write_message(&mut out, &message)?;
-    assert_eq!(rt; out.as_slice(), vector.as_slice());
-    assert_eq!(rt; read_message(&vector), Ok(message));
-    Ok(())
+    same_bytes("the line", &out, &vector)?;
+    same(
+        "the message that is read",
+        &read_message(&vector),
+        &Ok(message),
+    )
 }

@@ -6,6 +6,7 @@ use cwr_record::{
     read_group_trailer, read_header, write_file_trailer, write_group_head, write_group_trailer,
     write_header,
 };
+use cwr_sheets::{same, same_bytes};
 use std::test::Fail;
 
 #[test]
@@ -29,9 +30,12 @@ fn file_header(rt: HostRuntime) -> Result<(), Fail> {
     };
     let mut out = Vec::new(rt.alloc());
     write_header(&mut out, &header)?;
-    assert_eq!(rt; out.as_slice(), vector.as_slice());
-    assert_eq!(rt; read_header(&vector), Ok(header));
-    Ok(())
+    same_bytes("the line", &out, &vector)?;
+    same(
+        "the header that is read",
+        &read_header(&vector),
+        &Ok(header),
+    )
 }
 
 #[test]
@@ -46,9 +50,12 @@ fn group_header(rt: HostRuntime) -> Result<(), Fail> {
     };
     let mut out = Vec::new(rt.alloc());
     write_group_head(&mut out, &head)?;
-    assert_eq!(rt; out.as_slice(), vector.as_slice());
-    assert_eq!(rt; read_group_head(&vector), Ok(head));
-    Ok(())
+    same_bytes("the line", &out, &vector)?;
+    same(
+        "the group head that is read",
+        &read_group_head(&vector),
+        &Ok(head),
+    )
 }
 
 #[test]
@@ -61,9 +68,12 @@ fn group_end(rt: HostRuntime) -> Result<(), Fail> {
     };
     let mut out = Vec::new(rt.alloc());
     write_group_trailer(&mut out, &trailer)?;
-    assert_eq!(rt; out.as_slice(), vector.as_slice());
-    assert_eq!(rt; read_group_trailer(&vector), Ok(trailer));
-    Ok(())
+    same_bytes("the line", &out, &vector)?;
+    same(
+        "the group trailer that is read",
+        &read_group_trailer(&vector),
+        &Ok(trailer),
+    )
 }
 
 #[test]
@@ -76,7 +86,10 @@ fn file_end(rt: HostRuntime) -> Result<(), Fail> {
     };
     let mut out = Vec::new(rt.alloc());
     write_file_trailer(&mut out, &trailer)?;
-    assert_eq!(rt; out.as_slice(), vector.as_slice());
-    assert_eq!(rt; read_file_trailer(vector), Ok(trailer));
-    Ok(())
+    same_bytes("the line", &out, vector)?;
+    same(
+        "the file trailer that is read",
+        &read_file_trailer(vector),
+        &Ok(trailer),
+    )
 }

@@ -6,6 +6,7 @@ use cwr_record::{
     FieldFault, PublisherKind, WorkHead, WorkKind, WriterKind, read_group_trailer, read_header,
     read_publisher, read_work_head, read_writer,
 };
+use cwr_sheets::same;
 use std::alloc::{AllocError, Global};
 use std::test::Fail;
 
@@ -39,8 +40,11 @@ fn fault_of_a_work_code(rt: HostRuntime) -> Result<(), Fail> {
         b"T0345246802",
         b"20010203               000330U",
     )?;
-    assert_eq!(rt; read_work_head(&wrong), Err(fault(96, 5)));
-    Ok(())
+    same(
+        "the work head that is read",
+        &read_work_head(&wrong),
+        &Err(fault(96, 5)),
+    )
 }
 
 #[test]
@@ -48,10 +52,11 @@ fn optional_fields(rt: HostRuntime) -> Result<(), Fail> {
     let blank = read_work_head(&registration(rt.alloc(), b"", b"")?)
         .ok()
         .ok_or("a fault")?;
-    assert_eq!(rt;
-        (blank.iswc, blank.copyright_date, blank.duration),
-        (None, None, None)
-    );
+    same(
+        "blank fields",
+        &(blank.iswc, blank.copyright_date, blank.duration),
+        &(None, None, None),
+    )?;
     let cases: [(&[u8], Result<Option<Day>, FieldFault>); 4] = [
         (b"00000000", Ok(None)),
         (b"20240229", Ok(Some(day(b"20240229")?))),
@@ -60,27 +65,36 @@ fn optional_fields(rt: HostRuntime) -> Result<(), Fail> {
     ];
     for (rest, wanted) in cases {
         let found = dated(rt.alloc(), rest)?.map(|head| head.copyright_date);
-        assert_eq!(rt; found, wanted);
+        same("the date of copyright", &found, &wanted)?;
     }
     Ok(())
 }
 
 #[test]
-fn faults_of_the_type(rt: HostRuntime) {
-    assert_eq!(rt;
-        read_writer(b"ALT0000000000000004OTHER NAME"),
-        Err(fault(1, 6))
-    );
-    assert_eq!(rt; read_header(b""), Err(fault(1, 6)));
-    assert_eq!(rt; read_work_head(b"ACK0000000000000000"), Err(fault(1, 6)));
+fn faults_of_the_type() -> Result<(), Fail> {
+    same(
+        "the writer that is read",
+        &read_writer(b"ALT0000000000000004OTHER NAME"),
+        &Err(fault(1, 6)),
+    )?;
+    same(
+        "the header that is read",
+        &read_header(b""),
+        &Err(fault(1, 6)),
+    )?;
+    same(
+        "the work head that is read",
+        &read_work_head(b"ACK0000000000000000"),
+        &Err(fault(1, 6)),
+    )
 }
 
 #[test]
-fn least_fault_of_a_trailer(rt: HostRuntime) {
+fn least_fault_of_a_trailer() -> Result<(), Fail> {
     let later = read_group_trailer(b"GRT000010000000100x00004");
-    assert_eq!(rt; later, Err(fault(17, 1)));
+    same("a fault of a later field", &later, &Err(fault(17, 1)))?;
     let both = read_group_trailer(b"GRT00x010000000100x00004");
-    assert_eq!(rt; both, Err(fault(4, 1)));
+    same("the first of two faults", &both, &Err(fault(4, 1)))
 }
 
 #[test]
@@ -92,8 +106,11 @@ fn least_fault_of_a_header(rt: HostRuntime) -> Result<(), Fail> {
             (b"01.102024023024000020240501", 15),
         ],
     )?;
-    assert_eq!(rt; read_header(&header), Err(fault(65, 3)));
-    Ok(())
+    same(
+        "the header that is read",
+        &read_header(&header),
+        &Err(fault(65, 3)),
+    )
 }
 
 #[test]
@@ -108,21 +125,23 @@ fn least_fault_of_shares(rt: HostRuntime) -> Result<(), Fail> {
             (b"1000x", 0),
         ],
     )?;
-    assert_eq!(rt; read_writer(&share), Err(fault(138, 2)));
-    Ok(())
+    same(
+        "the writer that is read",
+        &read_writer(&share),
+        &Err(fault(138, 2)),
+    )
 }
 
 #[test]
-fn other_kinds(rt: HostRuntime) -> Result<(), Fail> {
+fn other_kinds() -> Result<(), Fail> {
     let revised = read_work_head(b"REV0000000000000000SONG ONE")
         .ok()
         .ok_or("a fault")?;
-    assert_eq!(rt; revised.kind, WorkKind::Rev);
+    same("the kind", &revised.kind, &WorkKind::Rev)?;
     let publisher = read_publisher(b"OPU0000000000000001")
         .ok()
         .ok_or("a fault")?;
-    assert_eq!(rt; publisher.kind, PublisherKind::Opu);
+    same("the kind", &publisher.kind, &PublisherKind::Opu)?;
     let writer = read_writer(b"OWR0000000000000002").ok().ok_or("a fault")?;
-    assert_eq!(rt; writer.kind, WriterKind::Owr);
-    Ok(())
+    same("the kind", &writer.kind, &WriterKind::Owr)
 }

@@ -1,4 +1,5 @@
-//! Tests of `cwr_record`: its records line by line, against lines that were written by hand.
+//! Tests of `cwr_field` and `cwr_record`: fields by values of the standards, and records line by line, against lines that
+//! were written by hand.
 #![tactic(auto)]
 
 #[cfg(test)]
@@ -7,6 +8,8 @@ mod acknowledgements;
 mod control_records;
 #[cfg(test)]
 mod faults;
+#[cfg(test)]
+mod fields;
 #[cfg(test)]
 mod lines;
 pub mod read_back;

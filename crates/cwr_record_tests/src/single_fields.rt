@@ -5,29 +5,51 @@ use cwr_record::{
     Column, GroupHead, RecordType, collection_of, field_at, indicator_of, is_no_day, ownership_of,
     party_of, publisher_of, territory_of,
 };
+use cwr_sheets::same;
 use std::test::Fail;
 
 #[test]
-fn columns(rt: HostRuntime) {
+fn columns() -> Result<(), Fail> {
     let head = b"GRHNWR0000102.200000000001";
-    assert_eq!(rt; field_at(head, GroupHead::GROUP).bytes::<5>(), *b"00001");
-    assert_eq!(rt; field_at(head, GroupHead::VERSION).bytes::<5>(), *b"02.20");
-    assert_eq!(rt;
-        field_at(head, GroupHead::SUBMISSION_TYPE).bytes::<2>(),
-        *b"  "
-    );
+    same(
+        "the group",
+        &field_at(head, GroupHead::GROUP).bytes::<5>(),
+        b"00001",
+    )?;
+    same(
+        "the version",
+        &field_at(head, GroupHead::VERSION).bytes::<5>(),
+        b"02.20",
+    )?;
+    same(
+        "the submission type",
+        &field_at(head, GroupHead::SUBMISSION_TYPE).bytes::<2>(),
+        b"  ",
+    )
 }
 
 #[test]
-fn no_days(rt: HostRuntime) {
+fn no_days() -> Result<(), Fail> {
     let column = Column { start: 2, width: 8 };
-    assert!(rt; is_no_day(&field_at(b"D00000000", column)));
-    assert!(rt; is_no_day(&field_at(b"D", column)));
-    assert!(rt; !is_no_day(&field_at(b"D20240601", column)));
+    same(
+        "whether that is no day",
+        &is_no_day(&field_at(b"D00000000", column)),
+        &true,
+    )?;
+    same(
+        "whether that is no day",
+        &is_no_day(&field_at(b"D", column)),
+        &true,
+    )?;
+    same(
+        "whether that is no day",
+        &is_no_day(&field_at(b"D20240601", column)),
+        &false,
+    )
 }
 
 #[test]
-fn parties(rt: HostRuntime) {
+fn parties() -> Result<(), Fail> {
     let cases: [(&[u8], RecordType, Option<[u8; 9]>); 5] = [
         (
             b"SPU000000000000000101000000002PUBLISHER A",
@@ -48,11 +70,15 @@ fn parties(rt: HostRuntime) {
         (b"OPU0000000000000001", RecordType::Opu, None),
     ];
     for (line, record_type, wanted) in cases {
-        assert_eq!(rt; party_of(line, record_type), wanted);
+        same("the party", &party_of(line, record_type), &wanted)?;
     }
     let link = b"PWR0000000000000004000000002PUBLISHER A";
-    assert_eq!(rt; publisher_of(link), Some(*b"000000002"));
-    assert_eq!(rt; publisher_of(b"PWR0000000000000004"), None);
+    same("the publisher", &publisher_of(link), &Some(*b"000000002"))?;
+    same(
+        "the publisher",
+        &publisher_of(b"PWR0000000000000004"),
+        &None,
+    )
 }
 
 #[test]
@@ -67,10 +93,11 @@ fn ownership(rt: HostRuntime) -> Result<(), Fail> {
             (b"10000", 0),
         ],
     )?;
-    assert_eq!(rt;
-        ownership_of(&publisher, RecordType::Spu),
-        [Some(5000), Some(10000), Some(10000)]
-    );
+    same(
+        "the ownership",
+        &ownership_of(&publisher, RecordType::Spu),
+        &[Some(5000), Some(10000), Some(10000)],
+    )?;
     let writer = line(
         rt.alloc(),
         &[
@@ -80,15 +107,15 @@ fn ownership(rt: HostRuntime) -> Result<(), Fail> {
             (b" 5000", 3),
         ],
     )?;
-    assert_eq!(rt;
-        ownership_of(&writer, RecordType::Owr),
-        [None, None, Some(0)]
-    );
-    Ok(())
+    same(
+        "the ownership",
+        &ownership_of(&writer, RecordType::Owr),
+        &[None, None, Some(0)],
+    )
 }
 
 #[test]
-fn collection(rt: HostRuntime) {
+fn collection() -> Result<(), Fail> {
     let cases: [(&[u8], RecordType, [Option<u16>; 3]); 2] = [
         (
             b"SPT0000000000000002000000002      050001000010000I2136 001",
@@ -102,14 +129,23 @@ fn collection(rt: HostRuntime) {
         ),
     ];
     for (line, record_type, collection) in cases {
-        assert_eq!(rt; collection_of(line, record_type), collection);
-        assert_eq!(rt; indicator_of(line, record_type), b'I');
-        assert_eq!(rt; territory_of(line, record_type), Some(2136));
+        same(
+            "the collection",
+            &collection_of(line, record_type),
+            &collection,
+        )?;
+        same("the indicator", &indicator_of(line, record_type), &b'I')?;
+        same(
+            "the territory",
+            &territory_of(line, record_type),
+            &Some(2136),
+        )?;
     }
+    Ok(())
 }
 
 #[test]
-fn territories(rt: HostRuntime) {
+fn territories() -> Result<(), Fail> {
     let cases: [(&[u8], Option<u16>); 6] = [
         (
             b"SWT0000000000000003000000001050000500005000I840 ",
@@ -125,6 +161,11 @@ fn territories(rt: HostRuntime) {
         (b"SWT0000000000000003000000001050000500005000I21A6", None),
     ];
     for (line, wanted) in &cases {
-        assert_eq!(rt; territory_of(line, RecordType::Swt), *wanted);
+        same(
+            "the territory",
+            &territory_of(line, RecordType::Swt),
+            wanted,
+        )?;
     }
+    Ok(())
 }

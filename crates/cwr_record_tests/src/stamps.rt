@@ -2,23 +2,28 @@
 
 use crate::lines::{clock, day, text};
 use cwr_record::Stamp;
+use cwr_sheets::same;
 use std::test::Fail;
 
 #[test]
-fn parts_of_a_stamp(rt: HostRuntime) -> Result<(), Fail> {
+fn parts_of_a_stamp() -> Result<(), Fail> {
     let (date, time) = (day(b"20240601")?, clock(b"090000")?);
     let stamp = Stamp::new(0, b"CWR REGISTRY", date, time).ok_or("no stamp")?;
-    assert_eq!(rt; stamp.name(), text::<45>(b"CWR REGISTRY"));
-    assert_eq!(rt;
-        (stamp.society(), stamp.date(), stamp.time()),
-        (0, date, time)
-    );
-    assert_eq!(rt; Stamp::new(0, b"CWR REGISTRY", date, time), Some(stamp));
-    Ok(())
+    same("the name", &stamp.name(), &text::<45>(b"CWR REGISTRY"))?;
+    same(
+        "the parts of the stamp",
+        &(stamp.society(), stamp.date(), stamp.time()),
+        &(0, date, time),
+    )?;
+    same(
+        "the stamp",
+        &Stamp::new(0, b"CWR REGISTRY", date, time),
+        &Some(stamp),
+    )
 }
 
 #[test]
-fn society_and_name_of_a_stamp(rt: HostRuntime) -> Result<(), Fail> {
+fn society_and_name_of_a_stamp() -> Result<(), Fail> {
     let (date, time) = (day(b"20240601")?, clock(b"090000")?);
     let cases: [(u16, &[u8], bool); 6] = [
         (999, b"", true),
@@ -29,7 +34,11 @@ fn society_and_name_of_a_stamp(rt: HostRuntime) -> Result<(), Fail> {
         (0, b"A\x1f", false),
     ];
     for (society, name, is_stamp) in cases {
-        assert_eq!(rt; Stamp::new(society, name, date, time).is_some(), is_stamp);
+        same(
+            "whether that is a stamp",
+            &Stamp::new(society, name, date, time).is_some(),
+            &is_stamp,
+        )?;
     }
     Ok(())
 }

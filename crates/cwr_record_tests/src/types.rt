@@ -1,9 +1,11 @@
 //! The types of lines.
 
 use cwr_record::{Ack, RecordType, WorkKind, type_of};
+use cwr_sheets::same;
+use std::test::Fail;
 
 #[test]
-fn types(rt: HostRuntime) {
+fn types() -> Result<(), Fail> {
     let cases: [(&[u8], RecordType); 27] = [
         (b"HDR", RecordType::Hdr),
         (b"GRH", RecordType::Grh),
@@ -34,12 +36,13 @@ fn types(rt: HostRuntime) {
         (b"", RecordType::Bad),
     ];
     for (line, wanted) in &cases {
-        assert_eq!(rt; type_of(line), *wanted);
+        same("the type", &type_of(line), wanted)?;
     }
+    Ok(())
 }
 
 #[test]
-fn kinds_have_their_record_types(rt: HostRuntime) {
-    assert_eq!(rt; *WorkKind::Nwr.code(), *b"NWR");
-    assert_eq!(rt; *WorkKind::Rev.code(), *b"REV");
+fn kinds_have_their_record_types() -> Result<(), Fail> {
+    same("the code", WorkKind::Nwr.code(), b"NWR")?;
+    same("the code", WorkKind::Rev.code(), b"REV")
 }

@@ -8,6 +8,7 @@ use cwr_record::{
     write_alt_title, write_cross_ref, write_link, write_publisher, write_publisher_territory,
     write_work_head, write_writer, write_writer_territory,
 };
+use cwr_sheets::{same, same_bytes};
 use std::test::Fail;
 
 #[test]
@@ -47,9 +48,12 @@ fn registration_head(rt: HostRuntime) -> Result<(), Fail> {
     };
     let mut out = Vec::new(rt.alloc());
     write_work_head(&mut out, &head)?;
-    assert_eq!(rt; out.as_slice(), vector.as_slice());
-    assert_eq!(rt; read_work_head(&vector), Ok(head));
-    Ok(())
+    same_bytes("the line", &out, &vector)?;
+    same(
+        "the work head that is read",
+        &read_work_head(&vector),
+        &Ok(head),
+    )
 }
 
 #[test]
@@ -87,9 +91,12 @@ fn publisher(rt: HostRuntime) -> Result<(), Fail> {
     };
     let mut out = Vec::new(rt.alloc());
     write_publisher(&mut out, &publisher)?;
-    assert_eq!(rt; out.as_slice(), vector.as_slice());
-    assert_eq!(rt; read_publisher(&vector), Ok(publisher));
-    Ok(())
+    same_bytes("the line", &out, &vector)?;
+    same(
+        "the publisher that is read",
+        &read_publisher(&vector),
+        &Ok(publisher),
+    )
 }
 
 #[test]
@@ -111,9 +118,12 @@ fn publisher_territory(rt: HostRuntime) -> Result<(), Fail> {
     };
     let mut out = Vec::new(rt.alloc());
     write_publisher_territory(&mut out, &territory)?;
-    assert_eq!(rt; out.as_slice(), vector.as_slice());
-    assert_eq!(rt; read_publisher_territory(vector), Ok(territory));
-    Ok(())
+    same_bytes("the line", &out, vector)?;
+    same(
+        "the publisher territory that is read",
+        &read_publisher_territory(vector),
+        &Ok(territory),
+    )
 }
 
 #[test]
@@ -150,9 +160,12 @@ fn writer(rt: HostRuntime) -> Result<(), Fail> {
     };
     let mut out = Vec::new(rt.alloc());
     write_writer(&mut out, &writer)?;
-    assert_eq!(rt; out.as_slice(), vector.as_slice());
-    assert_eq!(rt; read_writer(&vector), Ok(writer));
-    Ok(())
+    same_bytes("the line", &out, &vector)?;
+    same(
+        "the writer that is read",
+        &read_writer(&vector),
+        &Ok(writer),
+    )
 }
 
 #[test]
@@ -174,9 +187,12 @@ fn writer_territory(rt: HostRuntime) -> Result<(), Fail> {
     };
     let mut out = Vec::new(rt.alloc());
     write_writer_territory(&mut out, &territory)?;
-    assert_eq!(rt; out.as_slice(), vector.as_slice());
-    assert_eq!(rt; read_writer_territory(vector), Ok(territory));
-    Ok(())
+    same_bytes("the line", &out, vector)?;
+    same(
+        "the writer territory that is read",
+        &read_writer_territory(vector),
+        &Ok(territory),
+    )
 }
 
 #[test]
@@ -201,9 +217,8 @@ fn writers_publisher(rt: HostRuntime) -> Result<(), Fail> {
     };
     let mut out = Vec::new(rt.alloc());
     write_link(&mut out, &link)?;
-    assert_eq!(rt; out.as_slice(), vector.as_slice());
-    assert_eq!(rt; read_link(&vector), Ok(link));
-    Ok(())
+    same_bytes("the line", &out, &vector)?;
+    same("the link that is read", &read_link(&vector), &Ok(link))
 }
 
 #[test]
@@ -223,9 +238,12 @@ fn alternate_title(rt: HostRuntime) -> Result<(), Fail> {
     };
     let mut out = Vec::new(rt.alloc());
     write_alt_title(&mut out, &alternate)?;
-    assert_eq!(rt; out.as_slice(), vector.as_slice());
-    assert_eq!(rt; read_alt_title(&vector), Ok(alternate));
-    Ok(())
+    same_bytes("the line", &out, &vector)?;
+    same(
+        "the alt title that is read",
+        &read_alt_title(&vector),
+        &Ok(alternate),
+    )
 }
 
 #[test]
@@ -243,7 +261,10 @@ fn cross_reference(rt: HostRuntime) -> Result<(), Fail> {
     };
     let mut out = Vec::new(rt.alloc());
     write_cross_ref(&mut out, &reference)?;
-    assert_eq!(rt; out.as_slice(), vector.as_slice());
-    assert_eq!(rt; read_cross_ref(vector), Ok(reference));
-    Ok(())
+    same_bytes("the line", &out, vector)?;
+    same(
+        "the cross ref that is read",
+        &read_cross_ref(vector),
+        &Ok(reference),
+    )
 }

@@ -3,6 +3,7 @@
 use crate::judging::judged;
 use crate::records::{HALF_WRITER, OWNER, link};
 use cwr_rules::{Call, Fault, Faults, WorkKind};
+use cwr_sheets::same;
 use std::test::Fail;
 
 /// The parts of a call, with the ISWC, and with the control of a publisher and a writer.
@@ -15,32 +16,39 @@ fn parts_of_a_call(rt: HostRuntime) -> Result<(), Fail> {
         link!("PWR0000000000000003000000002"),
     ];
     let call = judged(rt.alloc(), &lines, WorkKind::Rev)?;
-    assert_eq!(rt;
-        (call.submitter(), call.kind()),
-        (*b"PB000000123", WorkKind::Rev)
-    );
-    assert_eq!(rt;
-        call.title(),
-        *b"SONG ONE                                                    "
-    );
-    assert_eq!(rt;
-        (call.number(), call.iswc()),
-        (*b"W1            ", Some(34524680))
-    );
-    assert_eq!(rt;
-        (call.control(), call.faults().len()),
-        ([10000, 10000, 10000], 0)
-    );
-    Ok(())
+    same(
+        "the submitter and the kind",
+        &(call.submitter(), call.kind()),
+        &(*b"PB000000123", WorkKind::Rev),
+    )?;
+    same(
+        "title",
+        &call.title(),
+        b"SONG ONE                                                    ",
+    )?;
+    same(
+        "the number and the work code",
+        &(call.number(), call.iswc()),
+        &(*b"W1            ", Some(34524680)),
+    )?;
+    same(
+        "the control, and how many faults",
+        &(call.control(), call.faults().len()),
+        &([10000, 10000, 10000], 0),
+    )
 }
 
 /// A fault of the whole has the type of the header.
 #[test]
 fn faults_of_a_revision(rt: HostRuntime) -> Result<(), Fail> {
     let call = judged(rt.alloc(), &["REV0000000000000000"], WorkKind::Rev)?;
-    assert_eq!(rt; (call.iswc(), call.faults().len()), (None, 3));
+    same(
+        "the work code, and how many faults",
+        &(call.iswc(), call.faults().len()),
+        &(None, 3),
+    )?;
     for fault in call.faults() {
-        assert_eq!(rt; (fault.sequence, fault.rtype), (0, *b"REV"));
+        same("whose fault", &(fault.sequence, fault.rtype), &(0, *b"REV"))?;
     }
     Ok(())
 }
@@ -69,7 +77,7 @@ fn fault(sequence: u32, number: u8, rtype: [u8; 3]) -> Fault {
 }
 
 #[test]
-fn calls_of_parts(rt: HostRuntime) {
+fn calls_of_parts(rt: HostRuntime) -> Result<(), Fail> {
     let number = *b"W1            ";
     for (number, iswc, control, is_right) in [
         (number, None, [10006, 0, 10006], true),
@@ -79,8 +87,13 @@ fn calls_of_parts(rt: HostRuntime) {
         (*b"W1           \x1f", None, [0, 0, 0], false),
     ] {
         let faults = Vec::new(rt.alloc());
-        assert_eq!(rt; is_call(number, iswc, control, faults), is_right);
+        same(
+            "is call",
+            &is_call(number, iswc, control, faults),
+            &is_right,
+        )?;
     }
+    Ok(())
 }
 
 #[test]
@@ -88,7 +101,11 @@ fn calls_with_faults(rt: HostRuntime) -> Result<(), Fail> {
     let number = *b"W1            ";
     for (control, is_right) in [(10007, true), (999999990000, true), (999999990001, false)] {
         let faults = [fault(1, 6, *b"SWR")].to_vec(rt.alloc())?;
-        assert_eq!(rt; is_call(number, None, [0, control, 0], faults), is_right);
+        same(
+            "is call",
+            &is_call(number, None, [0, control, 0], faults),
+            &is_right,
+        )?;
     }
     for (first, second, is_right) in [
         (fault(0, 2, *b"NWR"), fault(0, 3, *b"NWR"), true),
@@ -101,13 +118,17 @@ fn calls_with_faults(rt: HostRuntime) -> Result<(), Fail> {
         (fault(0, 2, *b"NWR"), fault(1, 6, *b"SwR"), false),
     ] {
         let faults = [first, second].to_vec(rt.alloc())?;
-        assert_eq!(rt; is_call(number, None, [0, 0, 0], faults), is_right);
+        same(
+            "is call",
+            &is_call(number, None, [0, 0, 0], faults),
+            &is_right,
+        )?;
     }
     Ok(())
 }
 
 #[test]
-fn texts_of_calls(rt: HostRuntime) {
+fn texts_of_calls(rt: HostRuntime) -> Result<(), Fail> {
     for (submitter, first, is_right) in [
         (*b"PB000000123", b' ', true),
         (*b"PB00000012\n", b' ', false),
@@ -125,6 +146,7 @@ fn texts_of_calls(rt: HostRuntime) {
             [0, 0, 0],
             faults,
         );
-        assert_eq!(rt; call.is_some(), is_right);
+        same("whether that is a call", &call.is_some(), &is_right)?;
     }
+    Ok(())
 }

@@ -16,8 +16,6 @@
 
 mod array_lock;
 pub mod laws;
-#[cfg(test)]
-mod tests;
 mod ticket_lock;
 
 pub use array_lock::{ArrayEvent, ArrayLock, ArrayOutcome, ArrayPhase};

@@ -1,12 +1,13 @@
 //! Values of the CWR 2.2 manual, of ISO 15707 and of the calendar.
-use crate::{
+use cwr_field::{
     Iswc, Memory, check_digit, cut, date, digits, is_blank, iswc, party, put_decimal, put_digits,
     put_text, share, time,
 };
+use cwr_sheets::{same, same_bytes, same_text};
 use std::test::Fail;
 
 #[test]
-fn cuts_fields_of_short_lines(rt: HostRuntime) {
+fn cuts_fields_of_short_lines() -> Result<(), Fail> {
     let line = b"SWR00000012";
     for (start, wanted) in [
         (1, *b"SWR"),
@@ -16,18 +17,26 @@ fn cuts_fields_of_short_lines(rt: HostRuntime) {
         (12, *b"   "),
         (4096, *b"   "),
     ] {
-        assert_eq!(rt; cut(line, start, 3).bytes::<3>(), wanted, "from {start}");
+        same("what is cut", &cut(line, start, 3).bytes::<3>(), &wanted)?;
     }
     let code = cut(line, 10, 4);
-    assert_eq!(rt; code.width(), 4);
-    assert_eq!(rt; code.byte(1), b'2');
-    assert_eq!(rt; code.byte(2), b' ');
-    assert!(rt; is_blank(cut(line, 12, 150)));
-    assert!(rt; !is_blank(cut(line, 11, 150)));
+    same("the width", &code.width(), &4)?;
+    same("values", &code.byte(1), &b'2')?;
+    same("values", &code.byte(2), &b' ')?;
+    same(
+        "whether that is blank",
+        &is_blank(cut(line, 12, 150)),
+        &true,
+    )?;
+    same(
+        "whether that is blank",
+        &is_blank(cut(line, 11, 150)),
+        &false,
+    )
 }
 
 #[test]
-fn reads_numbers(rt: HostRuntime) {
+fn reads_numbers() -> Result<(), Fail> {
     for (text, wanted) in [
         ("00042", Some(42)),
         ("000000000000000000", Some(0)),
@@ -37,15 +46,17 @@ fn reads_numbers(rt: HostRuntime) {
         ("   ", None),
     ] {
         let bytes = text.as_bytes();
-        assert!(rt; 1 <= bytes.len() && bytes.len() <= 18);
-        assert_eq!(rt; digits(cut(bytes, 1, bytes.len())), wanted, "{text}");
+        if bytes.is_empty() || 18 < bytes.len() {
+            return Err(Fail::from("up to 18 digits"));
+        }
+        same("the number", &digits(cut(bytes, 1, bytes.len())), &wanted)?;
     }
     // The line ends inside the number.
-    assert_eq!(rt; digits(cut(b"GRT0000", 4, 5)), None);
+    same("the number", &digits(cut(b"GRT0000", 4, 5)), &None)
 }
 
 #[test]
-fn reads_shares_in_hundredths_of_one_per_cent(rt: HostRuntime) {
+fn reads_shares_in_hundredths_of_one_per_cent() -> Result<(), Fail> {
     for (text, wanted) in [
         (b"10000", Some(10000)),
         (b"10001", None),
@@ -54,12 +65,13 @@ fn reads_shares_in_hundredths_of_one_per_cent(rt: HostRuntime) {
         (b"05000", Some(5000)),
         (b"00000", Some(0)),
     ] {
-        assert_eq!(rt; share(cut(text, 1, 5)), wanted, "{text:?}");
+        same("the share", &share(cut(text, 1, 5)), &wanted)?;
     }
+    Ok(())
 }
 
 #[test]
-fn reads_days_of_the_calendar(rt: HostRuntime) {
+fn reads_days_of_the_calendar() -> Result<(), Fail> {
     for (text, wanted) in [
         (b"20240229", Some(20240229)),
         (b"20230229", None),
@@ -73,16 +85,17 @@ fn reads_days_of_the_calendar(rt: HostRuntime) {
         (b"20241301", None),
         (b"2024 501", None),
     ] {
-        assert_eq!(rt;
-            date(cut(text, 1, 8)).map(|day| day.number()),
-            wanted,
-            "{text:?}"
-        );
+        same(
+            "date",
+            &date(cut(text, 1, 8)).map(|day| day.number()),
+            &wanted,
+        )?;
     }
+    Ok(())
 }
 
 #[test]
-fn reads_times_of_a_day(rt: HostRuntime) {
+fn reads_times_of_a_day() -> Result<(), Fail> {
     for (text, wanted) in [
         (b"235959", Some(235959)),
         (b"240000", None),
@@ -91,16 +104,17 @@ fn reads_times_of_a_day(rt: HostRuntime) {
         (b"235960", None),
         (b"12 000", None),
     ] {
-        assert_eq!(rt;
-            time(cut(text, 1, 6)).map(|clock| clock.number()),
-            wanted,
-            "{text:?}"
-        );
+        same(
+            "time",
+            &time(cut(text, 1, 6)).map(|clock| clock.number()),
+            &wanted,
+        )?;
     }
+    Ok(())
 }
 
 #[test]
-fn reads_work_codes(rt: HostRuntime) {
+fn reads_work_codes() -> Result<(), Fail> {
     for (text, wanted) in [
         (b"T0345246801", Iswc::Valid(34524680)),
         (b"T0000000010", Iswc::Valid(1)),
@@ -111,23 +125,29 @@ fn reads_work_codes(rt: HostRuntime) {
         (b"T034524680 ", Iswc::Wrong),
         (b"T03452 6801", Iswc::Wrong),
     ] {
-        assert_eq!(rt; iswc(cut(text, 1, 11)), wanted, "{text:?}");
+        same("the work code", &iswc(cut(text, 1, 11)), &wanted)?;
     }
-    assert_eq!(rt; check_digit(34524680), 1);
-    assert_eq!(rt; check_digit(1), 0);
+    same("the check digit", &check_digit(34524680), &1)?;
+    same("the check digit", &check_digit(1), &0)
 }
 
 #[test]
-fn reads_interested_party_numbers(rt: HostRuntime) {
-    assert_eq!(rt;
-        party(cut(b"SWR0000000000000001000000001DOE", 20, 9)),
-        Some(*b"000000001")
-    );
-    assert_eq!(rt;
-        party(cut(b"SWR0000000000000001  7", 20, 9)),
-        Some(*b"  7      ")
-    );
-    assert_eq!(rt; party(cut(b"SWR0000000000000001", 20, 9)), None);
+fn reads_interested_party_numbers() -> Result<(), Fail> {
+    same(
+        "the party",
+        &party(cut(b"SWR0000000000000001000000001DOE", 20, 9)),
+        &Some(*b"000000001"),
+    )?;
+    same(
+        "the party",
+        &party(cut(b"SWR0000000000000001  7", 20, 9)),
+        &Some(*b"  7      "),
+    )?;
+    same(
+        "the party",
+        &party(cut(b"SWR0000000000000001", 20, 9)),
+        &None,
+    )
 }
 
 #[test]
@@ -139,10 +159,14 @@ fn writes_fields(rt: HostRuntime) -> Result<(), Fail> {
     put_text(&mut out, b"", 1)?;
     put_decimal(&mut out, 0)?;
     put_decimal(&mut out, 18446744073709551615)?;
-    assert_eq!(rt;
-        out.as_slice(),
-        b"00042AB  999999999999999999 018446744073709551615".as_slice()
-    );
-    assert_eq!(rt; format!(in rt.alloc(); "{Memory}")?.as_str(), "memory");
-    Ok(())
+    same_bytes(
+        "the fields",
+        &out,
+        b"00042AB  999999999999999999 018446744073709551615",
+    )?;
+    same_text(
+        "want of memory",
+        &format!(in rt.alloc(); "{Memory}")?,
+        "memory",
+    )
 }
