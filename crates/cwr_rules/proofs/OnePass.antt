@@ -2,7 +2,6 @@
 use Rattle.std.proofs.Common.{◌≡◌, ℕ, ◌<◌, Bool, false, List, [], ◌∷◌, ◌++◌, length, Option, None, refl, sym, ap, subst, ◌∙◌, arith}
 use Rattle.std.proofs.lemmas.List.{length-map}
 use Rattle.std.specs.List.{cons_option}
-use Rattle.std.specs.BTreeSet.{BTreeSet}
 use Rattle.cwr_field.specs.Number.{most_count}
 use Rattle.cwr_field.proofs.lemmas.Tests.{neither}
 use Rattle.cwr_rules.specs.declared.finding.Finding.{Finding}
@@ -32,15 +31,15 @@ pub line_turned : (lines rest all : List (List ℕ)) (line : List ℕ) (before :
     → turned (records_of rest) (record_of line ∷ before) ≡ turned (records_of all) []
 line_turned lines rest all line before same step = ap (λ (xs : List (List ℕ)). turned (records_of xs) before) (sym step) ∙ same
 
-pub whole_from : (lines all : List (List ℕ)) (count : ℕ) (position : Position) (sums : Sums) (parties : BTreeSet (ℕ × ℕ)) (found : ℕ → Option Totals) (over : Bool) (findings : List Finding) (before : List Record)
+pub whole_from : (lines all : List (List ℕ)) (count : ℕ) (position : Position) (sums : Sums) (kept : ℕ × ℕ → Bool) (found : ℕ → Option Totals) (over : Bool) (findings : List Finding) (before : List Record)
     → turned (records_of lines) before ≡ turned (records_of all) [] → lines ≡ []
-    → IsSoFar count position sums parties found over findings before → IsWhole sums parties found over findings (records_of all)
-whole_from lines all count position sums parties found over findings before same end h =
+    → IsSoFar count position sums kept found over findings before → IsWhole sums kept found over findings (records_of all)
+whole_from lines all count position sums kept found over findings before same end h =
     let last : before ≡ turned (records_of all) [] = ap (λ (xs : List (List ℕ)). turned (records_of xs) before) (sym end) ∙ same in
-    let P : List Record → Type 0 = λ rs. IsSoFar count position sums parties found over findings rs in
+    let P : List Record → Type 0 = λ rs. IsSoFar count position sums kept found over findings rs in
     let k = subst P last h in
     record {
-      summary = summary_turned sums parties found over (records_of all) k.summary;
+      summary = summary_turned sums kept found over (records_of all) k.summary;
       faults_are = ap (λ (fs : List Finding). standing (publishers (records_of all)) fs) k.findings_are ∙ all_come (records_of all);
     }
 

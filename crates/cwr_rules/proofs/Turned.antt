@@ -2,7 +2,6 @@
 use Rattle.std.proofs.Common.{◌≡◌, ℕ, ◌+◌, Bool, true, false, cond, List, [], ◌∷◌, length, Option, Some, None, refl, sym, ap, ◌∙◌, arith}
 use Rattle.std.specs.Prelude.{◌||◌, filter}
 use Rattle.std.specs.List.{list_any, cons_option}
-use Rattle.std.specs.BTreeSet.{BTreeSet}
 use Rattle.std.specs.Str.{bytes_eq}
 use Rattle.cwr_rules.specs.declared.record.Record.{Record}
 use Rattle.cwr_rules.specs.declared.record.Shares.{Shares}
@@ -111,9 +110,9 @@ over_turned records =
     (λ h. let w = some_code (turned records []) h in at_code records w.0 (ap is_over (sym (collection_turned w.0 records)) ∙ w.1))
     (λ h. let w = some_code records h in at_code (turned records []) w.0 (ap is_over (collection_turned w.0 records) ∙ w.1))
 
-pub summary_turned : (sums : Sums) (parties : BTreeSet (ℕ × ℕ)) (found : ℕ → Option Totals) (over : Bool) (records : List Record)
-    → IsSummary sums parties found over (turned records []) → IsSummary sums parties found over records
-summary_turned sums parties found over records h = record {
+pub summary_turned : (sums : Sums) (kept : ℕ × ℕ → Bool) (found : ℕ → Option Totals) (over : Bool) (records : List Record)
+    → IsSummary sums kept found over (turned records []) → IsSummary sums kept found over records
+summary_turned sums kept found over records h = record {
   sums_are = h.sums_are ∙ sums_turned records;
   holds = λ q is. h.holds q is ∙ same_parties records q;
   collected = record { values = λ code. h.collected.values code ∙ collection_turned code records; over_is = h.collected.over_is ∙ over_turned records };

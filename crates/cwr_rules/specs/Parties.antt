@@ -1,8 +1,8 @@
 -- A set of interested party numbers, each kept as two numbers, which compare faster than nine bytes.
-use Rattle.std.specs.Prelude.{ℕ, ◌≡◌, ◌<◌, List, length, take, get_or}
+use Rattle.std.specs.Prelude.{ℕ, ◌≡◌, ◌<◌, ◌||◌, Bool, List, Option, Some, None, length, take, get_or}
 use Rattle.std.specs.BTreeSet.{BTreeSet, contains}
 use Rattle.std.specs.Int.{w64, from_be_bytes}
-use Rattle.std.specs.Ordering.{nat_cmp, ordering_then}
+use Rattle.std.specs.Ordering.{nat_cmp, ordering_then, is_eq}
 use Rattle.std.specs.declared.cmp.Ordering.{Ordering}
 use Rattle.cwr_rules.specs.Rules.{is_party_of}
 
@@ -18,6 +18,11 @@ pub record IsNumber (party : List ℕ) : Type 0 where
   pub nine : length party ≡ 9
   pub bytes : (i : ℕ) → get_or party i 0 < 256
 
--- the set holds these parties and no others
-abbrev pub HoldsParties : BTreeSet (ℕ × ℕ) → List (List ℕ) → Type 0
-HoldsParties set parties = (q : List ℕ) → IsNumber q → contains key_cmp set (key_of q) ≡ is_party_of parties q
+-- what is kept where one key is kept beside a set of others
+abbrev pub kept_in : Option (ℕ × ℕ) → BTreeSet (ℕ × ℕ) → ℕ × ℕ → Bool
+kept_in None others key = contains key_cmp others key
+kept_in (Some first) others key = is_eq (key_cmp first key) || contains key_cmp others key
+
+-- these parties are kept and no others
+abbrev pub HoldsParties : (ℕ × ℕ → Bool) → List (List ℕ) → Type 0
+HoldsParties kept parties = (q : List ℕ) → IsNumber q → kept (key_of q) ≡ is_party_of parties q

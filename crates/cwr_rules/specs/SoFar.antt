@@ -1,7 +1,6 @@
 -- What is kept of the records of a transaction while they are read, as the records before make it.
 use Rattle.std.specs.Prelude.{ℕ, ◌≡◌, ◌+◌, Bool, true, not, List, [], ◌∷◌, ◌++◌, length, Option, Some, None, if◌then◌else◌}
 use Rattle.std.specs.List.{flat_map, list_any}
-use Rattle.std.specs.BTreeSet.{BTreeSet}
 use Rattle.cwr_call.specs.declared.transaction_fault.Fault.{Fault}
 use Rattle.cwr_rules.specs.declared.record.Record.{Record}
 use Rattle.cwr_rules.specs.declared.record.Record.TheVariants.{Pwr}
@@ -57,13 +56,13 @@ abbrev pub standing : List (List ℕ) → List Finding → List Fault
 standing parties [] = []
 standing parties (f ∷ findings) = (if stands parties f.unless then f.fault ∷ [] else []) ++ standing parties findings
 
-pub record IsSoFar (count : ℕ) (position : Position) (sums : Sums) (parties : BTreeSet (ℕ × ℕ)) (found : ℕ → Option Totals) (is_over : Bool) (findings : List Finding) (before : List Record) : Type 0 where
+pub record IsSoFar (count : ℕ) (position : Position) (sums : Sums) (kept : ℕ × ℕ → Bool) (found : ℕ → Option Totals) (is_over : Bool) (findings : List Finding) (before : List Record) : Type 0 where
   pub counted : count ≡ length before
   pub position_is : position ≡ position_of before
-  pub summary : IsSummary sums parties found is_over before
+  pub summary : IsSummary sums kept found is_over before
   pub findings_are : findings ≡ findings_of before
 
 -- the same of all records, the first of them first, and the faults that the findings come to
-pub record IsWhole (sums : Sums) (parties : BTreeSet (ℕ × ℕ)) (found : ℕ → Option Totals) (is_over : Bool) (findings : List Finding) (records : List Record) : Type 0 where
-  pub summary : IsSummary sums parties found is_over records
+pub record IsWhole (sums : Sums) (kept : ℕ × ℕ → Bool) (found : ℕ → Option Totals) (is_over : Bool) (findings : List Finding) (records : List Record) : Type 0 where
+  pub summary : IsSummary sums kept found is_over records
   pub faults_are : standing (publishers records) findings ≡ faults_after (publishers records) [] records

@@ -8,6 +8,7 @@ ghost use Rattle.cwr_rules.specs.Collected.{found_in};
 ghost use Rattle.cwr_rules.specs.Calls.{call_of};
 ghost use Rattle.cwr_rules.specs.Head.{has_wrong_iswc, number_in};
 ghost use Rattle.cwr_rules.specs.Faults.{faults_of};
+ghost use Rattle.cwr_rules.specs.Parties.{kept_in};
 ghost use Rattle.cwr_rules.specs.SoFar.{IsWhole};
 ghost use Rattle.cwr_rules.specs.declared.record.Record.{Record};
 
@@ -44,7 +45,7 @@ fn faults_of<A: Allocator + Copy>(
 ) -> Result<Vec<Fault, A>, Memory>
     requires { wrong_iswc ≡ has_wrong_iswc head.now }
     ensures { IfOk result (λ faults. (records : List Record)
-        → IsWhole read.now.summary.sums read.now.summary.parties.set (found_in read.now.summary.collected.first (get nat_cmp read.now.summary.collected.by_code)) read.now.summary.collected.is_over read.now.findings.items records
+        → IsWhole read.now.summary.sums (kept_in read.now.summary.parties.first read.now.summary.parties.set) (found_in read.now.summary.collected.first (get nat_cmp read.now.summary.collected.by_code)) read.now.summary.collected.is_over read.now.findings.items records
         → faults.items ≡ faults_of kind head.now records) }
 {
     let mut faults = Vec::new(alloc);
@@ -56,8 +57,8 @@ fn faults_of<A: Allocator + Copy>(
 /// The call of a transaction: its parts, its control, and every fault of its rules.
 ///
 /// It is judged whether or not it has faults, and its lines are gone over once. No byte of the submitter is below 32.
-/// Memory is asked for the parties of its publishers, the totals of its territories and its faults; where it is refused
-/// nothing is left.
+/// Memory is asked for the parties of its publishers and the totals of its territories, of each for all but the first,
+/// and for its faults; where it is refused nothing is left.
 pub fn judge<A: Allocator + Copy>(
     alloc: A,
     transaction: &RawTransaction,

@@ -1,7 +1,8 @@
-ghost use Rattle.std.specs.Prelude.{◌≡◌, ◌∷◌, ℕ, [], List, OnOk};
+ghost use Rattle.std.specs.Prelude.{◌≡◌, ◌||◌, ◌∷◌, ℕ, [], List, OnOk};
 ghost use Rattle.cwr_rules.specs.Rules.{is_unknown, publishers};
 ghost use Rattle.cwr_rules.specs.declared.record.Record.{Record};
-ghost use Rattle.cwr_rules.specs.Parties.{HoldsParties, IsNumber, key_of};
+ghost use Rattle.cwr_rules.specs.Parties.{HoldsParties, IsNumber, kept_in, key_cmp, key_of};
+ghost use Rattle.std.specs.Ordering.{is_eq};
 
 use crate::record::Record;
 use cwr_field::Memory;
@@ -11,6 +12,9 @@ use std::collections::BTreeSet;
 /// A set of interested party numbers, each kept as the number of its first eight bytes and the last byte.
 #[derive(Drop)]
 pub(crate) struct Parties<A: Allocator> {
+    /// The one that came first. Many transactions have no other.
+    pub(crate) first: Option<(u64, u8)>,
+    /// The others.
     pub(crate) set: BTreeSet<(u64, u8), A>,
 }
 
@@ -22,37 +26,67 @@ fn key_of(party: [u8; 9]) -> (u64, u8)
     (u64::from_be_bytes([a, b, c, d, e, f, g, h]), last)
 }
 
+/// Whether two keys are the same.
+fn is_same(one: (u64, u8), other: (u64, u8)) -> bool
+    ensures { result ≡ is_eq (key_cmp one other) }
+{
+    one.0 == other.0 && one.1 == other.1
+}
+
 impl<A: Allocator + Copy> Parties<A> {
     /// None.
     pub(crate) fn new(alloc: A) -> Parties<A>
-        ensures { HoldsParties result.set [] }
+        ensures { HoldsParties (kept_in result.first result.set) [] }
     {
         Parties {
+            first: None,
             set: BTreeSet::new(alloc),
         }
     }
 
     /// Whether the party is named, and none of these.
     pub(crate) fn is_unknown(&self, party: Option<[u8; 9]>) -> bool
-        ensures { (parties : List (List ℕ)) → HoldsParties self.now.set parties → result ≡ is_unknown parties party }
+        ensures { (parties : List (List ℕ)) → HoldsParties (kept_in self.now.first self.now.set) parties → result ≡ is_unknown parties party }
     {
         match party {
             None => false,
-            Some(party) => !self.set.contains(&key_of(party)),
+            Some(party) => !self.has(key_of(party)),
         }
     }
 
-    fn add(&mut self, party: [u8; 9]) -> Result<(), Memory>
-        ensures { OnOk result ((parties : List (List ℕ)) → HoldsParties self.old.set parties → HoldsParties self.new.set (party ∷ parties)) }
+    fn has(&self, key: (u64, u8)) -> bool
+        ensures { result ≡ kept_in self.now.first self.now.set key }
     {
-        self.set.insert(key_of(party))?;
+        match self.first {
+            None => self.set.contains(&key),
+            Some(first) => is_same(first, key) || self.set.contains(&key),
+        }
+    }
+
+    /// Keeps a key.
+    fn keep(&mut self, key: (u64, u8)) -> Result<(), Memory>
+        ensures { OnOk result ((q : ℕ × ℕ) → kept_in self.new.first self.new.set q ≡ (is_eq (key_cmp key q) || kept_in self.old.first self.old.set q)) }
+    {
+        match self.first {
+            None => self.first = Some(key),
+            Some(_) => {
+                self.set.insert(key)?;
+            }
+        }
+        Ok(())
+    }
+
+    fn add(&mut self, party: [u8; 9]) -> Result<(), Memory>
+        ensures { OnOk result ((parties : List (List ℕ)) → HoldsParties (kept_in self.old.first self.old.set) parties → HoldsParties (kept_in self.new.first self.new.set) (party ∷ parties)) }
+    {
+        self.keep(key_of(party))?;
         Ok(())
     }
 
     /// Adds the party of a publisher's record, where it names one.
     #[inline(always)]
     pub(crate) fn add_publisher(&mut self, detail: &Record) -> Result<(), Memory>
-        ensures { OnOk result ((rest : List Record) → HoldsParties self.old.set (publishers rest) → HoldsParties self.new.set (publishers (detail.now ∷ rest))) }
+        ensures { OnOk result ((rest : List Record) → HoldsParties (kept_in self.old.first self.old.set) (publishers rest) → HoldsParties (kept_in self.new.first self.new.set) (publishers (detail.now ∷ rest))) }
     {
         match *detail {
             Record::Spu(Some(party), _) => self.add(party)?,

@@ -3,7 +3,7 @@ ghost use Rattle.cwr_rules.specs.declared.record.Record.{Record};
 ghost use Rattle.cwr_rules.specs.Rules.{has_unknown_publisher, publishers, name_of};
 ghost use Rattle.cwr_rules.specs.SoFar.{link_publisher, all_findings, rules_so_far, some_holds};
 ghost use Rattle.cwr_rules.specs.Position.{position_of};
-ghost use Rattle.cwr_rules.specs.Parties.{HoldsParties};
+ghost use Rattle.cwr_rules.specs.Parties.{HoldsParties, kept_in};
 
 use crate::finding::{Finding, push_finding};
 use crate::parties::Parties;
@@ -19,7 +19,7 @@ fn has_unknown_publisher<A: Allocator + Copy>(
     position: &Position,
     detail: &Record,
 ) -> bool
-    ensures { (parties : List (List ℕ)) (before : List Record) → HoldsParties known.now.set parties → position.now ≡ position_of before
+    ensures { (parties : List (List ℕ)) (before : List Record) → HoldsParties (kept_in known.now.first known.now.set) parties → position.now ≡ position_of before
         → result ≡ has_unknown_publisher parties before detail.now }
 {
     match *detail {
@@ -95,7 +95,7 @@ pub(crate) fn add_findings<A: Allocator + Copy>(
     position: &Position,
     detail: &Record,
 ) -> Result<(), Memory>
-    ensures { OnOk result ((before : List Record) → HoldsParties known.now.set (publishers before) → position.now ≡ position_of before → sequence ≡ length before + 1
+    ensures { OnOk result ((before : List Record) → HoldsParties (kept_in known.now.first known.now.set) (publishers before) → position.now ≡ position_of before → sequence ≡ length before + 1
         → findings.new.items ≡ findings.old.items ++ all_findings sequence (name_of detail.now) (rules_so_far before detail.now)) }
 {
     let is_unknown = has_unknown_publisher(known, position, detail);

@@ -7,6 +7,7 @@ ghost use Rattle.cwr_rules.specs.Collected.{found_in};
 ghost use Rattle.cwr_rules.specs.declared.record.Record.{Record};
 ghost use Rattle.cwr_rules.specs.Head.{has_no_title, has_no_number, has_wrong_iswc, has_wrong_date, is_copyright_date, is_duration, is_off};
 ghost use Rattle.cwr_rules.specs.Faults.{all_found, head_rules};
+ghost use Rattle.cwr_rules.specs.Parties.{kept_in};
 ghost use Rattle.cwr_rules.specs.Summary.{IsSummary};
 
 use crate::standing::push_found;
@@ -69,7 +70,7 @@ pub(crate) fn push_faults_of_whole<A: Allocator + Copy>(
     summary: &Summary<A>,
 ) -> Result<(), Memory>
     requires { wrong_iswc ≡ has_wrong_iswc head.now }
-    ensures { OnOk result ((records : List Record) → IsSummary summary.now.sums summary.now.parties.set (found_in summary.now.collected.first (get nat_cmp summary.now.collected.by_code)) summary.now.collected.is_over records
+    ensures { OnOk result ((records : List Record) → IsSummary summary.now.sums (kept_in summary.now.parties.first summary.now.parties.set) (found_in summary.now.collected.first (get nat_cmp summary.now.collected.by_code)) summary.now.collected.is_over records
         → faults.new.items ≡ faults.old.items ++ all_found 0 (work_kind_code kind) (head_rules head.now records)) }
 {
     let rtype = *kind.code();

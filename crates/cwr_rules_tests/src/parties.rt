@@ -155,7 +155,17 @@ fn publishers_of_writers(rt: HostRuntime) -> Result<(), Fail> {
         link!("PWR0000000000000003000000003"),
         publisher!("SPU000000000000000401000000003", "00000   00000   00000"),
     ];
-    expect(&rt, rt.alloc(), &lines, &[])
+    expect(&rt, rt.alloc(), &lines, &[])?;
+    let lines = [
+        WORK,
+        OWNER,
+        HALF_WRITER,
+        missing,
+        link!("PWR0000000000000004000000003"),
+        publisher!("SPU000000000000000501000000003", "00000   00000   00000"),
+        link!("PWR0000000000000006000000008"),
+    ];
+    expect(&rt, rt.alloc(), &lines, &[(3, 9), (6, 1), (6, 9)])
 }
 
 /// The publisher of a writer who is not the submitter's may be missing.

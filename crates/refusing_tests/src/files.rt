@@ -15,7 +15,7 @@ use std::test::Fail;
 const SUBMITTER: [u8; 11] = *b"PB000000123";
 
 /// A file of one work without a title, a number and a writer, whose publisher has no party and a territory of another
-/// party, with the indicator X.
+/// party, with the indicator X. Two further territories and two other publishers have no faults.
 fn faulty_file(alloc: Global) -> Result<Vec<u8>, Fail> {
     file_of_lines(
         alloc,
@@ -24,8 +24,12 @@ fn faulty_file(alloc: Global) -> Result<Vec<u8>, Fail> {
             "NWR0000000000000000",
             "SPU0000000000000001",
             "SPT0000000000000002000000009      000000000000000X2136",
-            "GRT000010000000100000005",
-            "TRL000010000000100000007",
+            "SPT0000000000000003               000000000000000I2136",
+            "SPT0000000000000004               000000000000000I0840",
+            "OPU000000000000000502000000005",
+            "OPU000000000000000603000000006",
+            "GRT000010000000100000009",
+            "TRL000010000000100000011",
         ],
     )
 }
