@@ -7,7 +7,7 @@ use std::marker::Model;
 /// A box as its pointer alone, with all that it owns. Who makes a box of it again brings the allocator.
 ///
 /// It cannot be dropped, so the check sees to it that it is made a box or put into a handle.
-pub struct Bare<T> {
+pub(crate) struct Bare<T> {
     pub(crate) at: *mut T,
     pub(crate) ghost value: { T },
 }

@@ -1,9 +1,11 @@
-//! Checks, acknowledgements and audits for C, and for all that calls C: bytes in, bytes out, and nothing kept from one
-//! call to the next.
+//! Checks, acknowledgements, audits and a registry for C, and for all that calls C: bytes in, bytes out.
 //!
 //! Each export calls the library below and states what that call does. `include/purvilgo.h` says to its callers what
 //! they have to keep. A call answers one of the [`status`] numbers, and writes its results through references. Where a
 //! text is longer than the room that is given for it, the call tells how long it is and writes none of it.
+//!
+//! Nothing is kept from one call to the next, but a registry behind a [`Handle`](handle::Handle): a pointer, which a
+//! contract sees as what is behind it. A call takes the registry out, does its work, and puts it back.
 #![tactic(auto)]
 
 mod bare;
