@@ -86,6 +86,7 @@ static int run(struct purvilgo_registry *registry, const char *path, const struc
 /* Runs all files, and keeps the register and then the acknowledgements. */
 static int day(struct purvilgo_registry *registry, const char *kept, const struct purvilgo_stamp *stamp, char **files,
                int count) {
+    struct bytes register_text;
     uint64_t entries = 0;
     int worst = 0;
     for (int i = 0; i < count; i++) {
@@ -95,7 +96,8 @@ static int day(struct purvilgo_registry *registry, const char *kept, const struc
         }
     }
     purvilgo_registry_entries(registry, &entries);
-    if (draft(kept, "", text_of(registry, purvilgo_registry_register, 12 + 192 * entries)) != 0 || take_name(kept, "") != 0)
+    register_text = text_of(registry, purvilgo_registry_register, 12 + 192 * entries);
+    if (draft(kept, "", register_text) != 0 || take_name(kept, "") != 0)
         return 1;
     for (int i = 0; i < count; i++)
         if (files[i] && take_name(files[i], ".ack") != 0)
