@@ -12,6 +12,7 @@ mod bare;
 mod checking;
 mod handing;
 mod handle;
+mod laws;
 mod one_file;
 mod opening;
 mod outcome;
