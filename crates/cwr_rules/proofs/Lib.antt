@@ -9,6 +9,7 @@ pub mod TerritoryLaw
 pub mod Turned
 pub mod Findings
 pub mod OnePass
+pub mod FirstOver
 pub mod NameLaw
 pub mod PartyKeys
 pub mod RecordLaw

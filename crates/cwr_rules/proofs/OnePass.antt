@@ -1,7 +1,6 @@
 -- One line more, from the front, and the end of the lines.
-use Rattle.std.proofs.Common.{◌≡◌, ℕ, ◌<◌, Bool, false, List, [], ◌∷◌, ◌++◌, length, Option, None, refl, sym, ap, subst, ◌∙◌, arith}
+use Rattle.std.proofs.Common.{◌≡◌, ℕ, ◌<◌, Bool, false, List, [], ◌∷◌, ◌++◌, length, Option, refl, sym, ap, subst, ◌∙◌, arith}
 use Rattle.std.proofs.lemmas.List.{length-map}
-use Rattle.std.specs.List.{cons_option}
 use Rattle.cwr_field.specs.Number.{most_count}
 use Rattle.cwr_field.proofs.lemmas.Tests.{neither}
 use Rattle.cwr_rules.specs.declared.finding.Finding.{Finding}
@@ -12,7 +11,6 @@ use Rattle.cwr_rules.specs.declared.totals.Totals.{Totals}
 use Rattle.cwr_rules.specs.Records.{record_of, records_of}
 use Rattle.cwr_rules.specs.Rules.{publishers}
 use Rattle.cwr_rules.specs.SoFar.{IsSoFar, IsWhole, standing, finding, all_findings, some_holds}
-use Rattle.cwr_rules.specs.Totals.{included, codes_of}
 use Rattle.cwr_rules.proofs.Findings.{all_come}
 use Rattle.cwr_rules.proofs.Turned.{turned, length_turned, summary_turned}
 
@@ -42,11 +40,6 @@ whole_from lines all count position sums kept found over findings before same en
       summary = summary_turned sums kept found over (records_of all) k.summary;
       faults_are = ap (λ (fs : List Finding). standing (publishers (records_of all)) fs) k.findings_are ∙ all_come (records_of all);
     }
-
--- a line whose record includes no territory has no code
-pub no_code : (lines rest : List (List ℕ)) (line : List ℕ) → lines ≡ line ∷ rest → included (record_of line) ≡ None → codes_of (records_of lines) ≡ codes_of (records_of rest)
-no_code lines rest line step none =
-    ap (λ (xs : List (List ℕ)). codes_of (records_of xs)) step ∙ ap (λ (o : Option ℕ). cons_option o (codes_of (records_of rest))) none
 
 -- rules none of which holds have no finding
 pub none_found : (k : ℕ) (t : List ℕ) (rules : List (ℕ × Bool × Option (List ℕ))) → some_holds rules ≡ false → all_findings k t rules ≡ []

@@ -1,6 +1,7 @@
 -- What is added up over the records of a transaction.
-use Rattle.std.specs.Prelude.{ℕ, ◌≡◌, ◌<◌, ◌≤◌, ◌^◌, ◌==◌, if◌then◌else◌, Bool, List, [], ◌∷◌, Option, Some, None, unwrap_or}
+use Rattle.std.specs.Prelude.{ℕ, ◌≡◌, ◌<◌, ◌≤◌, ◌^◌, ◌==◌, if◌then◌else◌, Bool, List, [], ◌∷◌, Option, Some, None, nat_eq, unwrap_or}
 use Rattle.std.specs.List.{list_any}
+use Rattle.std.specs.HashMap.{HashMap, get}
 use Rattle.cwr_field.specs.Share.{whole}
 use Rattle.cwr_rules.specs.declared.record.Record.{Record}
 use Rattle.cwr_rules.specs.declared.totals.Totals.{Totals}
@@ -29,6 +30,11 @@ pub record IsCapped (r : Record) : Type 0 where
 abbrev pub AreCapped : List Record → Type 0
 AreCapped [] = Unit {0}
 AreCapped (r ∷ records) = IsCapped r × AreCapped records
+
+-- what is found in a map, where there is one
+abbrev pub kept_at : {S : Type 0} → Option (HashMap ℕ Totals S) → ℕ → Option Totals
+kept_at None code = None
+kept_at (Some map) code = get nat_eq map code
 
 -- what is found where one code is kept beside the others
 abbrev pub found_in : Option (ℕ × Totals) → (ℕ → Option Totals) → ℕ → Option Totals

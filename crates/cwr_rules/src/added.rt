@@ -1,8 +1,6 @@
 ghost use Rattle.std.specs.Prelude.{◌≡◌, IfOk};
-ghost use Rattle.std.specs.BTreeMap.{get};
-ghost use Rattle.std.specs.Ordering.{nat_cmp};
 ghost use Rattle.cwr_rules.specs.Added.{details_of, first_over};
-ghost use Rattle.cwr_rules.specs.Collected.{found_in, IsCollected};
+ghost use Rattle.cwr_rules.specs.Collected.{found_in, kept_at, IsCollected};
 ghost use Rattle.cwr_rules.specs.Records.{records_of};
 ghost use Rattle.cwr_rules.specs.Totals.{included, ownership};
 
@@ -54,7 +52,7 @@ pub fn added_shares<A: Allocator + Copy>(
 
 /// The first territory in which more than the whole is collected.
 fn first_over<A: Allocator + Copy>(collected: &Collected<A>, lines: Lines) -> Option<Over>
-    requires { IsCollected (found_in collected.now.first (get nat_cmp collected.now.by_code)) collected.now.is_over (records_of lines) }
+    requires { IsCollected (found_in collected.now.first (kept_at collected.now.others)) collected.now.is_over (records_of lines) }
     ensures { result ≡ first_over (records_of lines.entry) }
 {
     for line in lines {

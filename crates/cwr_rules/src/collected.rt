@@ -1,41 +1,47 @@
-ghost use Rattle.std.specs.Prelude.{◌≡◌, ◌==◌, if◌then◌else◌, ℕ, [], ◌∷◌, List, Some, OnOk};
-ghost use Rattle.std.specs.BTreeMap.{get};
-ghost use Rattle.std.specs.Ordering.{nat_cmp};
+ghost use Rattle.std.specs.Prelude.{◌≡◌, ◌==◌, if◌then◌else◌, ℕ, [], ◌∷◌, List, Some, OnOk, nat_eq};
+ghost use Rattle.std.specs.HashMap.{get};
 ghost use Rattle.cwr_rules.specs.Totals.{included_in, included, shares_of};
 ghost use Rattle.cwr_rules.specs.declared.record.Record.{Record};
-ghost use Rattle.cwr_rules.specs.Collected.{AreSmall, IsCollected, found_in, value_at};
+ghost use Rattle.cwr_rules.specs.Collected.{AreSmall, IsCollected, found_in, kept_at, value_at};
 
 use crate::record::{Record, Shares, Territory};
 use crate::totals::Totals;
 use cwr_field::Memory;
 use std::alloc::Allocator;
-use std::collections::BTreeMap;
+use std::collections::HashMap;
+use std::hash::{BuildHasherDefault, FoldHasher};
+
+type CodeMap<A> = HashMap<u16, Totals, BuildHasherDefault<FoldHasher>, A>;
 
 /// The collection shares by the codes of their territories, and whether they are above the whole in some territory.
+///
+/// The seed of the map's hash is fixed. A code is at most 9999, so no choice of codes makes the map slow.
 #[derive(Drop)]
 pub(crate) struct Collected<A: Allocator> {
     /// The code that came first, and what is collected there. Most transactions have no other.
     pub(crate) first: Option<(u16, Totals)>,
-    /// The other codes.
-    pub(crate) by_code: BTreeMap<u16, Totals, A>,
+    /// The other codes, where there are any.
+    pub(crate) others: Option<CodeMap<A>>,
     pub(crate) is_over: bool,
+    alloc: A,
 }
 
 impl<A: Allocator + Copy> Collected<A> {
     /// Of no records.
     pub(crate) fn new(alloc: A) -> Collected<A>
-        ensures { IsCollected (found_in result.first (get nat_cmp result.by_code)) result.is_over [] }
+        ensures { IsCollected (found_in result.first (kept_at result.others)) result.is_over [] }
     {
         Collected {
             first: None,
-            by_code: BTreeMap::new(alloc),
+            others: None,
             is_over: false,
+            alloc,
         }
     }
 
     /// What is collected in the territory of a code.
     pub(crate) fn at(&self, code: u16) -> Totals
-        ensures { result ≡ value_at (found_in self.now.first (get nat_cmp self.now.by_code)) code }
+        ensures { result ≡ value_at (found_in self.now.first (kept_at self.now.others)) code }
     {
         match self.first {
             None => self.at_other(code),
@@ -51,18 +57,33 @@ impl<A: Allocator + Copy> Collected<A> {
 
     /// What is collected at a code that did not come first.
     fn at_other(&self, code: u16) -> Totals
-        ensures { result ≡ value_at (get nat_cmp self.now.by_code) code }
+        ensures { result ≡ value_at (kept_at self.now.others) code }
     {
-        match self.by_code.get(&code) {
-            Some(totals) => *totals,
+        match &self.others {
             None => Totals::NONE,
+            Some(map) => match map.get(&code) {
+                Some(totals) => *totals,
+                None => Totals::NONE,
+            },
+        }
+    }
+
+    /// Takes the other codes out, as a map with none where there are none.
+    fn take_others(&mut self) -> CodeMap<A>
+        ensures map { (q : ℕ) → get nat_eq result q ≡ kept_at self.old.others q }
+        ensures first { self.new.first ≡ self.old.first }
+        ensures same { self.new.is_over ≡ self.old.is_over }
+    {
+        match self.others.take() {
+            None => HashMap::new(self.alloc),
+            Some(map) => map,
         }
     }
 
     /// Puts what is collected at a code in the place of what was.
     fn put(&mut self, code: u16, totals: Totals) -> Result<(), Memory>
-        ensures found { OnOk result ((q : ℕ) → found_in self.new.first (get nat_cmp self.new.by_code) q
-            ≡ (if code == q then Some totals else found_in self.old.first (get nat_cmp self.old.by_code) q)) }
+        ensures found { OnOk result ((q : ℕ) → found_in self.new.first (kept_at self.new.others) q
+            ≡ (if code == q then Some totals else found_in self.old.first (kept_at self.old.others) q)) }
         ensures same { OnOk result (self.new.is_over ≡ self.old.is_over) }
     {
         match self.first {
@@ -71,7 +92,9 @@ impl<A: Allocator + Copy> Collected<A> {
                 if first == code {
                     self.first = Some((code, totals));
                 } else {
-                    self.by_code.insert(code, totals)?;
+                    let mut map = self.take_others();
+                    map.insert(code, totals)?;
+                    self.others = Some(map);
                 }
             }
         }
@@ -79,9 +102,9 @@ impl<A: Allocator + Copy> Collected<A> {
     }
 
     fn include(&mut self, code: u16, shares: Shares) -> Result<(), Memory>
-        requires { (q : ℕ) → AreSmall (value_at (found_in self.old.first (get nat_cmp self.old.by_code)) q) }
+        requires { (q : ℕ) → AreSmall (value_at (found_in self.old.first (kept_at self.old.others)) q) }
         ensures { OnOk result ((rest : List Record) (r : Record) → included r ≡ Some code → shares_of r ≡ shares
-            → IsCollected (found_in self.old.first (get nat_cmp self.old.by_code)) self.old.is_over rest → IsCollected (found_in self.new.first (get nat_cmp self.new.by_code)) self.new.is_over (r ∷ rest)) }
+            → IsCollected (found_in self.old.first (kept_at self.old.others)) self.old.is_over rest → IsCollected (found_in self.new.first (kept_at self.new.others)) self.new.is_over (r ∷ rest)) }
     {
         let mut totals = self.at(code);
         totals.add(shares);
@@ -92,9 +115,9 @@ impl<A: Allocator + Copy> Collected<A> {
 
     #[inline(always)]
     fn include_in(&mut self, territory: &Territory, shares: Shares) -> Result<(), Memory>
-        requires { (q : ℕ) → AreSmall (value_at (found_in self.old.first (get nat_cmp self.old.by_code)) q) }
+        requires { (q : ℕ) → AreSmall (value_at (found_in self.old.first (kept_at self.old.others)) q) }
         ensures { OnOk result ((rest : List Record) (r : Record) → included r ≡ included_in territory.now → shares_of r ≡ shares
-            → IsCollected (found_in self.old.first (get nat_cmp self.old.by_code)) self.old.is_over rest → IsCollected (found_in self.new.first (get nat_cmp self.new.by_code)) self.new.is_over (r ∷ rest)) }
+            → IsCollected (found_in self.old.first (kept_at self.old.others)) self.old.is_over rest → IsCollected (found_in self.new.first (kept_at self.new.others)) self.new.is_over (r ∷ rest)) }
     {
         match territory.included() {
             Some(code) => self.include(code, shares)?,
@@ -106,8 +129,8 @@ impl<A: Allocator + Copy> Collected<A> {
     /// Adds a record before those that were added.
     #[inline(always)]
     pub(crate) fn add(&mut self, detail: &Record) -> Result<(), Memory>
-        requires { (q : ℕ) → AreSmall (value_at (found_in self.old.first (get nat_cmp self.old.by_code)) q) }
-        ensures { OnOk result ((rest : List Record) → IsCollected (found_in self.old.first (get nat_cmp self.old.by_code)) self.old.is_over rest → IsCollected (found_in self.new.first (get nat_cmp self.new.by_code)) self.new.is_over (detail.now ∷ rest)) }
+        requires { (q : ℕ) → AreSmall (value_at (found_in self.old.first (kept_at self.old.others)) q) }
+        ensures { OnOk result ((rest : List Record) → IsCollected (found_in self.old.first (kept_at self.old.others)) self.old.is_over rest → IsCollected (found_in self.new.first (kept_at self.new.others)) self.new.is_over (detail.now ∷ rest)) }
     {
         match *detail {
             Record::Spt(_, shares, territory) => self.include_in(&territory, shares)?,

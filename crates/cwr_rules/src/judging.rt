@@ -1,10 +1,8 @@
 ghost use Rattle.std.specs.Prelude.{◌≡◌, List, IsTrue, IfOk};
-ghost use Rattle.std.specs.BTreeMap.{get};
-ghost use Rattle.std.specs.Ordering.{nat_cmp};
 ghost use Rattle.cwr_field.specs.Iswc.{iswc_of};
 ghost use Rattle.cwr_record.specs.Columns.{field_at, work_head_iswc};
 ghost use Rattle.cwr_call.specs.Lawful.{is_clean, is_iswc};
-ghost use Rattle.cwr_rules.specs.Collected.{found_in};
+ghost use Rattle.cwr_rules.specs.Collected.{found_in, kept_at};
 ghost use Rattle.cwr_rules.specs.Calls.{call_of};
 ghost use Rattle.cwr_rules.specs.Head.{has_wrong_iswc, number_in};
 ghost use Rattle.cwr_rules.specs.Faults.{faults_of};
@@ -45,7 +43,7 @@ fn faults_of<A: Allocator + Copy>(
 ) -> Result<Vec<Fault, A>, Memory>
     requires { wrong_iswc ≡ has_wrong_iswc head.now }
     ensures { IfOk result (λ faults. (records : List Record)
-        → IsWhole read.now.summary.sums (kept_in read.now.summary.parties.first read.now.summary.parties.set) (found_in read.now.summary.collected.first (get nat_cmp read.now.summary.collected.by_code)) read.now.summary.collected.is_over read.now.findings.items records
+        → IsWhole read.now.summary.sums (kept_in read.now.summary.parties.first read.now.summary.parties.set) (found_in read.now.summary.collected.first (kept_at read.now.summary.collected.others)) read.now.summary.collected.is_over read.now.findings.items records
         → faults.items ≡ faults_of kind head.now records) }
 {
     let mut faults = Vec::new(alloc);

@@ -1,9 +1,7 @@
 ghost use Rattle.std.specs.Prelude.{◌≡◌, ◌<◌, ◌∷◌, ℕ, [], List, length, OnOk, IfOk};
-ghost use Rattle.std.specs.BTreeMap.{get};
-ghost use Rattle.std.specs.Ordering.{nat_cmp};
 ghost use Rattle.cwr_field.specs.Number.{most_count};
 ghost use Rattle.cwr_rules.specs.declared.record.Record.{Record};
-ghost use Rattle.cwr_rules.specs.Collected.{found_in, AreSmall, AreSmallSums, value_at};
+ghost use Rattle.cwr_rules.specs.Collected.{found_in, kept_at, AreSmall, AreSmallSums, value_at};
 ghost use Rattle.cwr_rules.specs.Records.{record_of, records_of};
 ghost use Rattle.cwr_record.specs.RecordTypes.{type_of};
 ghost use Rattle.cwr_rules.specs.Parties.{kept_in};
@@ -33,7 +31,7 @@ pub(crate) struct SoFar<A: Allocator> {
 impl<A: Allocator + Copy> SoFar<A> {
     /// Before the first record. No memory is asked for.
     fn new(alloc: A) -> SoFar<A>
-        ensures { IsSoFar result.count result.position result.summary.sums (kept_in result.summary.parties.first result.summary.parties.set) (found_in result.summary.collected.first (get nat_cmp result.summary.collected.by_code)) result.summary.collected.is_over result.findings.items [] }
+        ensures { IsSoFar result.count result.position result.summary.sums (kept_in result.summary.parties.first result.summary.parties.set) (found_in result.summary.collected.first (kept_at result.summary.collected.others)) result.summary.collected.is_over result.findings.items [] }
     {
         SoFar {
             count: 0,
@@ -48,10 +46,10 @@ impl<A: Allocator + Copy> SoFar<A> {
     fn add(&mut self, detail: &Record) -> Result<(), Memory>
         requires few { self.old.count < most_count }
         requires sums { AreSmallSums self.old.summary.sums }
-        requires collected { (q : ℕ) → AreSmall (value_at (found_in self.old.summary.collected.first (get nat_cmp self.old.summary.collected.by_code)) q) }
+        requires collected { (q : ℕ) → AreSmall (value_at (found_in self.old.summary.collected.first (kept_at self.old.summary.collected.others)) q) }
         ensures { OnOk result ((before : List Record)
-            → IsSoFar self.old.count self.old.position self.old.summary.sums (kept_in self.old.summary.parties.first self.old.summary.parties.set) (found_in self.old.summary.collected.first (get nat_cmp self.old.summary.collected.by_code)) self.old.summary.collected.is_over self.old.findings.items before
-            → IsSoFar self.new.count self.new.position self.new.summary.sums (kept_in self.new.summary.parties.first self.new.summary.parties.set) (found_in self.new.summary.collected.first (get nat_cmp self.new.summary.collected.by_code)) self.new.summary.collected.is_over self.new.findings.items (detail.now ∷ before)) }
+            → IsSoFar self.old.count self.old.position self.old.summary.sums (kept_in self.old.summary.parties.first self.old.summary.parties.set) (found_in self.old.summary.collected.first (kept_at self.old.summary.collected.others)) self.old.summary.collected.is_over self.old.findings.items before
+            → IsSoFar self.new.count self.new.position self.new.summary.sums (kept_in self.new.summary.parties.first self.new.summary.parties.set) (found_in self.new.summary.collected.first (kept_at self.new.summary.collected.others)) self.new.summary.collected.is_over self.new.findings.items (detail.now ∷ before)) }
     {
         self.count += 1;
         add_findings(
@@ -71,11 +69,11 @@ impl<A: Allocator + Copy> SoFar<A> {
     fn take_as(&mut self, line: &[u8], record_type: RecordType) -> Result<(), Memory>
         requires few { self.old.count < most_count }
         requires sums { AreSmallSums self.old.summary.sums }
-        requires collected { (q : ℕ) → AreSmall (value_at (found_in self.old.summary.collected.first (get nat_cmp self.old.summary.collected.by_code)) q) }
+        requires collected { (q : ℕ) → AreSmall (value_at (found_in self.old.summary.collected.first (kept_at self.old.summary.collected.others)) q) }
         requires read { record_type ≡ type_of line.now }
         ensures { OnOk result ((before : List Record)
-            → IsSoFar self.old.count self.old.position self.old.summary.sums (kept_in self.old.summary.parties.first self.old.summary.parties.set) (found_in self.old.summary.collected.first (get nat_cmp self.old.summary.collected.by_code)) self.old.summary.collected.is_over self.old.findings.items before
-            → IsSoFar self.new.count self.new.position self.new.summary.sums (kept_in self.new.summary.parties.first self.new.summary.parties.set) (found_in self.new.summary.collected.first (get nat_cmp self.new.summary.collected.by_code)) self.new.summary.collected.is_over self.new.findings.items (record_of line.now ∷ before)) }
+            → IsSoFar self.old.count self.old.position self.old.summary.sums (kept_in self.old.summary.parties.first self.old.summary.parties.set) (found_in self.old.summary.collected.first (kept_at self.old.summary.collected.others)) self.old.summary.collected.is_over self.old.findings.items before
+            → IsSoFar self.new.count self.new.position self.new.summary.sums (kept_in self.new.summary.parties.first self.new.summary.parties.set) (found_in self.new.summary.collected.first (kept_at self.new.summary.collected.others)) self.new.summary.collected.is_over self.new.findings.items (record_of line.now ∷ before)) }
     {
         self.add(&record_as(line, record_type))?;
         Ok(())
@@ -85,10 +83,10 @@ impl<A: Allocator + Copy> SoFar<A> {
     fn take(&mut self, line: &[u8]) -> Result<(), Memory>
         requires few { self.old.count < most_count }
         requires sums { AreSmallSums self.old.summary.sums }
-        requires collected { (q : ℕ) → AreSmall (value_at (found_in self.old.summary.collected.first (get nat_cmp self.old.summary.collected.by_code)) q) }
+        requires collected { (q : ℕ) → AreSmall (value_at (found_in self.old.summary.collected.first (kept_at self.old.summary.collected.others)) q) }
         ensures { OnOk result ((before : List Record)
-            → IsSoFar self.old.count self.old.position self.old.summary.sums (kept_in self.old.summary.parties.first self.old.summary.parties.set) (found_in self.old.summary.collected.first (get nat_cmp self.old.summary.collected.by_code)) self.old.summary.collected.is_over self.old.findings.items before
-            → IsSoFar self.new.count self.new.position self.new.summary.sums (kept_in self.new.summary.parties.first self.new.summary.parties.set) (found_in self.new.summary.collected.first (get nat_cmp self.new.summary.collected.by_code)) self.new.summary.collected.is_over self.new.findings.items (record_of line.now ∷ before)) }
+            → IsSoFar self.old.count self.old.position self.old.summary.sums (kept_in self.old.summary.parties.first self.old.summary.parties.set) (found_in self.old.summary.collected.first (kept_at self.old.summary.collected.others)) self.old.summary.collected.is_over self.old.findings.items before
+            → IsSoFar self.new.count self.new.position self.new.summary.sums (kept_in self.new.summary.parties.first self.new.summary.parties.set) (found_in self.new.summary.collected.first (kept_at self.new.summary.collected.others)) self.new.summary.collected.is_over self.new.findings.items (record_of line.now ∷ before)) }
     {
         match type_of(line) {
             RecordType::Spu => self.take_as(line, RecordType::Spu)?,
@@ -109,7 +107,7 @@ impl<A: Allocator + Copy> SoFar<A> {
 /// Goes over the lines of a transaction's details once.
 pub(crate) fn read_details<A: Allocator + Copy>(alloc: A, lines: Lines) -> Result<SoFar<A>, Memory>
     requires { length lines < most_count }
-    ensures { IfOk result (λ s. IsWhole s.summary.sums (kept_in s.summary.parties.first s.summary.parties.set) (found_in s.summary.collected.first (get nat_cmp s.summary.collected.by_code)) s.summary.collected.is_over s.findings.items (records_of lines.entry)) }
+    ensures { IfOk result (λ s. IsWhole s.summary.sums (kept_in s.summary.parties.first s.summary.parties.set) (found_in s.summary.collected.first (kept_at s.summary.collected.others)) s.summary.collected.is_over s.findings.items (records_of lines.entry)) }
 {
     let mut so_far = SoFar::new(alloc);
     for line in lines {

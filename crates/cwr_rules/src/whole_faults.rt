@@ -1,9 +1,7 @@
 ghost use Rattle.std.specs.Prelude.{◌≡◌, ◌++◌, List, OnOk};
-ghost use Rattle.std.specs.BTreeMap.{get};
-ghost use Rattle.std.specs.Ordering.{nat_cmp};
 ghost use Rattle.cwr_record.specs.Columns.{field_at, work_head_copyright_date, work_head_duration};
 ghost use Rattle.cwr_record.specs.Kinds.{work_kind_code};
-ghost use Rattle.cwr_rules.specs.Collected.{found_in};
+ghost use Rattle.cwr_rules.specs.Collected.{found_in, kept_at};
 ghost use Rattle.cwr_rules.specs.declared.record.Record.{Record};
 ghost use Rattle.cwr_rules.specs.Head.{has_no_title, has_no_number, has_wrong_iswc, has_wrong_date, is_copyright_date, is_duration, is_off};
 ghost use Rattle.cwr_rules.specs.Faults.{all_found, head_rules};
@@ -70,7 +68,7 @@ pub(crate) fn push_faults_of_whole<A: Allocator + Copy>(
     summary: &Summary<A>,
 ) -> Result<(), Memory>
     requires { wrong_iswc ≡ has_wrong_iswc head.now }
-    ensures { OnOk result ((records : List Record) → IsSummary summary.now.sums (kept_in summary.now.parties.first summary.now.parties.set) (found_in summary.now.collected.first (get nat_cmp summary.now.collected.by_code)) summary.now.collected.is_over records
+    ensures { OnOk result ((records : List Record) → IsSummary summary.now.sums (kept_in summary.now.parties.first summary.now.parties.set) (found_in summary.now.collected.first (kept_at summary.now.collected.others)) summary.now.collected.is_over records
         → faults.new.items ≡ faults.old.items ++ all_found 0 (work_kind_code kind) (head_rules head.now records)) }
 {
     let rtype = *kind.code();
