@@ -7,7 +7,7 @@ ghost use Rattle.cwr_rules.specs.Totals.{included, ownership};
 use crate::collected::Collected;
 use crate::reading::{parts, record_of};
 use crate::record::Record;
-use crate::so_far::read_details;
+use crate::so_far::SoFar;
 use crate::totals::Totals;
 use cwr_field::Memory;
 use cwr_grammar::{Lines, RawTransaction};
@@ -42,7 +42,8 @@ pub fn added_shares<A: Allocator + Copy>(
     ensures over { IfOk result (λ added. added.over ≡ first_over (details_of transaction.now)) }
 {
     let (_, details) = parts(transaction);
-    let read = read_details(alloc, details)?;
+    let mut read = SoFar::new(alloc);
+    read.take_all(details)?;
     let (_, again) = parts(transaction);
     Ok(AddedShares {
         ownership: read.summary.sums.ownership,

@@ -11,7 +11,7 @@ ghost use Rattle.cwr_rules.specs.SoFar.{IsWhole};
 ghost use Rattle.cwr_rules.specs.declared.record.Record.{Record};
 
 use crate::reading::parts;
-use crate::so_far::{SoFar, read_details};
+use crate::so_far::SoFar;
 use crate::standing::push_standing;
 use crate::whole_faults::push_faults_of_whole;
 use cwr_call::{Call, Fault, Faults};
@@ -67,7 +67,8 @@ pub fn judge<A: Allocator + Copy>(
 {
     let (head, details) = parts(transaction);
     let kind = transaction.kind();
-    let read = read_details(alloc, details)?;
+    let mut read = SoFar::new(alloc);
+    read.take_all(details)?;
     let (wrong_iswc, iswc) = work_iswc(head);
     let faults = faults_of(alloc, kind, head, wrong_iswc, &read)?;
     let control = read.summary.sums.control;

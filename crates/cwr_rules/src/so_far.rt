@@ -1,4 +1,4 @@
-ghost use Rattle.std.specs.Prelude.{◌≡◌, ◌<◌, ◌∷◌, ℕ, [], List, length, OnOk, IfOk};
+ghost use Rattle.std.specs.Prelude.{◌≡◌, ◌<◌, ◌∷◌, ℕ, [], List, length, OnOk};
 ghost use Rattle.cwr_field.specs.Number.{most_count};
 ghost use Rattle.cwr_rules.specs.declared.record.Record.{Record};
 ghost use Rattle.cwr_rules.specs.Collected.{found_in, kept_at, AreSmall, AreSmallSums, value_at};
@@ -30,7 +30,7 @@ pub(crate) struct SoFar<A: Allocator> {
 
 impl<A: Allocator + Copy> SoFar<A> {
     /// Before the first record. No memory is asked for.
-    fn new(alloc: A) -> SoFar<A>
+    pub(crate) fn new(alloc: A) -> SoFar<A>
         ensures { IsSoFar result.count result.position result.summary.sums (kept_in result.summary.parties.first result.summary.parties.set) (found_in result.summary.collected.first (kept_at result.summary.collected.others)) result.summary.collected.is_over result.findings.items [] }
     {
         SoFar {
@@ -102,16 +102,16 @@ impl<A: Allocator + Copy> SoFar<A> {
         }
         Ok(())
     }
-}
 
-/// Goes over the lines of a transaction's details once.
-pub(crate) fn read_details<A: Allocator + Copy>(alloc: A, lines: Lines) -> Result<SoFar<A>, Memory>
-    requires { length lines < most_count }
-    ensures { IfOk result (λ s. IsWhole s.summary.sums (kept_in s.summary.parties.first s.summary.parties.set) (found_in s.summary.collected.first (kept_at s.summary.collected.others)) s.summary.collected.is_over s.findings.items (records_of lines.entry)) }
-{
-    let mut so_far = SoFar::new(alloc);
-    for line in lines {
-        so_far.take(line)?;
+    /// Goes over the lines of a transaction's details, before which no record was read.
+    pub(crate) fn take_all(&mut self, lines: Lines) -> Result<(), Memory>
+        requires few { length lines < most_count }
+        requires fresh { IsSoFar self.old.count self.old.position self.old.summary.sums (kept_in self.old.summary.parties.first self.old.summary.parties.set) (found_in self.old.summary.collected.first (kept_at self.old.summary.collected.others)) self.old.summary.collected.is_over self.old.findings.items [] }
+        ensures { OnOk result (IsWhole self.new.summary.sums (kept_in self.new.summary.parties.first self.new.summary.parties.set) (found_in self.new.summary.collected.first (kept_at self.new.summary.collected.others)) self.new.summary.collected.is_over self.new.findings.items (records_of lines.entry)) }
+    {
+        for line in lines {
+            self.take(line)?;
+        }
+        Ok(())
     }
-    Ok(so_far)
 }
