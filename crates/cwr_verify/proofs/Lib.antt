@@ -1,3 +1,4 @@
 pub mod Owning
 pub mod Checked
 pub mod Files
+pub mod Telling

@@ -1,4 +1,5 @@
 pub mod Sent
 pub mod Owned
 pub mod Verified
+pub mod Told
 pub mod Home

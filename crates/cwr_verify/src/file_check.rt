@@ -1,6 +1,7 @@
 //! One file against the entries that it is said to own.
-ghost use Rattle.std.specs.Prelude.{◌≡◌, ℕ, [], false, length, IsTrue, OnOk};
+ghost use Rattle.std.specs.Prelude.{◌≡◌, ℕ, [], false, length, IfErr, IsTrue, OnOk};
 ghost use Rattle.cwr_verify.specs.Owned.{owned};
+ghost use Rattle.cwr_verify.specs.Told.{IsSo, IsToldOf};
 ghost use Rattle.cwr_verify.specs.Verified.{IsAnsweredBy};
 
 use crate::past::Past;
@@ -27,7 +28,8 @@ pub(crate) fn check_file<A: Allocator + Copy + Drop>(
     file: &SentFile,
 ) -> Result<(), Unverified>
     requires { length owners.now ≡ length book.now.history }
-    ensures { OnOk result (IsAnsweredBy file.now (owned number owners.now book.now.history)) }
+    ensures answered { OnOk result (IsAnsweredBy file.now (owned number owners.now book.now.history)) }
+    ensures told { IfErr result (λ told. IsToldOf number file.now told) }
 {
     let Some(stamp) = stamp_in(file.acknowledgement) else {
         return Err(Unverified::Acknowledgement {
@@ -55,9 +57,12 @@ fn unanswered<A: Allocator + Copy>(
     file: &SentFile,
     outcome: FileOutcome,
     written: &[u8],
-) -> Unverified {
+) -> Unverified
+    requires { IsSo file.now.text outcome }
+    ensures { IsToldOf number file.now result }
+{
     match outcome {
-        FileOutcome::Acked { transactions: _ } => other_line(number, written, file.acknowledgement),
+        FileOutcome::Acked { transactions: _ } => other_line(number, file, written),
         FileOutcome::Refused {
             number: fault,
             line,
@@ -81,7 +86,8 @@ fn work_again<A: Allocator + Copy + Drop>(
     requires begins { past.at ≡ 0 }
     requires empty { writer.old.taken ≡ [] }
     requires works { writer.old.has_failed ≡ false }
-    ensures { (count : ℕ) → result.0 ≡ FileOutcome.Acked count → IsTrue result.1
+    ensures so { IsSo text.now result.0 }
+    ensures answered { (count : ℕ) → result.0 ≡ FileOutcome.Acked count → IsTrue result.1
         → IsAnsweredBy (record { text = text.now; acknowledgement = writer.new.taken }) (owned past.entry.file past.entry.owners.now past.entry.book.now.history) }
 {
     let mut reader = Feed::new(text, MOST_BYTES, None);
@@ -97,22 +103,22 @@ fn stopped<A: Allocator + Copy>(
     handed: u32,
     why: Why,
     written: &[u8],
-) -> Unverified {
+) -> Unverified
+    requires { IsSo file.now.text (FileOutcome.Stopped handed why) }
+    ensures { IsToldOf number file.now result }
+{
     match why {
         Why::TooLong => Unverified::TooLong { file: number },
         Why::Full => missing(alloc, number, file, handed),
-        Why::Write { sent: _ } => other_line(number, written, file.acknowledgement),
+        Why::Write { sent: _ } => other_line(number, file, written),
         Why::Memory | Why::Read | Why::Gate => Unverified::Memory,
     }
 }
 
 /// The transaction that no entry answers, so many having come before it.
-fn missing<A: Allocator + Copy>(
-    alloc: A,
-    number: usize,
-    file: &SentFile,
-    before: u32,
-) -> Unverified {
+fn missing<A: Allocator + Copy>(alloc: A, number: usize, file: &SentFile, before: u32) -> Unverified
+    ensures { IsToldOf number file.now result }
+{
     let Ok(submission) = parse_file(alloc, file.text) else {
         return Unverified::Memory;
     };
@@ -126,8 +132,11 @@ fn missing<A: Allocator + Copy>(
     }
 }
 
-/// The first line of an acknowledgement that is not as it was written anew.
-fn other_line(number: usize, written: &[u8], acknowledgement: &[u8]) -> Unverified {
+/// The first line of a file's acknowledgement that is not as it was written anew.
+fn other_line(number: usize, file: &SentFile, written: &[u8]) -> Unverified
+    ensures { IsToldOf number file.now result }
+{
+    let acknowledgement = file.acknowledgement;
     let same = written
         .iter()
         .zip(acknowledgement)

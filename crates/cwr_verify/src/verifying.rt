@@ -1,4 +1,5 @@
-ghost use Rattle.std.specs.Prelude.{IfOk};
+ghost use Rattle.std.specs.Prelude.{IfErr, IfOk};
+ghost use Rattle.cwr_verify.specs.Told.{IsTold};
 ghost use Rattle.cwr_verify.specs.Verified.{AreAnswered};
 
 use crate::file_check::check_file;
@@ -24,7 +25,8 @@ pub fn verify<A: Allocator + Copy + Drop>(
     book: &Book<A>,
     files: &[SentFile],
 ) -> Result<Vec<usize, A>, Unverified>
-    ensures { IfOk result (λ owners. AreAnswered owners.items book.now.history files.now) }
+    ensures answered { IfOk result (λ owners. AreAnswered owners.items book.now.history files.now) }
+    ensures told { IfErr result (λ told. IsTold files.now told) }
 {
     let owners = match proposed(alloc, book.history(), files) {
         Ok(owners) => owners,

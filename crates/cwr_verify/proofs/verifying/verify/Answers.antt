@@ -6,12 +6,15 @@ use Rattle.cwr_verify.proofs.verifying.verify.Goals as goal
 pub loop-number-preserved : goal.loop-number-preserved
 loop-number-preserved g c =
     next_file c.in-Ok.owners.items c.deref.result.now c.args.book.now.history c.args.files.now c.loop-number.number c.index-files-number.result
-    c.loop-number.invariant c.loop-number-test.true c.index-files-number.is c.deref.ensures.value c.in_ok-check_file.ensures
+    c.loop-number.invariant c.loop-number-test.true c.index-files-number.is c.deref.ensures.value c.in_ok-check_file.ensures.answered
 
 pub returns : goal.returns
 returns g c =
     let past = c.loop-number-test.false in
     record {
-      each_entry = c.in-Ok.ensures ∙ ap (λ (h : List EntryValue). length h) c.history.ensures.entries;
-      each_file = λ file d lt. c.loop-number.invariant file d (omega (arith, past, lt));
+      answered = record {
+        each_entry = c.in-Ok.ensures ∙ ap (λ (h : List EntryValue). length h) c.history.ensures.entries;
+        each_file = λ file d lt. c.loop-number.invariant file d (omega (arith, past, lt));
+      };
+      told = tt;
     }
