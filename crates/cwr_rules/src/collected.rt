@@ -126,7 +126,7 @@ impl<A: Allocator + Copy> Collected<A> {
         Ok(())
     }
 
-    /// Adds a record before those that were added.
+    /// Adds a record to those that were added.
     #[inline(always)]
     pub(crate) fn add(&mut self, detail: &Record) -> Result<(), Memory>
         requires { (q : ℕ) → AreSmall (value_at (found_in self.old.first (kept_at self.old.others)) q) }

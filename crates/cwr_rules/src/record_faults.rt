@@ -67,10 +67,10 @@ fn push_record_findings<A: Allocator>(
         → findings.new.items ≡ findings.old.items ++ all_findings sequence (name_of detail) (rules_so_far before detail)) }
 {
     let rtype = detail.name();
-    let is_late = position.is_out_of_order(&detail);
+    let is_misplaced = position.is_out_of_order(&detail);
     let is_other = position.is_of_another_party(&detail);
     let publisher = link_publisher(&detail);
-    push_finding(findings, sequence, rtype, 1, is_late, None)?;
+    push_finding(findings, sequence, rtype, 1, is_misplaced, None)?;
     push_finding(findings, sequence, rtype, 6, detail.has_wrong_share(), None)?;
     push_finding(findings, sequence, rtype, 7, detail.is_nameless(), None)?;
     push_finding(findings, sequence, rtype, 8, is_other, None)?;

@@ -27,7 +27,7 @@ impl Sums {
         }
     }
 
-    /// Adds a record before those that were added.
+    /// Adds a record to those that were added.
     #[inline(always)]
     pub(crate) fn add(&mut self, detail: &Record)
         requires { AreSmallSums self.old }
