@@ -1,7 +1,7 @@
 -- The first control byte, 32 bytes at a time.
 use Rattle.std.proofs.Common.{◌≡◌, ℕ, zero, suc, ◌+◌, ◌-◌, ◌≤◌, ◌<◌, ◌^◌, ◌%◌, ltb, eqb, Bool, true, false, cond, List, [], ◌∷◌, length, map, take, drop, get_or, replicate, Some, None, arith, refl, sym, ap, ◌∙◌, w8, ⊎_elim}
 use Rattle.std.specs.List.{position_or_len, position}
-use Rattle.std.proofs.lemmas.Simd.{bitmask_splat, leading_from_mask_l, trailing_mask_l, run_in_chunk_fails, run_in_chunk_stops}
+use Rattle.std.proofs.lemmas.Simd.{bitmask_splat, leading_from_mask_l, trailing_mask_l, run_in_chunk_fails, run_in_chunk_stops, none_from_empty_mask}
 use Rattle.std.proofs.lemmas.List.{length-take, length-drop}
 use Rattle.std.proofs.lemmas.List.Sums.{position_or_len_is, prefix_len-le-length}
 use Rattle.std.proofs.lemmas.Bool.Decides.{nat_tests}
@@ -27,7 +27,7 @@ chunk_length : (text : List ℕ) (at : ℕ) → at + 32 ≤ length text → leng
 chunk_length text at le = omega (arith, le, length-take 32 (drop at text), length-drop at text)
 
 mask_is : (xs : List ℕ) → length xs ≡ 32 → mask_of xs ≡ mask_l (map is_control xs)
-mask_is xs e = bitmask_splat w8 ltb xs least_printable 32 e (omega arith)
+mask_is xs e = bitmask_splat w8 ltb xs 32 least_printable e (omega arith)
 
 pub zero_mask : (text : List ℕ) (at : ℕ) → at + 32 ≤ length text → mask_of (take 32 (drop at text)) ≡ 0 → 32 ≡ position_or_len is_control (take 32 (drop at text))
 zero_mask text at le e =
@@ -47,6 +47,22 @@ some_mask text at le some =
 passes_before : (text : List ℕ) (at n : ℕ) → ((k : ℕ) → at ≤ k → k < at + n → is_control (get_or text k 0) ≡ false) → ((k : ℕ) → k < at → is_control (get_or text k 0) ≡ false)
     → (k : ℕ) → k < at + n → is_control (get_or text k 0) ≡ false
 passes_before text at n here before k lt = ⊎_elim (λ l. before k l) (λ ge. here k ge lt) (cases_lt k at)
+
+is_empty : (mask : ℕ) → not (eqb mask 0) ≡ false → mask ≡ 0
+is_empty mask e = grind (arith, nat_tests)
+
+-- where no lane of 64 bytes tells one, no byte of them is a control byte
+pub none_in_block : (text : List ℕ) (at : ℕ) → at + 64 ≤ length text
+    → not (eqb (mask_l (map (top (hbits w8)) (zip2 (λ a b. cond (ltb a b) (2 ^ bits w8 - 1) 0) (take 64 (drop at text)) (replicate 64 least_printable))) % 2 ^ 64) 0) ≡ false
+    → (k : ℕ) → at ≤ k → k < at + 64 → is_control (get_or text k 0) ≡ false
+none_in_block text at le e k low high =
+    let long : length (take 64 (drop at text)) ≡ 64 = omega (arith, le, length-take 64 (drop at text), length-drop at text) in
+    none_from_empty_mask is_control text at 64 0 le (sym (bitmask_splat w8 ltb (take 64 (drop at text)) 64 least_printable long (omega arith)) ∙ is_empty _ e) k low high
+
+-- no control byte in one block more
+pub block_passes : (text : List ℕ) (at : ℕ) → ((k : ℕ) → at ≤ k → k < at + 64 → is_control (get_or text k 0) ≡ false) → ((k : ℕ) → k < at → is_control (get_or text k 0) ≡ false)
+    → (k : ℕ) → k < at + 64 → is_control (get_or text k 0) ≡ false
+block_passes text at here before k lt = passes_before text at 64 here before k lt
 
 -- no control byte in one chunk more
 pub chunk_passes : (text : List ℕ) (at n : ℕ) → at + 32 ≤ length text → n ≡ position_or_len is_control (take 32 (drop at text)) → 32 ≤ n → ((k : ℕ) → k < at → is_control (get_or text k 0) ≡ false)

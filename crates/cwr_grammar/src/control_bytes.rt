@@ -1,4 +1,4 @@
-ghost use Rattle.std.specs.Prelude.{◌≡◌, ◌+◌, ◌≤◌, ◌<◌, ℕ, false, length, take, drop, slice_index};
+ghost use Rattle.std.specs.Prelude.{◌≡◌, ◌+◌, ◌≤◌, ◌<◌, ◌^◌, ℕ, true, false, length, take, drop, slice_index};
 ghost use Rattle.std.specs.List.{position_or_len};
 ghost use Rattle.cwr_field.specs.Layout.{is_control};
 
@@ -16,11 +16,24 @@ fn before_control(text: &[u8], at: usize) -> u32
     if mask == 0 { 32 } else { mask.trailing_zeros() }
 }
 
+/// Whether some of 64 bytes is a control byte.
+fn has_control_in(text: &[u8], at: usize) -> bool
+    requires { at + 64 ≤ length text.now }
+    ensures { result ≡ false → (k : ℕ) → at ≤ k → k < at + 64 → is_control (slice_index text.now k) ≡ false }
+{
+    u8x64::from_slice(&text[at..])
+        .simd_lt(u8x64::splat(LEAST_PRINTABLE))
+        .any()
+}
+
 /// The index of the first control byte, or the length.
 pub(crate) fn first_control(text: &[u8]) -> usize
     ensures { result ≡ position_or_len is_control text.now }
 {
     let mut at = 0;
+    while text.len() - at >= 64 && !has_control_in(text, at) {
+        at += 64;
+    }
     while text.len() - at >= 32 {
         let before = before_control(text, at);
         if before < 32 {
