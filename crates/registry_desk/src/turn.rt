@@ -155,12 +155,16 @@ impl<A: Allocator + Copy + Drop> Desk<A> {
         let backoff = Backoff::new();
         let mut looks: u32 = 0;
         for _ in rt.forever() {
-            match self.look_or_sleep(rt, waiting, place, looks < FEW_LOOKS) {
+            let awake = looks < FEW_LOOKS;
+            match self.look_or_sleep(rt, waiting, place, awake) {
                 Looked::Yours(inside) => return inside,
                 Looked::NotYet(still) => waiting = still,
             }
-            looks = looks.saturating_add(1);
-            backoff.spin();
+            // Who was woken looks at once.
+            if awake {
+                looks += 1;
+                backoff.spin();
+            }
         }
         unreachable!()
     }
