@@ -1,5 +1,7 @@
 -- Jobs worked at one desk.
 use Rattle.std.specs.Prelude.{◌≡◌, ◌≢◌, ℕ, ◌+◌, ◌≤◌, Bool, false, List, [], ◌∷◌, ◌++◌, reverse, All, Vec, vec_len, vec_capacity}
+use Rattle.byte_streams.specs.declared.sink.Sink.{Ghosts as SinkOf}
+use Rattle.byte_streams.specs.declared.source.Source.{Ghosts as SourceOf}
 use Rattle.work_registry.specs.EntryValue.{EntryValue}
 use Rattle.registry_desk.specs.Standing.{DeskId, Standing}
 use Rattle.registry_desk.specs.declared.view.Met.{Met}
@@ -22,13 +24,13 @@ Ran P limit session (j ∷ js) (k ∷ ks) (o ∷ os) before after =
 
 -- what it asks to work a job: a seat of this desk, not the opening one, that has taken no turn; a reader and a writer
 -- that have not failed
-pub record MayWork {R W : Type 0} (read_failed : R → Bool) (write_failed : W → Bool) (desk : DeskId) (seat : Standing) (job : Job R W) : Type 0 where
+pub record MayWork {R W : Type 0} (source : SourceOf R) (sink : SinkOf W) (desk : DeskId) (seat : Standing) (job : Job R W) : Type 0 where
   pub ours : seat.desk ≡ desk
   pub guest : seat.view.session ≢ 0
   pub turns : seat.view.turns ≡ 0
   pub list : seat.view.list ≡ []
-  pub reads : read_failed job.reader ≡ false
-  pub writes : write_failed job.writer ≡ false
+  pub reads : source.has_failed job.reader ≡ false
+  pub writes : sink.has_failed job.writer ≡ false
 
 -- what that leaves: the seat, which tells the job's entries and the history that it saw last, with which the job has its
 -- account
@@ -41,12 +43,12 @@ pub record HasWorked {J : Type 0} (P : J → J → FileOutcome → Bool → List
 
 -- what it asks to work jobs: the opening seat of this desk, with a seat left for each; readers and writers that have not
 -- failed; and room for the outcomes, of which there are none yet
-pub record MayRun {R W Z : Type 0} (read_failed : R → Bool) (write_failed : W → Bool) (desk : DeskId) (opening : Standing)
+pub record MayRun {R W Z : Type 0} (source : SourceOf R) (sink : SinkOf W) (desk : DeskId) (opening : Standing)
     (jobs : Vec (Job R W) Z) (outcomes : Vec FileOutcome Z) : Type 0 where
   pub ours : opening.desk ≡ desk
   pub session : opening.view.session ≡ 0
   pub seats : vec_len jobs ≤ opening.view.left
-  pub works : All (λ j. (read_failed j.reader ≡ false) × (write_failed j.writer ≡ false)) jobs.items
+  pub works : All (λ j. (source.has_failed j.reader ≡ false) × (sink.has_failed j.writer ≡ false)) jobs.items
   pub none : outcomes.items ≡ []
   pub room : vec_len jobs ≤ vec_capacity outcomes
 

@@ -39,7 +39,7 @@ pub fn serve<
     requires few { vec_len jobs < 64 }
     requires opening { is_opening book.history ≡ true }
     requires works { All (λ j. (R.has_failed j.reader ≡ false) × (W.has_failed j.writer ≡ false)) jobs.items }
-    ensures run { IfOk result (λ run. IsRun (JobAccount R.has_failed W.has_failed R.left R.reads W.taken stamp.now (G.may_shut gate.now))
+    ensures run { IfOk result (λ run. IsRun (JobAccount R.Source W.Sink stamp.now (G.may_shut gate.now))
         book run.book jobs.items run.jobs.items run.outcomes.items) }
     ensures back { IfErr result (λ back. (back.book ≡ book) × (back.jobs.items ≡ jobs.items)) }
 {
@@ -86,8 +86,8 @@ fn serve_from<
     stamp: &Stamp,
     gate: &G,
 ) -> (Seat<A>, Vec<Job<R, W>, A>, Vec<FileOutcome, A>)
-    requires ready { MayRun R.has_failed W.has_failed desk.now opening jobs outcomes }
-    ensures ran { HaveRun (JobAccount R.has_failed W.has_failed R.left R.reads W.taken stamp.now (G.may_shut gate.now))
+    requires ready { MayRun R.Source W.Sink desk.now opening jobs outcomes }
+    ensures ran { HaveRun (JobAccount R.Source W.Sink stamp.now (G.may_shut gate.now))
         desk.now opening result.0 jobs result.1 outcomes result.2 }
 {
     match jobs.pop() {
@@ -97,13 +97,13 @@ fn serve_from<
             let ((seat, job, outcome), (mut opening, mut jobs, mut outcomes)) = join(
                 rt,
                 move || -> (Seat<A>, Job<R, W>, FileOutcome)
-                    requires { MayWork R.has_failed W.has_failed desk.now seat job }
-                    ensures { HasWorked (JobAccount R.has_failed W.has_failed R.left R.reads W.taken stamp.entry.now (G.may_shut gate.entry.now))
+                    requires { MayWork R.Source W.Sink desk.now seat job }
+                    ensures { HasWorked (JobAccount R.Source W.Sink stamp.entry.now (G.may_shut gate.entry.now))
                         desk.entry.now seat result.0 job result.1 result.2 }
                 { work_job(rt, alloc, desk, seat, job, stamp, gate) },
                 move || -> (Seat<A>, Vec<Job<R, W>, A>, Vec<FileOutcome, A>)
-                    requires { IsSync T.row × IsSync G.row × MayRun R.has_failed W.has_failed desk.now opening jobs outcomes }
-                    ensures { HaveRun (JobAccount R.has_failed W.has_failed R.left R.reads W.taken stamp.entry.now (G.may_shut gate.entry.now))
+                    requires { IsSync T.row × IsSync G.row × MayRun R.Source W.Sink desk.now opening jobs outcomes }
+                    ensures { HaveRun (JobAccount R.Source W.Sink stamp.entry.now (G.may_shut gate.entry.now))
                         desk.entry.now opening result.0 jobs result.1 outcomes result.2 }
                 { serve_from(rt, alloc, desk, opening, jobs, outcomes, stamp, gate) },
             );

@@ -1,7 +1,7 @@
 //! One job at a seat of the running desk.
 ghost use Rattle.std.specs.Prelude.{◌≡◌, ◌≢◌, ◌≤◌, ◌+◌, Some, false};
 ghost use Rattle.registry_desk.specs.Views.{most_turns};
-ghost use Rattle.cwr_engine.specs.Account.{JobAccount, ends_of};
+ghost use Rattle.cwr_engine.specs.Account.{JobAccount, ends_of, read_ends, write_ends};
 ghost use Rattle.cwr_engine.specs.Causes.{ends_full, marked_by};
 ghost use Rattle.cwr_engine.specs.Handing.{IsWorked, most_handed};
 ghost use Rattle.cwr_desk.specs.Ran.{MayWork, HasWorked};
@@ -46,8 +46,8 @@ pub fn work<T: Wait, R: Source, W: Sink, G: Gate, A: Allocator + Copy + Drop>(
     ensures session { result.0.view.session ≡ seat.view.session }
     ensures limit { result.0.view.limit ≡ seat.view.limit }
     ensures marked { Some result.0.view.marked ≡ marked_by (ends_full result.1) (Some seat.view.marked) }
-    ensures worked { IsWorked seat.view.session (ends_of R.has_failed W.has_failed R.left R.reads W.taken reader.old reader.new
-        writer.old writer.new (saw_full seat.view.limit result.0.view.front) (G.may_shut gate.now)) stamp.now result.1 (entries_of seat.view) (entries_of result.0.view) }
+    ensures worked { IsWorked seat.view.session (ends_of (read_ends R.Source reader.old reader.new) (write_ends W.Sink writer.old writer.new)
+        (saw_full seat.view.limit result.0.view.front) (G.may_shut gate.now)) stamp.now result.1 (entries_of seat.view) (entries_of result.0.view) }
 {
     let window = AtDesk { rt, desk, seat };
     let (window, outcome) = work_file(alloc, window, gate, worker, reader, writer, stamp);
@@ -75,8 +75,8 @@ pub(crate) fn work_job<
     stamp: &Stamp,
     gate: &G,
 ) -> (Seat<A>, Job<R, W>, FileOutcome)
-    requires ready { MayWork R.has_failed W.has_failed desk.now seat job }
-    ensures worked { HasWorked (JobAccount R.has_failed W.has_failed R.left R.reads W.taken stamp.now (G.may_shut gate.now))
+    requires ready { MayWork R.Source W.Sink desk.now seat job }
+    ensures worked { HasWorked (JobAccount R.Source W.Sink stamp.now (G.may_shut gate.now))
         desk.now seat result.0 job result.1 result.2 }
 {
     let worker = seat.session();

@@ -1,5 +1,5 @@
 -- A call that was refused, and whether the book is full.
-use Rattle.std.proofs.Common.{◌≡◌, ◌↔◌, ◌≤◌, true, false, nat_le, length, refl, sym, subst, arith}
+use Rattle.std.proofs.Common.{◌≡◌, ◌↔◌, ◌≤◌, true, false, length, refl, sym, subst, arith}
 use Rattle.std.proofs.lemmas.Bool.Decides.{nat_tests}
 use Rattle.work_registry.specs.BookValue.{BookValue}
 use Rattle.work_registry.specs.Refusals.{is_for_limit}

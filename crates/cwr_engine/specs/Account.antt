@@ -4,6 +4,8 @@ use Rattle.std.specs.Prelude.{◌≡◌, ℕ, ◌+◌, ◌≤◌, ◌<◌, Bool,
 use Rattle.std.specs.Io.KnownBytes.{Appends}
 use Rattle.std.specs.Str.Lines.{lines}
 use Rattle.byte_streams.specs.GivenBytes.{HasGiven}
+use Rattle.byte_streams.specs.declared.sink.Sink.{Ghosts as SinkOf}
+use Rattle.byte_streams.specs.declared.source.Source.{Ghosts as SourceOf}
 use Rattle.cwr_record.specs.Layout.{StandsFor}
 use Rattle.cwr_record.specs.Stamp.{StampParts}
 use Rattle.cwr_record.specs.Control as table
@@ -45,6 +47,20 @@ pub record Ends : Type 0 where
   pub full : Bool
   -- the gate may shut
   pub may_shut : Bool
+
+-- what the reader shows of them
+pub record ReadEnds : Type 0 where
+  pub left_before : Option (List ℕ)
+  pub left_after : Option (List ℕ)
+  pub reads_before : ℕ
+  pub reads_after : ℕ
+  pub read_failed : Bool
+
+-- what the writer shows of them
+pub record WriteEnds : Type 0 where
+  pub taken_before : Option (List ℕ)
+  pub taken_after : Option (List ℕ)
+  pub write_failed : Bool
 
 -- the text is a well-formed file, no longer than a file may be, with this header and these transactions
 pub record IsRead (input : List ℕ) (head : Header) (transactions : List RawParts) : Type 0 where
@@ -125,24 +141,43 @@ pub record IsAccount (ends : Ends) (stamp : StampParts) (outcome : FileOutcome) 
   pub appended : Appends ends.taken_before ends.taken_after written
   pub account : Account ends stamp input outcome written made
 
--- What the ends of a job show, from what its reader and its writer were and are. What these show (a failure, the bytes
--- left or taken) is given by functions, so that it serves every kind of reader and writer.
-abbrev pub ends_of : {R W : Type 0} → (R → Bool) → (W → Bool) → (R → Option (List ℕ)) → (R → ℕ) → (W → Option (List ℕ)) → R → R → W → W → Bool → Bool → Ends
-ends_of read_failed write_failed left reads taken reader_before reader_after writer_before writer_after full may_shut = record {
-  left_before = left reader_before;
-  left_after = left reader_after;
-  reads_before = reads reader_before;
-  reads_after = reads reader_after;
-  taken_before = taken writer_before;
-  taken_after = taken writer_after;
-  read_failed = read_failed reader_after;
-  write_failed = write_failed writer_after;
+-- What a reader shows of a job's ends, from what it was and what it is, and what its trait tells of one: the bytes left,
+-- the reads, a failure.
+abbrev pub read_ends : {R : Type 0} → SourceOf R → R → R → ReadEnds
+read_ends source before after = record {
+  left_before = source.left before;
+  left_after = source.left after;
+  reads_before = source.reads before;
+  reads_after = source.reads after;
+  read_failed = source.has_failed after;
+}
+
+-- the same of a writer: the bytes taken, a failure
+abbrev pub write_ends : {W : Type 0} → SinkOf W → W → W → WriteEnds
+write_ends sink before after = record {
+  taken_before = sink.taken before;
+  taken_after = sink.taken after;
+  write_failed = sink.has_failed after;
+}
+
+-- what the ends of a job show, from what its reader and its writer show, whether the history is full, and whether the
+-- gate may shut
+abbrev pub ends_of : ReadEnds → WriteEnds → Bool → Bool → Ends
+ends_of reader writer full may_shut = record {
+  left_before = reader.left_before;
+  left_after = reader.left_after;
+  reads_before = reader.reads_before;
+  reads_after = reader.reads_after;
+  taken_before = writer.taken_before;
+  taken_after = writer.taken_after;
+  read_failed = reader.read_failed;
+  write_failed = writer.write_failed;
   full = full;
   may_shut = may_shut;
 }
 
--- the account of a job, from what it was and what it is
-abbrev pub JobAccount : {R W : Type 0} → (R → Bool) → (W → Bool) → (R → Option (List ℕ)) → (R → ℕ) → (W → Option (List ℕ)) → StampParts → Bool
-    → Job R W → Job R W → FileOutcome → Bool → List EntryValue → Type 0
-JobAccount read_failed write_failed left reads taken stamp may_shut before after outcome full made =
-    IsAccount (ends_of read_failed write_failed left reads taken before.reader after.reader before.writer after.writer full may_shut) stamp outcome made
+-- The account of a job, from what it was and what it is. `source` and `sink` are what the traits of its reader and its
+-- writer tell of one, so that it serves every kind of reader and writer.
+abbrev pub JobAccount : {R W : Type 0} → SourceOf R → SinkOf W → StampParts → Bool → Job R W → Job R W → FileOutcome → Bool → List EntryValue → Type 0
+JobAccount source sink stamp may_shut before after outcome full made =
+    IsAccount (ends_of (read_ends source before.reader after.reader) (write_ends sink before.writer after.writer) full may_shut) stamp outcome made

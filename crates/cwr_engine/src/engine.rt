@@ -6,7 +6,7 @@ ghost use Rattle.cwr_acknowledgement.specs.Acknowledgement.{FitsItem};
 ghost use Rattle.cwr_grammar.specs.RawParts.{IsPlaced};
 ghost use Rattle.cwr_grammar.specs.Submitted.{IsBounded};
 ghost use Rattle.cwr_call.specs.Lawful.{is_clean};
-ghost use Rattle.cwr_engine.specs.Account.{most, Ends, IsRead, ends_of};
+ghost use Rattle.cwr_engine.specs.Account.{most, Ends, IsRead, ends_of, read_ends, write_ends};
 ghost use Rattle.cwr_engine.specs.Causes.{cause_of, ends_full, is_for_full, marked_by, IsCause};
 ghost use Rattle.cwr_engine.specs.Handing.{AreAnswered, IsWorked, most_handed};
 
@@ -138,8 +138,8 @@ pub fn work_file<H: Window<Call<A>>, G: Gate, R: Source, W: Sink, A: Allocator +
     ensures limit { H.limit result.0 ≡ H.limit window }
     ensures home { H.home result.0 ≡ H.home window }
     ensures marked { H.mark result.0 ≡ marked_by (ends_full result.1) (H.mark window) }
-    ensures worked { IsWorked (H.session window) (ends_of R.has_failed W.has_failed R.left R.reads W.taken reader.old reader.new
-        writer.old writer.new (H.full result.0) (G.may_shut gate.now)) stamp.now result.1 (H.entries window) (H.entries result.0) }
+    ensures worked { IsWorked (H.session window) (ends_of (read_ends R.Source reader.old reader.new) (write_ends W.Sink writer.old writer.new)
+        (H.full result.0) (G.may_shut gate.now)) stamp.now result.1 (H.entries window) (H.entries result.0) }
 {
     let text = match read_file(alloc, reader, MOST_BYTES) {
         Ok(text) => text,

@@ -28,7 +28,7 @@ pub fn serve_in_turn<R: Source + Drop, W: Sink + Drop, A: Allocator + Copy + Dro
     requires few { vec_len jobs < 64 }
     requires opening { is_opening book.history ≡ true }
     requires works { All (λ j. (R.has_failed j.reader ≡ false) × (W.has_failed j.writer ≡ false)) jobs.items }
-    ensures run { IfOk result (λ run. IsRun (JobAccount R.has_failed W.has_failed R.left R.reads W.taken stamp.now false)
+    ensures run { IfOk result (λ run. IsRun (JobAccount R.Source W.Sink stamp.now false)
         book run.book jobs.items run.jobs.items run.outcomes.items) }
     ensures in_turn { IfOk result (λ run. InTurn book.limit run.book.history 1 book.history run.outcomes.items) }
     ensures back { IfErr result (λ back. (back.book ≡ book) × (back.jobs.items ≡ jobs.items)) }
@@ -62,7 +62,7 @@ fn turn_from<R: Source + Drop, W: Sink + Drop, A: Allocator + Copy + Drop>(
     requires works { All (λ j. (R.has_failed j.reader ≡ false) × (W.has_failed j.writer ≡ false)) jobs.items }
     requires none { outcomes.items ≡ [] }
     requires room { vec_len jobs ≤ vec_capacity outcomes }
-    ensures took { TookTurns (JobAccount R.has_failed W.has_failed R.left R.reads W.taken stamp.now false)
+    ensures took { TookTurns (JobAccount R.Source W.Sink stamp.now false)
         session (reverse jobs.items) (reverse result.1.items) (reverse result.2.items) book result.0 }
     ensures jobs { (vec_len result.1 ≡ vec_len jobs) × (vec_capacity jobs ≤ vec_capacity result.1) }
     ensures outcomes { (vec_len result.2 ≡ vec_len jobs) × (vec_capacity outcomes ≤ vec_capacity result.2) }
@@ -103,7 +103,7 @@ pub fn work_alone<R: Source + Drop, W: Sink + Drop, A: Allocator + Copy + Drop>(
 ) -> (Book<A>, Job<R, W>, FileOutcome)
     requires few { session ≤ 63 }
     requires works { (R.has_failed job.reader ≡ false) × (W.has_failed job.writer ≡ false) }
-    ensures { IsWorkedAlone (JobAccount R.has_failed W.has_failed R.left R.reads W.taken stamp.now false)
+    ensures { IsWorkedAlone (JobAccount R.Source W.Sink stamp.now false)
         session book result.0 job result.1 result.2 }
 {
     let window = Own { book, session };

@@ -26,7 +26,7 @@ pub fn acknowledge<R: Source, W: Sink, A: Allocator + Copy + Drop>(
 ) -> FileOutcome
     requires reads { R.has_failed reader.old ≡ false }
     requires writes { W.has_failed writer.old ≡ false }
-    ensures { IsWorkedFirst (JobAccount R.has_failed W.has_failed R.left R.reads W.taken stamp.now false)
+    ensures { IsWorkedFirst (JobAccount R.Source W.Sink stamp.now false)
         (record { reader = reader.old; writer = writer.old }) (record { reader = reader.new; writer = writer.new }) result }
 {
     let window = Own {

@@ -13,7 +13,7 @@ serve_from-opening-requires g c =
     c.reverse.ensures.permutation c.requires.works in
     let o = c.in-Ok-open.ensures.opened in
     let turned = c.reverse.ensures.len in
-    let ready : MayRun g.R.Source.has_failed g.W.Sink.has_failed c.in-Ok-open.opened.0 c.in-Ok-open.opened.1 c.reverse.new.self c.in-Ok.outcomes = record {
+    let ready : MayRun g.R.Source g.W.Sink c.in-Ok-open.opened.0 c.in-Ok-open.opened.1 c.reverse.new.self c.in-Ok.outcomes = record {
       ours = ap (λ (s : Standing). s.desk) o;
       session = ap (λ (s : Standing). s.view.session) o;
       seats = let left = ap (λ (s : Standing). s.view.left) o in omega (arith, left, turned, c.len-2.ensures);
@@ -25,7 +25,7 @@ serve_from-opening-requires g c =
 
 pub close-book-requires-clause-met : goal.close-book-requires-clause-met
 close-book-requires-clause-met g c =
-    let P = JobAccount g.R.Source.has_failed g.W.Sink.has_failed g.R.Source.left g.R.Source.reads g.W.Sink.taken c.args.stamp.now (g.G.Gate.may_shut c.args.gate.now) in
+    let P = JobAccount g.R.Source g.W.Sink c.args.stamp.now (g.G.Gate.may_shut c.args.gate.now) in
     let o = c.in-Ok-open.ensures.opened in
     let e = c.serve_from-opening.ensures.ran in
     let given : c.in-Ok-open.opened.1.view.given ≡ 0 = ap (λ (s : Standing). s.view.given) o in
@@ -41,7 +41,7 @@ close-book-requires-clause-met g c =
 
 pub returns-clause-run : goal.returns-clause-run
 returns-clause-run g c =
-    let P = JobAccount g.R.Source.has_failed g.W.Sink.has_failed g.R.Source.left g.R.Source.reads g.W.Sink.taken c.args.stamp.now (g.G.Gate.may_shut c.args.gate.now) in
+    let P = JobAccount g.R.Source g.W.Sink c.args.stamp.now (g.G.Gate.may_shut c.args.gate.now) in
     let o = c.in-Ok-open.ensures.opened in
     let e = c.serve_from-opening.ensures.ran in
     let given : c.in-Ok-open.opened.1.view.given ≡ 0 = ap (λ (s : Standing). s.view.given) o in

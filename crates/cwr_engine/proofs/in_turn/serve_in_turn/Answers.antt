@@ -1,4 +1,4 @@
-use Rattle.std.proofs.Common.{◌≡◌, false}
+use Rattle.std.proofs.Common.{false}
 use Rattle.cwr_engine.specs.Account.{JobAccount}
 use Rattle.cwr_engine.proofs.lemmas.FullHistory.{account_full, account_found}
 use Rattle.cwr_engine.proofs.Turns.{whole_turns, turned_round}
@@ -6,7 +6,7 @@ use Rattle.cwr_engine.proofs.in_turn.serve_in_turn.Goals as goal
 
 pub returns-clause-run : goal.returns-clause-run
 returns-clause-run g c =
-    let P = JobAccount g.R.Source.has_failed g.W.Sink.has_failed g.R.Source.left g.R.Source.reads g.W.Sink.taken c.args.stamp.now false in
+    let P = JobAccount g.R.Source g.W.Sink c.args.stamp.now false in
     let took = turned_round P c.args.jobs.items c.reverse-2.new.self.items c.reverse.new.self.items c.turn_from-book.result.1.items c.reverse-3.new.self.items
     c.turn_from-book.result.2.items _ _ c.reverse.ensures.items c.reverse-2.ensures.items c.reverse-3.ensures.items c.turn_from-book.ensures.took in
     (whole_turns P (λ j k o a b l h r. account_full _ _ _ _ _ _ _ _ _ a b _ o l h r) (λ j k o a l f r. account_found _ _ o l f r) c.args.book c.turn_from-book.result.0 _ _ _ c.requires.opening
@@ -14,7 +14,7 @@ returns-clause-run g c =
 
 pub returns-clause-in_turn : goal.returns-clause-in_turn
 returns-clause-in_turn g c =
-    let P = JobAccount g.R.Source.has_failed g.W.Sink.has_failed g.R.Source.left g.R.Source.reads g.W.Sink.taken c.args.stamp.now false in
+    let P = JobAccount g.R.Source g.W.Sink c.args.stamp.now false in
     let took = turned_round P c.args.jobs.items c.reverse-2.new.self.items c.reverse.new.self.items c.turn_from-book.result.1.items c.reverse-3.new.self.items
     c.turn_from-book.result.2.items _ _ c.reverse.ensures.items c.reverse-2.ensures.items c.reverse-3.ensures.items c.turn_from-book.ensures.took in
     (whole_turns P (λ j k o a b l h r. account_full _ _ _ _ _ _ _ _ _ a b _ o l h r) (λ j k o a l f r. account_found _ _ o l f r) c.args.book c.turn_from-book.result.0 _ _ _ c.requires.opening
