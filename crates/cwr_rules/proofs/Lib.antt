@@ -10,6 +10,7 @@ pub mod Turned
 pub mod Findings
 pub mod OnePass
 pub mod FirstOver
+pub mod Lines
 pub mod NameLaw
 pub mod PartyKeys
 pub mod RecordLaw

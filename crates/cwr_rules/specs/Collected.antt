@@ -1,7 +1,8 @@
 -- What is added up over the records of a transaction.
-use Rattle.std.specs.Prelude.{ℕ, ◌≡◌, ◌<◌, ◌≤◌, ◌^◌, ◌==◌, if◌then◌else◌, Bool, List, [], ◌∷◌, Option, Some, None, nat_eq, unwrap_or}
+use Rattle.std.specs.Prelude.{ℕ, ◌≡◌, ◌<◌, ◌≤◌, ◌^◌, ◌==◌, if◌then◌else◌, Bool, List, [], ◌∷◌, Option, Some, None, nat_eq, option_map, unwrap_or}
 use Rattle.std.specs.List.{list_any}
-use Rattle.std.specs.HashMap.{HashMap, get}
+use Rattle.std.specs.HashMap.{HashMap}
+use Rattle.std.specs.Map.{lookup}
 use Rattle.cwr_field.specs.Share.{whole}
 use Rattle.cwr_rules.specs.declared.record.Record.{Record}
 use Rattle.cwr_rules.specs.declared.totals.Totals.{Totals}
@@ -31,10 +32,18 @@ abbrev pub AreCapped : List Record → Type 0
 AreCapped [] = Unit {0}
 AreCapped (r ∷ records) = IsCapped r × AreCapped records
 
+-- the entries of a map, where there is one
+abbrev pub entries_in : {S : Type 0} → Option (HashMap ℕ Totals S) → Option (List (ℕ × Totals))
+entries_in map = option_map (λ m. m.entries) map
+
+-- what is found among entries, where there are some
+abbrev pub found_among : Option (List (ℕ × Totals)) → ℕ → Option Totals
+found_among None code = None
+found_among (Some entries) code = lookup (nat_eq code) entries
+
 -- what is found in a map, where there is one
 abbrev pub kept_at : {S : Type 0} → Option (HashMap ℕ Totals S) → ℕ → Option Totals
-kept_at None code = None
-kept_at (Some map) code = get nat_eq map code
+kept_at map code = found_among (entries_in map) code
 
 -- what is found where one code is kept beside the others
 abbrev pub found_in : Option (ℕ × Totals) → (ℕ → Option Totals) → ℕ → Option Totals

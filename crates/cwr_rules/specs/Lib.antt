@@ -4,6 +4,7 @@ pub mod Totals
 pub mod LastBlock
 pub mod Rules
 pub mod Head
+pub mod Header
 pub mod Faults
 pub mod Holds
 pub mod Calls
@@ -12,5 +13,6 @@ pub mod Parties
 pub mod Collected
 pub mod Summary
 pub mod SoFar
+pub mod Judging
 pub mod OfRecords
 pub mod Added

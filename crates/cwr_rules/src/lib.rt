@@ -1,14 +1,17 @@
 //! The rules that a transaction of a CWR 2.2 submission is judged by.
 //!
 //! [`judge`] reads a transaction's lines and gives its [`Call`]: who submits which work under which number, with how
-//! large a control of each right, and every fault of the rules J1 to J15, in rising order. For who is to mend it,
+//! large a control of each right, and every fault of the rules J1 to J15, in rising order. A [`Judge`] gives the same of
+//! lines that come one by one. For who is to mend it,
 //! [`added_shares`] tells what its shares add up to, and [`is_copyright_date`] and [`is_duration`] which of the two is
 //! wrong. [`laws`] says of the definitions what they mean.
 #![tactic(auto)]
 
 mod added;
+mod by_line;
 mod collected;
 mod finding;
+mod header;
 mod judging;
 mod last_block;
 pub mod laws;
@@ -26,10 +29,11 @@ mod totals;
 mod whole_faults;
 
 pub use added::{AddedShares, Over, added_shares};
+pub use by_line::Judge;
 pub use cwr_call::{Call, Fault, Faults};
 pub use cwr_field::Memory;
 pub use cwr_grammar::RawTransaction;
-pub use cwr_record::WorkKind;
+pub use cwr_record::{RecordType, WorkKind};
+pub use header::{is_copyright_date, is_duration};
 pub use judging::judge;
 pub use totals::Totals;
-pub use whole_faults::{is_copyright_date, is_duration};

@@ -22,8 +22,8 @@ use std::alloc::Allocator;
 #[derive(Drop)]
 pub(crate) struct SoFar<A: Allocator> {
     /// How many were read.
-    count: u32,
-    position: Position,
+    pub(crate) count: u32,
+    pub(crate) position: Position,
     pub(crate) summary: Summary<A>,
     pub(crate) findings: Vec<Finding, A>,
 }
@@ -79,16 +79,17 @@ impl<A: Allocator + Copy> SoFar<A> {
         Ok(())
     }
 
-    /// Goes past a line. Each type that the rules know has its own code.
-    fn take(&mut self, line: &[u8]) -> Result<(), Memory>
+    /// Goes past a line, of this record type. Each type that the rules know has its own code.
+    pub(crate) fn take(&mut self, line: &[u8], record_type: RecordType) -> Result<(), Memory>
         requires few { self.old.count < most_count }
         requires sums { AreSmallSums self.old.summary.sums }
         requires collected { (q : ℕ) → AreSmall (value_at (found_in self.old.summary.collected.first (kept_at self.old.summary.collected.others)) q) }
+        requires read { record_type ≡ type_of line.now }
         ensures { OnOk result ((before : List Record)
             → IsSoFar self.old.count self.old.position self.old.summary.sums (kept_in self.old.summary.parties.first self.old.summary.parties.set) (found_in self.old.summary.collected.first (kept_at self.old.summary.collected.others)) self.old.summary.collected.is_over self.old.findings.items before
             → IsSoFar self.new.count self.new.position self.new.summary.sums (kept_in self.new.summary.parties.first self.new.summary.parties.set) (found_in self.new.summary.collected.first (kept_at self.new.summary.collected.others)) self.new.summary.collected.is_over self.new.findings.items (record_of line.now ∷ before)) }
     {
-        match type_of(line) {
+        match record_type {
             RecordType::Spu => self.take_as(line, RecordType::Spu)?,
             RecordType::Opu => self.take_as(line, RecordType::Opu)?,
             RecordType::Spt => self.take_as(line, RecordType::Spt)?,
@@ -110,7 +111,7 @@ impl<A: Allocator + Copy> SoFar<A> {
         ensures { OnOk result (IsWhole self.new.summary.sums (kept_in self.new.summary.parties.first self.new.summary.parties.set) (found_in self.new.summary.collected.first (kept_at self.new.summary.collected.others)) self.new.summary.collected.is_over self.new.findings.items (records_of lines.entry)) }
     {
         for line in lines {
-            self.take(line)?;
+            self.take(line, type_of(line))?;
         }
         Ok(())
     }

@@ -1,0 +1,120 @@
+ghost use Rattle.std.specs.Prelude.{◌≡◌, ◌∷◌, ◌++◌, ◌≤◌, ℕ, [], List, length, IsTrue, IfOk, OnOk};
+ghost use Rattle.cwr_call.specs.Lawful.{is_clean};
+ghost use Rattle.cwr_field.specs.Number.{most_count};
+ghost use Rattle.cwr_grammar.specs.RawParts.{RawParts};
+ghost use Rattle.cwr_record.specs.RecordTypes.{type_of};
+ghost use Rattle.cwr_record.specs.declared.works.WorkKind.{WorkKind};
+ghost use Rattle.cwr_rules.specs.Collected.{found_in, kept_at};
+ghost use Rattle.cwr_rules.specs.Calls.{call_of};
+ghost use Rattle.cwr_rules.specs.Faults.{faults_of};
+ghost use Rattle.cwr_rules.specs.Header.{header_of};
+ghost use Rattle.cwr_rules.specs.Judging.{IsJudging};
+ghost use Rattle.cwr_rules.specs.Parties.{kept_in};
+ghost use Rattle.cwr_rules.specs.SoFar.{IsWhole};
+ghost use Rattle.cwr_rules.specs.declared.record.Record.{Record};
+
+use crate::header::Header;
+use crate::so_far::SoFar;
+use crate::standing::push_standing;
+use crate::whole_faults::push_faults_of_whole;
+use cwr_call::{Call, Fault, Faults};
+use cwr_field::Memory;
+use cwr_record::{RecordType, WorkKind};
+use std::alloc::{Allocator, Global};
+use std::marker::Model;
+
+/// A transaction that is judged while its lines come: first the header's, then each detail's.
+///
+/// It borrows no line. After an error it tells nothing any more.
+#[derive(Drop)]
+pub struct Judge<A: Allocator = Global> {
+    header: Header,
+    read: SoFar<A>,
+    alloc: A,
+}
+
+impl<A: Allocator> Model for Judge<A> {
+    ghost use Rattle.cwr_rules.specs.Collected.{entries_in};
+    ghost use Rattle.cwr_rules.specs.Judging.{JudgeState};
+
+    ghost Value = { JudgeState };
+
+    ghost view = { λ j. record {
+      header = j.header;
+      count = j.read.count;
+      position = j.read.position;
+      sums = j.read.summary.sums;
+      first_party = j.read.summary.parties.first;
+      parties = j.read.summary.parties.set.keys;
+      first_code = j.read.summary.collected.first;
+      codes = entries_in j.read.summary.collected.others;
+      is_over = j.read.summary.collected.is_over;
+      findings = j.read.findings.items;
+    } };
+}
+
+impl<A: Allocator + Copy> Judge<A> {
+    /// Begins at the header's line. No memory is asked for.
+    pub fn begin(alloc: A, kind: WorkKind, head: &[u8]) -> Judge<A>
+        requires clean { IsTrue (is_clean head.now) }
+        ensures { IsJudging result kind (head.now ∷ []) }
+    {
+        Judge {
+            header: Header::of(kind, head),
+            read: SoFar::new(alloc),
+            alloc,
+        }
+    }
+
+    /// Goes past a detail's line, of this record type.
+    pub fn take(&mut self, line: &[u8], record_type: RecordType) -> Result<(), Memory>
+        requires open { (kind : WorkKind) × (lines : List (List ℕ)) × IsJudging self.old kind lines × (length lines ≤ most_count) }
+        requires read { record_type ≡ type_of line.now }
+        ensures { OnOk result ((kind : WorkKind) (lines : List (List ℕ)) → IsJudging self.old kind lines → IsJudging self.new kind (lines ++ line.now ∷ [])) }
+    {
+        self.read.take(line, record_type)?;
+        Ok(())
+    }
+
+    /// The call of the transaction whose lines were taken. Memory is asked for only where it has faults.
+    pub fn end(&self, submitter: [u8; 11]) -> Result<Call<A>, Memory>
+        requires clean { IsTrue (is_clean submitter) }
+        requires open { (kind : WorkKind) × (lines : List (List ℕ)) × IsJudging self.now kind lines × (length lines ≤ most_count) }
+        ensures { IfOk result (λ call. (transaction : RawParts) → IsJudging self.now transaction.kind transaction.lines → call ≡ call_of submitter transaction) }
+    {
+        let header = self.header;
+        let faults = faults_of(self.alloc, &self.header, &self.read)?;
+        let control = self.read.summary.sums.control;
+        let call = Call::of_lawful(
+            submitter,
+            header.kind,
+            header.title,
+            header.number,
+            header.iswc,
+            [
+                control.performing,
+                control.mechanical,
+                control.synchronization,
+            ],
+            Faults::new(faults),
+        );
+        Ok(call)
+    }
+}
+
+/// All faults of a transaction, in order. Memory is asked for only where there is one.
+fn faults_of<A: Allocator + Copy>(
+    alloc: A,
+    header: &Header,
+    read: &SoFar<A>,
+) -> Result<Vec<Fault, A>, Memory>
+    ensures { IfOk result (λ faults. (kind : WorkKind) (head : List ℕ) (records : List Record)
+        → header.now ≡ header_of kind head
+        → IsWhole read.now.summary.sums (kept_in read.now.summary.parties.first read.now.summary.parties.set) (found_in read.now.summary.collected.first (kept_at read.now.summary.collected.others)) read.now.summary.collected.is_over read.now.findings.items records
+        → faults.items ≡ faults_of kind head records) }
+{
+    let mut faults = Vec::new(alloc);
+    push_faults_of_whole(&mut faults, header, &read.summary)?;
+    push_standing(&mut faults, &read.summary.parties, &read.findings)?;
+    Ok(faults)
+}

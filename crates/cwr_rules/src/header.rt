@@ -1,0 +1,98 @@
+ghost use Rattle.std.specs.Prelude.{◌≡◌, IsTrue};
+ghost use Rattle.cwr_field.specs.Iswc.{iswc_of};
+ghost use Rattle.cwr_call.specs.Lawful.{is_iswc};
+ghost use Rattle.cwr_record.specs.Columns.{field_at, work_head_copyright_date, work_head_duration, work_head_iswc};
+ghost use Rattle.cwr_rules.specs.Head.{has_no_title, has_no_number, has_wrong_iswc, has_wrong_date, is_copyright_date, is_duration, number_in};
+ghost use Rattle.cwr_rules.specs.Header.{header_of};
+
+use cwr_field::{Iswc, date, is_blank, iswc, time};
+use cwr_record::{WorkHead, WorkKind, field_at, is_no_day};
+
+/// What the call and the rules need of a header's line.
+#[derive(Clone, Copy)]
+pub(crate) struct Header {
+    pub(crate) kind: WorkKind,
+    pub(crate) title: [u8; 60],
+    /// The submitter's number of the work.
+    pub(crate) number: [u8; 14],
+    /// The number of the ISWC, `None` where it is blank or wrong.
+    pub(crate) iswc: Option<u64>,
+    /// The title is blank (J2).
+    pub(crate) has_no_title: bool,
+    /// The submitter's number is blank (J3).
+    pub(crate) has_no_number: bool,
+    /// The ISWC is neither blank nor valid (J4).
+    pub(crate) has_wrong_iswc: bool,
+    /// The copyright date or the duration is wrong (J5).
+    pub(crate) has_wrong_date: bool,
+}
+
+impl Header {
+    /// Of a header's line.
+    pub(crate) fn of(kind: WorkKind, head: &[u8]) -> Header
+        ensures value { result ≡ header_of kind head.now }
+        ensures nine_digits { IsTrue (is_iswc result.iswc) }
+    {
+        let (has_wrong_iswc, iswc) = work_iswc(head);
+        Header {
+            kind,
+            title: field_at(head, WorkHead::TITLE).bytes(),
+            number: field_at(head, WorkHead::SUBMITTER_NUMBER).bytes(),
+            iswc,
+            has_no_title: has_no_title(head),
+            has_no_number: has_no_number(head),
+            has_wrong_iswc,
+            has_wrong_date: has_wrong_date(head),
+        }
+    }
+}
+
+/// Whether the ISWC is neither blank nor valid (J4), and its number, `None` where it is blank or wrong.
+fn work_iswc(head: &[u8]) -> (bool, Option<u64>)
+    ensures wrong { result.0 ≡ has_wrong_iswc head.now }
+    ensures value { result.1 ≡ number_in (iswc_of (field_at head.now work_head_iswc)) }
+    ensures nine_digits { IsTrue (is_iswc result.1) }
+{
+    match iswc(field_at(head, WorkHead::ISWC)) {
+        Iswc::Valid(number) => (false, Some(number)),
+        Iswc::Blank => (false, None),
+        Iswc::Wrong => (true, None),
+    }
+}
+
+/// Whether the title is blank (J2).
+fn has_no_title(head: &[u8]) -> bool
+    ensures { result ≡ has_no_title head.now }
+{
+    is_blank(field_at(head, WorkHead::TITLE))
+}
+
+/// Whether the submitter work number is blank (J3).
+fn has_no_number(head: &[u8]) -> bool
+    ensures { result ≡ has_no_number head.now }
+{
+    is_blank(field_at(head, WorkHead::SUBMITTER_NUMBER))
+}
+
+/// Whether the copyright date of a header's line is blank, zeros or a day, as rule J5 asks.
+pub fn is_copyright_date(head: &[u8]) -> bool
+    ensures { result ≡ is_copyright_date (field_at head.now work_head_copyright_date) }
+{
+    let text = field_at(head, WorkHead::COPYRIGHT_DATE);
+    is_no_day(&text) || date(text).is_some()
+}
+
+/// Whether the duration of a header's line is blank or a time, as rule J5 asks.
+pub fn is_duration(head: &[u8]) -> bool
+    ensures { result ≡ is_duration (field_at head.now work_head_duration) }
+{
+    let text = field_at(head, WorkHead::DURATION);
+    text.is_blank() || time(text).is_some()
+}
+
+/// Whether the copyright date or the duration is wrong (J5).
+fn has_wrong_date(head: &[u8]) -> bool
+    ensures { result ≡ has_wrong_date head.now }
+{
+    !(is_copyright_date(head) && is_duration(head))
+}
