@@ -1,7 +1,9 @@
 //! A transaction in a file of its own, judged.
 
-use cwr_grammar::parse_file;
-use cwr_rules::{Call, Fault, WorkKind, judge};
+use cwr_grammar::{RawTransaction, parse_file};
+use cwr_record::type_of;
+use cwr_rules::{Call, Fault, Judge, WorkKind, judge};
+use cwr_sheets::same;
 use std::alloc::Global;
 use std::process::Abort;
 use std::test::Fail;
@@ -10,7 +12,37 @@ use std::test::Fail;
 const HEADER: &str =
     "HDRPB000000123PUBLISHER A                                  01.102024050112000020240501";
 
-/// The call of the transaction of these lines, as the one transaction of a file.
+/// The call of a judge that took the lines of a transaction one by one.
+fn taken(alloc: Global, transaction: &RawTransaction) -> Result<Call, Fail> {
+    let mut lines = transaction.lines();
+    let Some(head) = lines.next() else {
+        return Err(Fail::new("no line"));
+    };
+    let mut read = Judge::begin(alloc, transaction.kind(), head);
+    for line in lines {
+        read.take(line, type_of(line))?;
+    }
+    Ok(read.end(*b"PB000000123")?)
+}
+
+/// Two calls must be the same.
+fn same_calls(found: &Call, wanted: &Call) -> Result<(), Fail> {
+    same(
+        "submitter, kind and number",
+        &(found.submitter(), found.kind(), found.number()),
+        &(wanted.submitter(), wanted.kind(), wanted.number()),
+    )?;
+    same("title", &found.title(), &wanted.title())?;
+    same(
+        "work code and control",
+        &(found.iswc(), found.control()),
+        &(wanted.iswc(), wanted.control()),
+    )?;
+    same("faults", &found.faults(), &wanted.faults())
+}
+
+/// The call of the transaction of these lines, as the one transaction of a file. A judge that takes the lines one by one
+/// must give the same.
 pub(crate) fn judged(alloc: Global, lines: &[&str], kind: WorkKind) -> Result<Call, Fail> {
     let name = match kind {
         WorkKind::Nwr => "NWR",
@@ -24,7 +56,9 @@ pub(crate) fn judged(alloc: Global, lines: &[&str], kind: WorkKind) -> Result<Ca
     )?;
     let submission = parse_file(alloc, file.as_bytes())?;
     let transaction = submission.transactions.get(0).ok_or("no transaction")?;
-    Ok(judge(alloc, &transaction, *b"PB000000123")?)
+    let call = judge(alloc, &transaction, *b"PB000000123")?;
+    same_calls(&taken(alloc, &transaction)?, &call)?;
+    Ok(call)
 }
 
 /// Whether a fault has the type of the record with its sequence: the first three bytes of that line.
