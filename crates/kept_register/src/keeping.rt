@@ -1,6 +1,6 @@
 ghost use Rattle.std.specs.Prelude.{◌≡◌, ◌≤◌, ◌⊎◌, Some, true, false, length, take, IfSome, IfErr, IsErr, IsErrOf, OnOk};
 ghost use Rattle.kept_file.specs.Names.{Names, with_file};
-ghost use Rattle.kept_file.specs.Looking.{Only};
+ghost use Rattle.kept_file.specs.Looking.{Only, Becomes, Stays};
 ghost use Rattle.kept_file.specs.Keeping.{FileFirst, SinceThen, Leads, MayFollow, AreFollowing};
 ghost use Rattle.work_registry.specs.Register.{register_text};
 ghost use Rattle.kept_file.specs.declared.failed.NotKept.{NotKept};
@@ -48,6 +48,9 @@ pub fn keep_register<P: Place, A: Allocator + Copy + Drop>(
     // At `Ok` each acknowledgement is in place, or it is told that it is not; else none is.
     ensures each { OnOk result (Leads (λ s t. AreFollowing (length s.waiting) (record s { names = with_file (register_text book.now.history) s.names; draft = register_text book.now.history }) t) (P.told place.old) (P.told place.new)) }
     ensures withheld { IsErr result → IfSome (P.told place.old) (λ s. SinceThen (P.found place.old) (P.found place.new) (λ c. c.followers ≡ s.names.followers)) }
+
+    // Where memory was refused, nothing was written: what is told of the place and what may be found is as it was.
+    ensures unwritten { IsErrOf result RegisterNotKept.Memory → Becomes (λ s. s) (P.told place.old) (P.told place.new) × Stays (P.may_find place.old) (P.may_find place.new) }
 
     // Of a register that was not kept, just so many bytes went into the draft. It does not give up by itself.
     ensures sent { IfErr result (λ e. (n : NotKept) → e ≡ RegisterNotKept.Stopped n → (n.sent ≤ length (register_text book.now.history)) × Leads (λ s t. t.draft ≡ take n.sent (register_text book.now.history)) (P.told place.old) (P.told place.new)) }
