@@ -1,8 +1,10 @@
 //! Jobs one after the other.
+ghost use Rattle.std.specs.Prelude.{◌≡◌, ◌<◌, All, false, length, true, vec_len};
+ghost use Rattle.work_registry.specs.Replay.{is_opening};
 
 use crate::ends::{Decided, end_of, holds_of, knows};
 use crate::jobs::{MemoryJob, jobs_of};
-use crate::one_job::TWICE;
+use crate::one_job::end_of_one;
 use byte_streams::{Feed, Room};
 use cwr_desk::{Book, FileOutcome, Reply, Run, ServeRefused, Stamp, serve_in_turn};
 use cwr_sheets::{SENDER, same, same_bytes, stamp, three_works, work_twice};
@@ -38,20 +40,61 @@ pub(crate) fn ended<'r>(
     Ok((*outcome, job.writer.bytes()))
 }
 
+/// A run, and whether it was refused at first.
+pub(crate) type Ran<'a, 'm> = (RefusingRun<'a, 'm>, bool);
+
+/// How a run ended that was refused at first, or was not, and in which a job was stopped, or none: one that was refused
+/// has memory when it is run again, so that no job is stopped.
+pub(crate) fn end_at_last(is_refused: bool, is_stopped: bool) -> Ended {
+    same("stopped, with memory", &(is_refused && is_stopped), &false)?;
+    Ok(is_refused || is_stopped)
+}
+
+/// Runs jobs with this book once more, which must not be refused again.
+fn run_again<'a, 'm>(
+    memory: &'m Refusing,
+    jobs: Vec<MemoryJob<'a>, &'m Refusing>,
+    book: Book<&'m Refusing>,
+    stamp: &Stamp,
+) -> Result<RefusingRun<'a, 'm>, Fail>
+    requires few { vec_len jobs < 64 }
+    requires opening { is_opening book.history ≡ true }
+    requires works { All (λ j. (j.reader.has_failed ≡ false) × (j.writer.has_failed ≡ false)) jobs.items }
+{
+    match serve_in_turn(memory, jobs, book, stamp) {
+        Ok(run) => Ok(run),
+        Err(_) => Err(Fail::new("refused again")),
+    }
+}
+
+/// Runs a job for each of these files in turn, with an empty book; `None` where there was no memory for a list of jobs.
+///
+/// Where the run is refused, the book and the jobs must come back as they were, and are run again.
+fn run_at_last<'a, 'm>(
+    memory: &'m Refusing,
+    alloc: Global,
+    files: &[&'a [u8]],
+    stamp: &Stamp,
+) -> Result<Option<Ran<'a, 'm>>, Fail>
+    requires few { length files.now < 64 }
+{
+    let Ok(jobs) = jobs_of(memory, alloc, files) else {
+        return Ok(None);
+    };
+    match serve_in_turn(memory, jobs, Book::new(memory, 100), stamp) {
+        Ok(run) => Ok(Some((run, false))),
+        Err(ServeRefused { book, jobs }) => {
+            is_unbegun(&book, &jobs, files.len())?;
+            Ok(Some((run_again(memory, jobs, book, stamp)?, true)))
+        }
+    }
+}
+
 /// The end of a run whose file holds a work twice.
 fn run_of_one(alloc: Global, run: &RefusingRun) -> Ended {
     same("outcomes", &(run.outcomes.len(), run.jobs.len()), &(1, 1))?;
     let (outcome, written) = ended(run, 0)?;
-    let (count, is_stopped) = end_of(alloc, &outcome, written, &TWICE)?;
-    holds_of(&run.book, 0, 1, &TWICE, count)?;
-    knows(&run.book, count, count.min(1))?;
-    Ok(is_stopped)
-}
-
-/// The end of a run after a refusal: there is memory now, and the jobs are worked as they would have been.
-pub(crate) fn after_refusal(is_stopped: bool) -> Ended {
-    same("stopped, with memory", &is_stopped, &false)?;
-    Ok(true)
+    end_of_one(alloc, &run.book, &outcome, written)
 }
 
 #[derive(Drop)]
@@ -63,18 +106,9 @@ struct InTurn<'a> {
 
 impl Sweep for InTurn<'_> {
     fn ends(&self, memory: &Refusing) -> Ended {
-        let Ok(jobs) = jobs_of(memory, self.alloc, &[self.file]) else {
-            return Ok(true);
-        };
-        match serve_in_turn(memory, jobs, Book::new(memory, 100), &self.stamp) {
-            Ok(run) => run_of_one(self.alloc, &run),
-            Err(ServeRefused { book, jobs }) => {
-                is_unbegun(&book, &jobs, 1)?;
-                match serve_in_turn(memory, jobs, book, &self.stamp) {
-                    Ok(run) => after_refusal(run_of_one(self.alloc, &run)?),
-                    Err(_) => Err(Fail::new("refused again")),
-                }
-            }
+        match run_at_last(memory, self.alloc, &[self.file], &self.stamp)? {
+            Some((run, is_refused)) => end_at_last(is_refused, run_of_one(self.alloc, &run)?),
+            None => Ok(true),
         }
     }
 }
@@ -115,6 +149,18 @@ fn again(known: usize) -> [Decided<'static>; 3] {
     decided
 }
 
+/// The book must hold what both jobs got decided, the second one after the first, and know those works.
+fn holds_both(
+    book: &Book<&Refusing>,
+    first: usize,
+    second: usize,
+    decided: &[Decided],
+) -> Result<(), Fail> {
+    let index = holds_of(book, 0, 1, &THREE, first)?;
+    holds_of(book, index, 2, decided, second)?;
+    knows(book, first.saturating_add(second), first.max(second))
+}
+
 /// The end of a run of one file twice: what the first job got decided is known to the second. At most one was stopped.
 fn run_of_two(alloc: Global, run: &RefusingRun) -> Ended {
     same("outcomes", &(run.outcomes.len(), run.jobs.len()), &(2, 2))?;
@@ -123,9 +169,7 @@ fn run_of_two(alloc: Global, run: &RefusingRun) -> Ended {
     let decided = again(first);
     let (outcome, written) = ended(run, 1)?;
     let (second, is_second) = end_of(alloc, &outcome, written, &decided)?;
-    let index = holds_of(&run.book, 0, 1, &THREE, first)?;
-    holds_of(&run.book, index, 2, &decided, second)?;
-    knows(&run.book, first.saturating_add(second), first.max(second))?;
+    holds_both(&run.book, first, second, &decided)?;
     same("both stopped", &(is_first && is_second), &false)?;
     Ok(is_first || is_second)
 }
@@ -139,18 +183,9 @@ struct TwiceInTurn<'a> {
 
 impl Sweep for TwiceInTurn<'_> {
     fn ends(&self, memory: &Refusing) -> Ended {
-        let Ok(jobs) = jobs_of(memory, self.alloc, &[self.file, self.file]) else {
-            return Ok(true);
-        };
-        match serve_in_turn(memory, jobs, Book::new(memory, 100), &self.stamp) {
-            Ok(run) => run_of_two(self.alloc, &run),
-            Err(ServeRefused { book, jobs }) => {
-                is_unbegun(&book, &jobs, 2)?;
-                match serve_in_turn(memory, jobs, book, &self.stamp) {
-                    Ok(run) => after_refusal(run_of_two(self.alloc, &run)?),
-                    Err(_) => Err(Fail::new("refused again")),
-                }
-            }
+        match run_at_last(memory, self.alloc, &[self.file, self.file], &self.stamp)? {
+            Some((run, is_refused)) => end_at_last(is_refused, run_of_two(self.alloc, &run)?),
+            None => Ok(true),
         }
     }
 }

@@ -1,8 +1,10 @@
 //! Jobs on threads of their own.
+ghost use Rattle.std.specs.Prelude.{◌≡◌, ◌<◌, All, false, length, true, vec_len};
+ghost use Rattle.work_registry.specs.Replay.{is_opening};
 
 use crate::ends::{Decided, end_of, knows};
-use crate::in_turn::{RefusingRun, after_refusal, ended, is_unbegun};
-use crate::jobs::jobs_of;
+use crate::in_turn::{Ran, RefusingRun, end_at_last, ended, is_unbegun};
+use crate::jobs::{MemoryJob, jobs_of};
 use cwr_desk::{Book, OpenGate, Reply, ServeRefused, Stamp, serve};
 use cwr_sheets::{same, stamp, three_works};
 use refusing::{Ended, Refusing, told_right};
@@ -63,6 +65,48 @@ fn run_at_once(alloc: Global, run: &RefusingRun) -> Ended {
     Ok(is_first || is_second)
 }
 
+/// Serves jobs with this book once more, which must not be refused again.
+fn serve_again<'a, 'm, T: Threads + Wait + Sync>(
+    rt: &T,
+    memory: &'m Refusing,
+    jobs: Vec<MemoryJob<'a>, &'m Refusing>,
+    book: Book<&'m Refusing>,
+    stamp: &Stamp,
+) -> Result<RefusingRun<'a, 'm>, Fail>
+    requires few { vec_len jobs < 64 }
+    requires opening { is_opening book.history ≡ true }
+    requires works { All (λ j. (j.reader.has_failed ≡ false) × (j.writer.has_failed ≡ false)) jobs.items }
+{
+    match serve(rt, memory, jobs, book, stamp, &OpenGate) {
+        Ok(run) => Ok(run),
+        Err(_) => Err(Fail::new("refused again")),
+    }
+}
+
+/// Serves a job for each of these files at once, with an empty book; `None` where there was no memory for a list of jobs.
+///
+/// Where that is refused, the book and the jobs must come back as they were, and are served again.
+fn serve_at_last<'a, 'm, T: Threads + Wait + Sync>(
+    rt: &T,
+    memory: &'m Refusing,
+    alloc: Global,
+    files: &[&'a [u8]],
+    stamp: &Stamp,
+) -> Result<Option<Ran<'a, 'm>>, Fail>
+    requires few { length files.now < 64 }
+{
+    let Ok(jobs) = jobs_of(memory, alloc, files) else {
+        return Ok(None);
+    };
+    match serve(rt, memory, jobs, Book::new(memory, 100), stamp, &OpenGate) {
+        Ok(run) => Ok(Some((run, false))),
+        Err(ServeRefused { book, jobs }) => {
+            is_unbegun(&book, &jobs, files.len())?;
+            Ok(Some((serve_again(rt, memory, jobs, book, stamp)?, true)))
+        }
+    }
+}
+
 /// Serves one file twice, at once.
 ///
 /// It is no `Sweep`, since a trait's method does not know of a type that threads may share it.
@@ -73,18 +117,9 @@ fn served<T: Threads + Wait + Sync>(
     stamp: &Stamp,
     file: &[u8],
 ) -> Ended {
-    let Ok(jobs) = jobs_of(memory, alloc, &[file, file]) else {
-        return Ok(true);
-    };
-    match serve(rt, memory, jobs, Book::new(memory, 100), stamp, &OpenGate) {
-        Ok(run) => run_at_once(alloc, &run),
-        Err(ServeRefused { book, jobs }) => {
-            is_unbegun(&book, &jobs, 2)?;
-            match serve(rt, memory, jobs, book, stamp, &OpenGate) {
-                Ok(run) => after_refusal(run_at_once(alloc, &run)?),
-                Err(_) => Err(Fail::new("refused again")),
-            }
-        }
+    match serve_at_last(rt, memory, alloc, &[file, file], stamp)? {
+        Some((run, is_refused)) => end_at_last(is_refused, run_at_once(alloc, &run)?),
+        None => Ok(true),
     }
 }
 

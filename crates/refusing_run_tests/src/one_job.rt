@@ -2,7 +2,7 @@
 
 use crate::ends::{Decided, end_of, holds_of, knows};
 use byte_streams::{Feed, Room};
-use cwr_desk::{Book, Desk, OpenGate, Reply, Stamp, acknowledge, work};
+use cwr_desk::{Book, Desk, FileOutcome, OpenGate, Reply, Stamp, acknowledge, work};
 use cwr_sheets::{SENDER, stamp, work_twice};
 use refusing::{Ended, Refusing, Sweep, refuse_each};
 use std::alloc::Global;
@@ -38,6 +38,52 @@ impl Sweep for Acknowledge<'_> {
     }
 }
 
+/// What a worker at its seat leaves: the book, how the file ended, and the writer of its acknowledgement.
+type Worked<'m> = (Book<&'m Refusing>, FileOutcome, Room);
+
+/// Works a file at the one seat of a desk with an empty book; `None` where there was no memory for a desk.
+fn worked<'m, T: Wait>(
+    rt: &T,
+    memory: &'m Refusing,
+    alloc: Global,
+    file: &[u8],
+    stamp: &Stamp,
+) -> Result<Option<Worked<'m>>, Fail> {
+    let mut writer = Room::new(alloc, 1000, true)?;
+    let mut reader = Feed::new(file, 4096, None);
+    let Ok((desk, mut opening)) = Desk::open(memory, Book::new(memory, 100), 2) else {
+        return Ok(None);
+    };
+    let seat = desk.split(&mut opening);
+    let (seat, outcome) = work(
+        rt,
+        memory,
+        &desk,
+        seat,
+        &mut reader,
+        &mut writer,
+        stamp,
+        &OpenGate,
+        1,
+    );
+    desk.meet(&mut opening, seat);
+    Ok(Some((desk.close(opening), outcome, writer)))
+}
+
+/// The end of the one job that worked the file into an empty book: the book must hold and know what was decided. Answers
+/// whether the job was stopped.
+pub(crate) fn end_of_one(
+    alloc: Global,
+    book: &Book<&Refusing>,
+    outcome: &FileOutcome,
+    written: &[u8],
+) -> Ended {
+    let (count, is_stopped) = end_of(alloc, outcome, written, &TWICE)?;
+    holds_of(book, 0, 1, &TWICE, count)?;
+    knows(book, count, count.min(1))?;
+    Ok(is_stopped)
+}
+
 /// A worker at its seat.
 #[derive(Drop)]
 struct Work<'a, T: Wait> {
@@ -49,29 +95,12 @@ struct Work<'a, T: Wait> {
 
 impl<T: Wait> Sweep for Work<'_, T> {
     fn ends(&self, memory: &Refusing) -> Ended {
-        let mut writer = Room::new(self.alloc, 1000, true)?;
-        let mut reader = Feed::new(self.file, 4096, None);
-        let Ok((desk, mut opening)) = Desk::open(memory, Book::new(memory, 100), 2) else {
-            return Ok(true);
-        };
-        let seat = desk.split(&mut opening);
-        let (seat, outcome) = work(
-            self.rt,
-            memory,
-            &desk,
-            seat,
-            &mut reader,
-            &mut writer,
-            &self.stamp,
-            &OpenGate,
-            1,
-        );
-        desk.meet(&mut opening, seat);
-        let book = desk.close(opening);
-        let (count, is_stopped) = end_of(self.alloc, &outcome, writer.bytes(), &TWICE)?;
-        holds_of(&book, 0, 1, &TWICE, count)?;
-        knows(&book, count, count.min(1))?;
-        Ok(is_stopped)
+        match worked(self.rt, memory, self.alloc, self.file, &self.stamp)? {
+            Some((book, outcome, writer)) => {
+                end_of_one(self.alloc, &book, &outcome, writer.bytes())
+            }
+            None => Ok(true),
+        }
     }
 }
 
