@@ -1,3 +1,4 @@
 pub mod Drafting
+pub mod Drops
 pub mod Followers
 pub mod Slots

@@ -2,3 +2,4 @@ pub mod Names
 pub mod Looking
 pub mod Keeping
 pub mod Memory
+pub mod FileWords

@@ -1,5 +1,6 @@
 -- What lies under the names of a place in memory, and what a crash leaves there.
-use Rattle.std.specs.Prelude.{◌≡◌, ◌⊎◌, ℕ, List, Option, None, Some, Vec, map, if◌then◌else◌}
+use Rattle.std.specs.Prelude.{◌≡◌, ◌⊎◌, ◌||◌, ℕ, Bool, List, Option, None, Some, Vec, map, if◌then◌else◌}
+use Rattle.std.specs.List.{list_any}
 use Rattle.kept_file.specs.declared.memory.MemoryFile.{MemoryFile}
 use Rattle.kept_file.specs.declared.memory.Shelf.{Shelf}
 use Rattle.kept_file.specs.declared.memory.Past.{Past, Begun, After'}
@@ -39,4 +40,9 @@ state_of shelf = record {
   draft = shelf.file.draft.items;
   waiting = map draft_of shelf.followers.items;
   refused = map (λ follower. follower.is_refused) shelf.followers.items;
+  beside = map (λ follower. follower.has_draft) shelf.followers.items;
 }
+
+-- a draft lies beside the file or beside a follower
+abbrev pub has_drafts : {A : Type 0} → Shelf A → Bool
+has_drafts shelf = shelf.file.has_draft || list_any (λ slot. slot.has_draft) shelf.followers.items

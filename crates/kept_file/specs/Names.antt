@@ -1,5 +1,5 @@
 -- What lies under the names of a place: that of one file, and those of the files that follow it.
-use Rattle.std.specs.Prelude.{◌≡◌, ℕ, Bool, true, List, [], ◌++◌, Option, Some, length, get_or, slice_set}
+use Rattle.std.specs.Prelude.{◌≡◌, ℕ, Bool, true, false, List, [], ◌++◌, Option, Some, length, map, get_or, slice_set}
 
 -- the bytes under a name, or that no file is there
 abbrev pub Lying : Type 0
@@ -26,11 +26,14 @@ pub record State : Type 0 where
   pub waiting : List (List ℕ)
   -- which followers could not be put in place
   pub refused : List Bool
+  -- which followers' drafts lie beside their names still
+  pub beside : List Bool
 
--- each follower has a name, a draft, and an answer
+-- each follower has a name, a draft, and its answers
 pub record HasEach (s : State) : Type 0 where
   pub names : length s.names.followers ≡ length s.waiting
   pub answers : length s.refused ≡ length s.waiting
+  pub drafts : length s.beside ≡ length s.waiting
 
 -- the draft begins empty
 abbrev pub beginning : State → State
@@ -49,8 +52,20 @@ waiting_text at s = get_or s.waiting at []
 
 -- the draft of that follower has the follower's name
 abbrev pub placing_follower : ℕ → State → State
-placing_follower at s = record s { names = with_follower at (waiting_text at s) s.names }
+placing_follower at s = record s { names = with_follower at (waiting_text at s) s.names; beside = slice_set s.beside at false }
 
 -- that follower could not be put in place
 abbrev pub refusing_follower : ℕ → State → State
 refusing_follower at s = record s { refused = slice_set s.refused at true }
+
+-- the draft of that follower was taken away
+abbrev pub dropping_follower : ℕ → State → State
+dropping_follower at s = record s { beside = slice_set s.beside at false }
+
+-- the drafts of all followers were taken away
+abbrev pub dropping_followers : State → State
+dropping_followers s = record s { beside = map (λ _. false) s.beside }
+
+-- no draft lies beside a follower
+abbrev pub HasNoneBeside : State → Type 0
+HasNoneBeside s = (k : ℕ) → get_or s.beside k false ≡ false

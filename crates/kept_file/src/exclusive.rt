@@ -1,13 +1,19 @@
 //! A lock for the length of a run.
 
+ghost use Rattle.std.specs.Prelude.{⊤, IfOk, IfSome, IsTrue};
+
 use crate::CallFailed;
 use std::fs::{File, TryLockError};
 use std::rt::Files;
 
 /// An open file that one run at a time may have for itself. The system frees it where that run ends, however it ends.
 pub trait Exclusive {
+    // This run has the file for itself, where the type tells it.
+    ghost is_taken: { Self → Type 0 } = { λ _. ⊤ };
+
     /// Takes the file for this run, and answers whether no other run has it. It does not wait.
-    fn try_exclusive(&self) -> Result<bool, CallFailed>;
+    fn try_exclusive(&self) -> Result<bool, CallFailed>
+        ensures { IfOk result (λ free. IsTrue free → is_taken self.now) };
 }
 
 impl Exclusive for File {
@@ -25,6 +31,7 @@ impl Exclusive for File {
 pub fn lock<R: Files>(rt: &R, name: &str) -> Result<Option<R::File>, CallFailed>
 where
     R::File: Exclusive,
+    ensures { IfOk result (λ held. IfSome held (λ file. R.File.is_taken file)) }
 {
     let opened = File::options().write(true).create(true).open(rt, name);
     let file = opened.map_err(|_| CallFailed)?;

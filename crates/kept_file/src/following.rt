@@ -1,7 +1,7 @@
 //! The files that follow.
 
 ghost use Rattle.std.specs.Prelude.{◌≡◌, length, IfSome};
-ghost use Rattle.kept_file.specs.Names.{Names};
+ghost use Rattle.kept_file.specs.Names.{Names, dropping_followers, HasNoneBeside};
 ghost use Rattle.kept_file.specs.Looking.{Becomes, Stays, GoesOn};
 ghost use Rattle.kept_file.specs.Keeping.{SinceThen, Leads, MayFollow, AreFollowing};
 
@@ -24,9 +24,11 @@ pub fn put_followers<P: Place>(place: &mut P)
     }
 }
 
-/// Takes the draft of each follower away, where there is one and it can be taken away.
+/// Takes the draft of each follower away, where there is one and it can be taken away. Nothing changes under the names.
 pub fn drop_followers<P: Place>(place: &mut P)
-    ensures told { Becomes (λ s. s) (P.told place.old) (P.told place.new) }
+    // A place that tells its bytes has none of these drafts then.
+    ensures told { Becomes dropping_followers (P.told place.old) (P.told place.new) }
+    ensures none { Leads (λ _ t. HasNoneBeside t) (P.told place.old) (P.told place.new) }
     ensures now { Stays (P.may_find place.old) (P.may_find place.new) }
     ensures time { SinceThen (P.found place.old) (P.found place.new) (P.may_find place.old) }
     ensures same { P.has_failed place.new ≡ P.has_failed place.old }

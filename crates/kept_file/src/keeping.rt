@@ -1,7 +1,7 @@
 //! A text takes the place of a file, and then the drafts of the followers take theirs.
 
 ghost use Rattle.std.specs.Prelude.{◌≡◌, ◌≤◌, ◌⊎◌, Some, true, false, length, take, IfSome, IfErr, IsErr, OnOk};
-ghost use Rattle.kept_file.specs.Names.{Names, with_file, placing};
+ghost use Rattle.kept_file.specs.Names.{Names, with_file, placing, HasNoneBeside};
 ghost use Rattle.kept_file.specs.Looking.{Only, Becomes, MayBecome};
 ghost use Rattle.kept_file.specs.Keeping.{OldOrNew, FileFirst, SinceThen, Leads, MayFollow, AreFollowing};
 
@@ -23,9 +23,10 @@ pub fn keep<P: Place>(place: &mut P, text: &[u8]) -> Result<(), NotKept>
     // At `Ok` the text is there, and no crash takes it away.
     ensures kept { OnOk result (Leads (λ s t. t.names.file ≡ Some text.now) (P.told place.old) (P.told place.new)) }
     ensures stays { OnOk result (IfSome (P.told place.old) (λ s. (c : Names) → P.may_find place.new c → c.file ≡ Some text.now)) }
-    // At `Ok` each follower is in place, or it is told that it is not; else none is.
+    // At `Ok` each follower is in place, or it is told that it is not; else none is, and none of their drafts is left.
     ensures each { OnOk result (Leads (λ s t. AreFollowing (length s.waiting) (record s { names = with_file text.now s.names; draft = text.now }) t) (P.told place.old) (P.told place.new)) }
     ensures withheld { IsErr result → IfSome (P.told place.old) (λ s. SinceThen (P.found place.old) (P.found place.new) (λ c. c.followers ≡ s.names.followers)) }
+    ensures dropped { IsErr result → Leads (λ _ t. HasNoneBeside t) (P.told place.old) (P.told place.new) }
     // Of a text that was not kept, just so many bytes went into the draft. It does not give up by itself.
     ensures few { IfErr result (λ e. e.sent ≤ length text.now) }
     ensures sent { IfErr result (λ e. Leads (λ s t. t.draft ≡ take e.sent text.now) (P.told place.old) (P.told place.new)) }

@@ -1,8 +1,9 @@
 ghost use Rattle.std.specs.Prelude.{◌<◌, slice_set, ◌≡◌, ◌⊎◌, ◌↔◌, is_err, ◌++◌, ◌∷◌, [], Some, None, true, false, map, length, get_or, IfSome, MatchOption, IsTrue};
+ghost use Rattle.std.specs.List.{list_any};
 ghost use Rattle.kept_file.specs.Names.{Names, State, with_file};
 ghost use Rattle.kept_file.specs.Looking.{Only};
 ghost use Rattle.kept_file.specs.Keeping.{follower};
-ghost use Rattle.kept_file.specs.Memory.{lying, lies, draft_of, names_of, state_of, may_be, had_been};
+ghost use Rattle.kept_file.specs.Memory.{lying, lies, draft_of, has_drafts, names_of, state_of, may_be, had_been};
 
 use crate::{CallFailed, Place};
 use std::alloc::{Allocator, Global};
@@ -29,6 +30,7 @@ impl<A: Allocator> MemoryFile<A> {
         ensures file { lies result ≡ lying file }
         ensures draft { draft_of result ≡ draft.items }
         ensures waits { result.is_refused ≡ false }
+        ensures beside { result.has_draft ≡ true }
     {
         MemoryFile {
             earlier: file,
@@ -68,6 +70,18 @@ impl<A: Allocator> MemoryFile<A> {
     }
 }
 
+/// Whether a draft lies beside one of the names.
+fn has_any_draft<A: Allocator>(slots: &[MemoryFile<A>]) -> bool
+    ensures { result ≡ list_any (λ slot. slot.has_draft) slots.now }
+{
+    for at in 0..slots.len() {
+        if slots[at].has_draft {
+            return true;
+        }
+    }
+    false
+}
+
 /// What can be found: a file, and those that follow it.
 #[derive(Drop)]
 struct Shelf<A: Allocator> {
@@ -98,6 +112,7 @@ impl<A: Allocator> Shelf<A> {
         ensures names { map lies self.new.followers.items ≡ slice_set (map lies self.old.followers.items) at (Some (get_or (map draft_of self.old.followers.items) at [])) }
         ensures drafts { map draft_of self.new.followers.items ≡ map draft_of self.old.followers.items }
         ensures refused { map (λ follower. follower.is_refused) self.new.followers.items ≡ map (λ follower. follower.is_refused) self.old.followers.items }
+        ensures beside { map (λ follower. follower.has_draft) self.new.followers.items ≡ slice_set (map (λ follower. follower.has_draft) self.old.followers.items) at false }
         ensures same { self.new ≡ record self.old { followers = self.new.followers } }
     {
         let slot = &mut self.followers[at];
@@ -111,6 +126,7 @@ impl<A: Allocator> Shelf<A> {
         ensures names { map lies self.new.followers.items ≡ map lies self.old.followers.items }
         ensures drafts { map draft_of self.new.followers.items ≡ map draft_of self.old.followers.items }
         ensures refused { map (λ follower. follower.is_refused) self.new.followers.items ≡ slice_set (map (λ follower. follower.is_refused) self.old.followers.items) at true }
+        ensures beside { map (λ follower. follower.has_draft) self.new.followers.items ≡ map (λ follower. follower.has_draft) self.old.followers.items }
         ensures same { self.new ≡ record self.old { followers = self.new.followers } }
     {
         self.followers[at].is_refused = true;
@@ -122,6 +138,7 @@ impl<A: Allocator> Shelf<A> {
         ensures names { map lies self.new.followers.items ≡ map lies self.old.followers.items }
         ensures drafts { map draft_of self.new.followers.items ≡ map draft_of self.old.followers.items }
         ensures refused { map (λ follower. follower.is_refused) self.new.followers.items ≡ map (λ follower. follower.is_refused) self.old.followers.items }
+        ensures beside { map (λ follower. follower.has_draft) self.new.followers.items ≡ slice_set (map (λ follower. follower.has_draft) self.old.followers.items) at false }
         ensures same { self.new ≡ record self.old { followers = self.new.followers } }
     {
         self.followers[at].has_draft = false;
@@ -167,6 +184,7 @@ impl<A: Allocator + Copy> MemoryPlace<A> {
           draft = [];
           waiting = map draft_of followers.items;
           refused = map (λ follower. follower.is_refused) followers.items;
+          beside = map (λ follower. follower.has_draft) followers.items;
         }) }
         ensures settled { Only (record { file = lying file; followers = map lies followers.items }) (⟦<MemoryPlace<A> as Place>⟧.may_find result) }
         ensures begun { Only (record { file = lying file; followers = map lies followers.items }) (⟦<MemoryPlace<A> as Place>⟧.found result) }
@@ -217,8 +235,10 @@ impl<A: Allocator + Copy> MemoryPlace<A> {
     }
 
     /// Whether a draft lies beside the file or beside a follower.
-    pub fn has_drafts(&self) -> bool {
-        self.shelf.file.has_draft || self.shelf.followers.iter().any(|slot| slot.has_draft)
+    pub fn has_drafts(&self) -> bool
+        ensures { result ≡ has_drafts self.now.shelf }
+    {
+        self.shelf.file.has_draft || has_any_draft(&self.shelf.followers)
     }
 
     /// Keeps in mind what can be found now.

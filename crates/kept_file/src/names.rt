@@ -1,7 +1,10 @@
 //! The names of a file that is replaced by a draft.
 
+ghost use Rattle.std.specs.Prelude.{◌≡◌, ◌++◌, codes, IfOk};
+
 use cwr_field::Memory;
 use std::io::ErrorKind;
+use std::marker::Model;
 use std::path::{Path, PathBuf};
 use std::rt::Files;
 use std::{fs, io};
@@ -24,9 +27,28 @@ pub struct FileNames {
     directory: String,
 }
 
+impl Model for FileNames {
+    ghost use Rattle.std.specs.Prelude.{◌≡◌, ◌++◌, codes, string_bytes};
+    ghost use Rattle.kept_file.specs.FileWords.{FileWords};
+
+    ghost Value = { FileWords };
+
+    ghost view = { λ n. record {
+      word = string_bytes n.word;
+      name = string_bytes n.name;
+      directory = string_bytes n.directory;
+    } };
+
+    ghost invariant = { λ n.
+        (string_bytes n.draft ≡ string_bytes n.name ++ codes ".new")
+        × (string_bytes n.lock ≡ string_bytes n.name ++ codes ".lock") };
+}
+
 impl FileNames {
     /// The names of the file that a word leads to. Of a file that the system does not tell, the word is the name.
-    pub fn of_word<R: AllocGlobal + Files>(rt: &R, word: &str) -> Result<FileNames, Memory> {
+    pub fn of_word<R: AllocGlobal + Files>(rt: &R, word: &str) -> Result<FileNames, Memory>
+        ensures { IfOk result (λ names. names.word ≡ word.now) }
+    {
         let path = file_of(rt, word)?;
         let name = path.as_path().as_os_str();
         let directory = match path.as_path().parent() {
@@ -44,27 +66,37 @@ impl FileNames {
     }
 
     /// The word that leads to the file.
-    pub fn word(&self) -> &str {
+    pub fn word(&self) -> &str
+        ensures { result.now ≡ self.now.word }
+    {
         self.word.as_str()
     }
 
     /// The file itself.
-    pub fn name(&self) -> &str {
+    pub fn name(&self) -> &str
+        ensures { result.now ≡ self.now.name }
+    {
         self.name.as_str()
     }
 
     /// The draft: the file's name and `.new`.
-    pub fn draft(&self) -> &str {
+    pub fn draft(&self) -> &str
+        ensures { result.now ≡ self.now.name ++ codes ".new" }
+    {
         self.draft.as_str()
     }
 
     /// The file that a run locks while it may replace this one: the file's name and `.lock`.
-    pub fn lock(&self) -> &str {
+    pub fn lock(&self) -> &str
+        ensures { result.now ≡ self.now.name ++ codes ".lock" }
+    {
         self.lock.as_str()
     }
 
     /// The directory in which all of them lie.
-    pub fn directory(&self) -> &str {
+    pub fn directory(&self) -> &str
+        ensures { result.now ≡ self.now.directory }
+    {
         self.directory.as_str()
     }
 }

@@ -1,6 +1,6 @@
 ghost use Rattle.std.specs.Prelude.{◌≡◌, ◌≤◌, ◌⊎◌, ℕ, Bool, List, Option, Some, false, is_err, length, take, get_or, IfSome, IfOk, OnOk, OnErr};
 ghost use Rattle.byte_streams.specs.Bytes.{stalls};
-ghost use Rattle.kept_file.specs.Names.{Names, State, HasEach, with_file, with_follower, waiting_text, beginning, drafting, placing, placing_follower, refusing_follower};
+ghost use Rattle.kept_file.specs.Names.{Names, State, HasEach, with_file, with_follower, waiting_text, beginning, drafting, placing, placing_follower, refusing_follower, dropping_follower};
 ghost use Rattle.kept_file.specs.Looking.{Only, GoesOn, Stays, Renames, Becomes, MayBecome};
 
 use crate::CallFailed;
@@ -106,7 +106,7 @@ pub trait Place {
     /// Takes the draft of a follower away, where there is one and it can be taken away.
     fn drop_follower(&mut self, at: usize)
         ensures fails { has_failed self.new ≡ has_failed self.old }
-        ensures told { Becomes (λ s. s) (told self.old) (told self.new) }
+        ensures told { Becomes (dropping_follower at) (told self.old) (told self.new) }
         ensures now { Stays (may_find self.old) (may_find self.new) }
         ensures time { GoesOn (found self.old) (found self.new) (may_find self.new) };
 }

@@ -20,7 +20,9 @@ pub struct Follower<'a> {
 
 impl<'a> Follower<'a> {
     /// The follower of these names. Where it `replaces` none, it is refused where a file is there by then.
-    pub fn new(names: &'a FileNames, replaces: bool) -> Follower<'a> {
+    pub fn new(names: &'a FileNames, replaces: bool) -> Follower<'a>
+        ensures { result ≡ record { names = names.entry; replaces = replaces; refused = false } }
+    {
         Follower {
             names,
             replaces,

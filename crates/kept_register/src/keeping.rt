@@ -1,5 +1,5 @@
 ghost use Rattle.std.specs.Prelude.{◌≡◌, ◌≤◌, ◌⊎◌, Some, true, false, length, take, IfSome, IfErr, IsErr, IsErrOf, OnOk};
-ghost use Rattle.kept_file.specs.Names.{Names, with_file};
+ghost use Rattle.kept_file.specs.Names.{Names, with_file, dropping_followers, HasNoneBeside};
 ghost use Rattle.kept_file.specs.Looking.{Only, Becomes, Stays};
 ghost use Rattle.kept_file.specs.Keeping.{FileFirst, SinceThen, Leads, MayFollow, AreFollowing};
 ghost use Rattle.work_registry.specs.Register.{register_text};
@@ -45,12 +45,14 @@ pub fn keep_register<P: Place, A: Allocator + Copy + Drop>(
     ensures kept { OnOk result (Leads (λ s t. t.names.file ≡ Some (register_text book.now.history)) (P.told place.old) (P.told place.new)) }
     ensures stays { OnOk result (IfSome (P.told place.old) (λ s. (c : Names) → P.may_find place.new c → c.file ≡ Some (register_text book.now.history))) }
 
-    // At `Ok` each acknowledgement is in place, or it is told that it is not; else none is.
+    // At `Ok` each acknowledgement is in place, or it is told that it is not; else none is, and none of their drafts is left.
     ensures each { OnOk result (Leads (λ s t. AreFollowing (length s.waiting) (record s { names = with_file (register_text book.now.history) s.names; draft = register_text book.now.history }) t) (P.told place.old) (P.told place.new)) }
     ensures withheld { IsErr result → IfSome (P.told place.old) (λ s. SinceThen (P.found place.old) (P.found place.new) (λ c. c.followers ≡ s.names.followers)) }
+    ensures dropped { IsErr result → Leads (λ _ t. HasNoneBeside t) (P.told place.old) (P.told place.new) }
 
-    // Where memory was refused, nothing was written: what is told of the place and what may be found is as it was.
-    ensures unwritten { IsErrOf result RegisterNotKept.Memory → Becomes (λ s. s) (P.told place.old) (P.told place.new) × Stays (P.may_find place.old) (P.may_find place.new) }
+    // Where memory was refused, nothing was written: what is told of the place and what may be found is as it was, but that
+    // these drafts are taken away.
+    ensures unwritten { IsErrOf result RegisterNotKept.Memory → Becomes dropping_followers (P.told place.old) (P.told place.new) × Stays (P.may_find place.old) (P.may_find place.new) }
 
     // Of a register that was not kept, just so many bytes went into the draft. It does not give up by itself.
     ensures sent { IfErr result (λ e. (n : NotKept) → e ≡ RegisterNotKept.Stopped n → (n.sent ≤ length (register_text book.now.history)) × Leads (λ s t. t.draft ≡ take n.sent (register_text book.now.history)) (P.told place.old) (P.told place.new)) }

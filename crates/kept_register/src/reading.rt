@@ -1,4 +1,5 @@
-ghost use Rattle.std.specs.Prelude.{◌≡◌, ◌<◌, [], true, false, length, IsTrue, IfOk, IfSome, IsErrOf};
+ghost use Rattle.std.specs.Prelude.{◌≡◌, ◌+◌, ◌<◌, ◌≤◌, ◌↔◌, [], true, false, length, IsTrue, IfOk, IfSome, IsErrOf};
+ghost use Rattle.byte_streams.specs.GivenBytes.{HasGiven};
 ghost use Rattle.work_registry.specs.History.{IsHistory};
 ghost use Rattle.work_registry.specs.Numbers.{most_entries};
 ghost use Rattle.work_registry.specs.Register.{register_text};
@@ -44,6 +45,9 @@ pub fn new_book<A: Allocator + Copy + Drop>(alloc: A) -> Book<A>
 
 /// The book of the register that a reader gives. All its entries are of the opening, session 0, and it takes more up to
 /// the last number, 99,999,999.
+///
+/// It reads to the end, with any answer but a failed read, want of memory or too many bytes, and makes at most
+/// 68,719,476,738 reads.
 pub fn read_book<S: Source, A: Allocator + Copy + Drop>(
     alloc: A,
     reader: &mut S,
@@ -56,7 +60,11 @@ pub fn read_book<S: Source, A: Allocator + Copy + Drop>(
     ensures want { IsErrOf result (NoBook.Refused refused) → ⊥ }
     ensures fault { (r : RegisterRefusal) → IsErrOf result (NoBook.Refused r) → IfSome (S.left reader.old) (λ bytes. IsRefusal most_entries bytes r) }
     ensures too_long { IsErrOf result NoBook.TooLong → IfSome (S.left reader.old) (λ bytes. 68719476736 < length bytes) }
-    ensures failed { IsErrOf result NoBook.Read → S.has_failed reader.new ≡ true }
+    ensures failed { IsErrOf result NoBook.Read ↔ (S.has_failed reader.new ≡ true) }
+
+    // Of the reader, whatever is answered: what was read is the first of its bytes, and it holds the others.
+    ensures read_on { HasGiven (S.left reader.old) (S.left reader.new) }
+    ensures few_reads { S.reads reader.new ≤ S.reads reader.old + 68719476738 }
 {
     let bytes = match read_file(alloc, reader, MOST_REGISTER_BYTES) {
         Ok(bytes) => bytes,

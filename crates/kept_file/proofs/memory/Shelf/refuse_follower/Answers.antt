@@ -12,3 +12,6 @@ returns-clause-drafts g c = map-same draft_of _ _ _ _ c.index_mut.ensures.value 
 
 pub returns-clause-refused : goal.returns-clause-refused
 returns-clause-refused g c = map-set (λ slot. slot.is_refused) _ _ _
+
+pub returns-clause-beside : goal.returns-clause-beside
+returns-clause-beside g c = map-same (λ slot. slot.has_draft) _ _ _ _ c.index_mut.ensures.value refl
