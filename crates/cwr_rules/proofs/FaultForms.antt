@@ -1,5 +1,5 @@
 -- Each fault of a transaction is one that a record can have.
-use Rattle.std.proofs.Common.{◌≡◌, ℕ, ◌+◌, ◌<◌, ◌≤◌, Bool, true, false, leb, List, [], ◌∷◌, ◌++◌, length, Option, Some, None, refl, arith}
+use Rattle.std.proofs.Common.{◌≡◌, ℕ, ◌+◌, ◌≤◌, Bool, true, false, leb, List, [], ◌∷◌, ◌++◌, length, Option, Some, None, refl, arith}
 use Rattle.std.specs.Prelude.{◌&&◌, is_some, is_none, option_and_then}
 use Rattle.std.specs.List.{list_all}
 use Rattle.std.specs.Char.{is_ascii_uppercase}
@@ -71,7 +71,7 @@ kind_is : (kind : WorkKind) (rules : List (ℕ × Bool)) → are_numbers rules �
 kind_is Nwr rules numbers = table_is 0 (work_kind_code Nwr) rules (omega arith) numbers refl
 kind_is Rev rules numbers = table_is 0 (work_kind_code Rev) rules (omega arith) numbers refl
 
-pub faults_are : (kind : WorkKind) (head : List ℕ) (records : List Record) → length records < most_count → list_all is_fault (faults_of kind head records) ≡ true
+pub faults_are : (kind : WorkKind) (head : List ℕ) (records : List Record) → length records ≤ most_count → list_all is_fault (faults_of kind head records) ≡ true
 faults_are kind head records lt =
     append_all (all_found 0 (work_kind_code kind) (head_rules head records)) (faults_after (publishers records) [] records)
     (kind_is kind (head_rules head records) refl) (records_are (publishers records) [] records (omega arith))

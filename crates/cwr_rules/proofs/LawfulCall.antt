@@ -1,5 +1,5 @@
 -- The call of a transaction is lawful.
-use Rattle.std.proofs.Common.{◌≡◌, ℕ, ◌<◌, ◌≤◌, Bool, true, false, leb, not, List, [], ◌∷◌, ◌++◌, length, Option, refl, sym, subst, arith, IsTrue}
+use Rattle.std.proofs.Common.{◌≡◌, ℕ, ◌≤◌, Bool, true, false, leb, not, List, [], ◌∷◌, ◌++◌, length, Option, refl, sym, subst, arith, IsTrue}
 use Rattle.std.specs.Prelude.{◌||◌, filter}
 use Rattle.std.proofs.lemmas.Bool.Decides.{nat_tests}
 use Rattle.cwr_record.specs.Columns as column
@@ -33,7 +33,7 @@ at_most limit t h =
     both (leb t.performing limit) _ (le_test t.performing limit h.performing)
     (both (leb t.mechanical limit) _ (le_test t.mechanical limit h.mechanical) (both (leb t.synchronization limit) true (le_test t.synchronization limit h.synchronization) refl))
 
-control_small : (records : List Record) → length records < most_count → AreCapped records → are_at_most most_sum (three (control records)) ≡ true
+control_small : (records : List Record) → length records ≤ most_count → AreCapped records → are_at_most most_sum (three (control records)) ≡ true
 control_small records lt capped =
     let le = totals_le controls records capped in
     at_most most_sum (control records) (record { performing = omega (arith, le.performing); mechanical = omega (arith, le.mechanical); synchronization = omega (arith, le.synchronization) })
@@ -88,18 +88,18 @@ whole kind head records =
     let P : Bool → Type 0 = λ b. is_none_found (faults_of kind head records) ≡ b → (not b || are_at_most most_whole (three (control records))) ≡ true in
     (elim (is_none_found (faults_of kind head records)) as P [ true ↦ λ e. without_faults kind head records e | false ↦ λ e. refl ]) refl
 
-right_faults : (kind : WorkKind) (head : List ℕ) (records : List Record) → length records < most_count → are_faults (faults_of kind head records) ≡ true
+right_faults : (kind : WorkKind) (head : List ℕ) (records : List Record) → length records ≤ most_count → are_faults (faults_of kind head records) ≡ true
 right_faults kind head records lt =
     both _ _ (both _ _ (le_test (length (faults_of kind head records)) most_faults (omega (arith, lt, faults_few kind head records))) (faults_are kind head records lt)) (faults_rise kind head records)
 
-pub lawful : (submitter head : List ℕ) (kind : WorkKind) (records : List Record) → length records < most_count → AreCapped records
+pub lawful : (submitter head : List ℕ) (kind : WorkKind) (records : List Record) → length records ≤ most_count → AreCapped records
     → is_clean submitter ≡ true → is_clean head ≡ true → is_iswc (call_from submitter kind head records).iswc ≡ true → is_lawful (call_from submitter kind head records) ≡ true
 lawful submitter head kind records lt capped a b i =
     both _ _ (both _ _ (both _ _ (both _ _ (both _ _ (both _ _ a (printable-field head column.work_head_title.start column.work_head_title.width b)) (printable-field head column.work_head_submitter_number.start column.work_head_submitter_number.width b)) i) (control_small records lt capped)) (whole kind head records)) (right_faults kind head records lt)
 
 -- the same of parts that are those of the call
 pub lawful_from : (submitter head title number : List ℕ) (kind : WorkKind) (iswc : Option ℕ) (t : Totals) (records : List Record) (out : List Fault)
-    → length records < most_count → AreCapped records → IsTrue (is_clean submitter) → IsTrue (is_clean head) → IsTrue (is_iswc iswc)
+    → length records ≤ most_count → AreCapped records → IsTrue (is_clean submitter) → IsTrue (is_clean head) → IsTrue (is_iswc iswc)
     → title ≡ field_at head column.work_head_title → number ≡ field_at head column.work_head_submitter_number → iswc ≡ number_in (iswc_of (field_at head column.work_head_iswc)) → t ≡ control records → out ≡ faults_of kind head records
     → IsTrue (is_lawful (record { submitter = submitter; kind = kind; title = title; number = number; iswc = iswc; control = three t; faults = out }))
 lawful_from submitter head title number kind iswc t records out lt capped a b i title_is number_is iswc_is control_is faults_are_all =

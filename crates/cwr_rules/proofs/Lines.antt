@@ -1,5 +1,5 @@
 -- A judge after one line more, and at the end of the lines.
-use Rattle.std.proofs.Common.{◌≡◌, ℕ, ◌<◌, ◌≤◌, List, [], ◌∷◌, ◌++◌, length, reverse, refl, sym, ap, subst, ◌∙◌, append_assoc, append-nil, arith, IsTrue}
+use Rattle.std.proofs.Common.{◌≡◌, ℕ, ◌+◌, ◌<◌, ◌≤◌, List, [], ◌∷◌, ◌++◌, length, reverse, refl, sym, ap, subst, ◌∙◌, append_assoc, append-nil, arith, IsTrue}
 use Rattle.std.proofs.lemmas.List.{length-map, length-reverse, map-append, reverse-append}
 use Rattle.cwr_call.specs.CallValue.{CallValue}
 use Rattle.cwr_call.specs.Lawful.{is_iswc}
@@ -7,14 +7,14 @@ use Rattle.cwr_call.specs.declared.transaction_fault.Fault.{Fault}
 use Rattle.cwr_field.specs.Number.{most_count}
 use Rattle.cwr_record.specs.declared.works.WorkKind.{WorkKind}
 use Rattle.cwr_rules.specs.declared.finding.Finding.{Finding}
-use Rattle.cwr_rules.specs.declared.header.Header.{Header}
+use Rattle.cwr_rules.specs.declared.header.KeptHead.{KeptHead}
 use Rattle.cwr_rules.specs.declared.record.Record.{Record}
 use Rattle.cwr_rules.specs.declared.totals.Totals.{Totals}
 use Rattle.cwr_rules.specs.declared.sums.Sums.{Sums}
 use Rattle.cwr_rules.specs.Collected.{AreSmall, AreSmallSums, found_in, found_among, value_at}
 use Rattle.cwr_rules.specs.Calls.{three, call_in}
 use Rattle.cwr_rules.specs.Faults.{faults_of}
-use Rattle.cwr_rules.specs.Header.{header_of}
+use Rattle.cwr_rules.specs.KeptHead.{kept_head}
 use Rattle.cwr_rules.specs.Judging.{JudgeState, IsJudging}
 use Rattle.cwr_rules.specs.Parties.{kept_in}
 use Rattle.cwr_rules.specs.Records.{record_of, records_of}
@@ -44,8 +44,18 @@ few_of lines details head is le =
     let mapped : length (records_of details) ≡ length details = length-map details record_of in
     omega arith
 
-pub few_records : (s : JudgeState) (kind : WorkKind) (lines : List (List ℕ)) (h : IsJudging s kind lines) → length lines ≤ most_count → length (records_of h.details) < most_count
+few_records : (s : JudgeState) (kind : WorkKind) (lines : List (List ℕ)) (h : IsJudging s kind lines) → length lines ≤ most_count → length (records_of h.details) < most_count
 few_records s kind lines h le = few_of lines h.details h.head h.lines_are le
+
+-- one more at the end
+few_all_of : (lines details : List (List ℕ)) (head : List ℕ) → lines ≡ head ∷ details → length lines ≤ most_count + 1 → length (records_of details) ≤ most_count
+few_all_of lines details head is le =
+    let same : length lines ≡ length (head ∷ details) = ap (λ (xs : List (List ℕ)). length xs) is in
+    let mapped : length (records_of details) ≡ length details = length-map details record_of in
+    omega arith
+
+pub few_all : (s : JudgeState) (kind : WorkKind) (lines : List (List ℕ)) (h : IsJudging s kind lines) → length lines ≤ most_count + 1 → length (records_of h.details) ≤ most_count
+few_all s kind lines h le = few_all_of lines h.details h.head h.lines_are le
 
 pub whole_of : (s : JudgeState) (kind : WorkKind) (lines : List (List ℕ)) (h : IsJudging s kind lines)
     → IsWhole s.sums (kept_in s.first_party (record { keys = s.parties })) (found_in s.first_code (found_among s.codes)) s.is_over s.findings (records_of h.details)
@@ -83,7 +93,7 @@ pub one_more : (s t : JudgeState) (kind : WorkKind) (lines : List (List ℕ)) (l
     → IsJudging t kind (lines ++ line ∷ [])
 one_more s t kind lines line h same so_far =
     let P : List Record → Type 0 = λ rs. IsSoFar t.count t.position t.sums (kept_in t.first_party (record { keys = t.parties })) (found_in t.first_code (found_among t.codes)) t.is_over t.findings rs in
-    let Q : Header → Type 0 = λ x. IsTrue (is_iswc x.iswc) in
+    let Q : KeptHead → Type 0 = λ x. IsTrue (is_iswc x.iswc) in
     record {
       head = h.head;
       details = h.details ++ line ∷ [];
@@ -94,15 +104,15 @@ one_more s t kind lines line h same so_far =
       so_far = subst P (newest_first h.details line) so_far;
     }
 
-abbrev made : List ℕ → Header → Totals → List Fault → CallValue
+abbrev made : List ℕ → KeptHead → Totals → List Fault → CallValue
 made submitter header t faults = record { submitter = submitter; kind = header.kind; title = header.title; number = header.number; iswc = header.iswc; control = three t; faults = faults }
 
 -- the parts of a header and of the records are those of the call
-pub same_call : (submitter head : List ℕ) (kind : WorkKind) (lines details : List (List ℕ)) (header : Header) (t : Totals) (faults : List Fault)
-    → lines ≡ head ∷ details → header ≡ header_of kind head → t ≡ control (records_of details) → faults ≡ faults_of kind head (records_of details)
+pub same_call : (submitter head : List ℕ) (kind : WorkKind) (lines details : List (List ℕ)) (header : KeptHead) (t : Totals) (faults : List Fault)
+    → lines ≡ head ∷ details → header ≡ kept_head kind head → t ≡ control (records_of details) → faults ≡ faults_of kind head (records_of details)
     → made submitter header t faults ≡ call_in submitter kind lines
 same_call submitter head kind lines details header t faults lines_are header_is control_is faults_are =
-    ap (λ (x : Header). made submitter x t faults) header_is
-    ∙ ap (λ (x : Totals). made submitter (header_of kind head) x faults) control_is
-    ∙ ap (λ (x : List Fault). made submitter (header_of kind head) (control (records_of details)) x) faults_are
+    ap (λ (x : KeptHead). made submitter x t faults) header_is
+    ∙ ap (λ (x : Totals). made submitter (kept_head kind head) x faults) control_is
+    ∙ ap (λ (x : List Fault). made submitter (kept_head kind head) (control (records_of details)) x) faults_are
     ∙ ap (λ (x : List (List ℕ)). call_in submitter kind x) (sym lines_are)

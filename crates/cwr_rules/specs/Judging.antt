@@ -3,18 +3,18 @@ use Rattle.std.specs.Prelude.{ℕ, ◌≡◌, Bool, IsTrue, List, ◌∷◌, rev
 use Rattle.cwr_call.specs.Lawful.{is_clean, is_iswc}
 use Rattle.cwr_record.specs.declared.works.WorkKind.{WorkKind}
 use Rattle.cwr_rules.specs.declared.finding.Finding.{Finding}
-use Rattle.cwr_rules.specs.declared.header.Header.{Header}
+use Rattle.cwr_rules.specs.declared.header.KeptHead.{KeptHead}
 use Rattle.cwr_rules.specs.declared.position.Position.{Position}
 use Rattle.cwr_rules.specs.declared.sums.Sums.{Sums}
 use Rattle.cwr_rules.specs.declared.totals.Totals.{Totals}
 use Rattle.cwr_rules.specs.Collected.{found_in, found_among}
-use Rattle.cwr_rules.specs.Header.{header_of}
+use Rattle.cwr_rules.specs.KeptHead.{kept_head}
 use Rattle.cwr_rules.specs.Parties.{kept_in}
 use Rattle.cwr_rules.specs.Records.{records_of}
 use Rattle.cwr_rules.specs.SoFar.{IsSoFar}
 
 pub record JudgeState : Type 0 where
-  pub header : Header
+  pub header : KeptHead
   pub count : ℕ
   pub position : Position
   pub sums : Sums
@@ -31,6 +31,6 @@ pub record IsJudging (state : JudgeState) (kind : WorkKind) (lines : List (List 
   pub details : List (List ℕ)
   pub lines_are : lines ≡ head ∷ details
   pub clean : IsTrue (is_clean head)
-  pub header_is : state.header ≡ header_of kind head
+  pub header_is : state.header ≡ kept_head kind head
   pub nine_digits : IsTrue (is_iswc state.header.iswc)
   pub so_far : IsSoFar state.count state.position state.sums (kept_in state.first_party (record { keys = state.parties })) (found_in state.first_code (found_among state.codes)) state.is_over state.findings (reverse (records_of details))

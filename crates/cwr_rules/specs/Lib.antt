@@ -4,7 +4,7 @@ pub mod Totals
 pub mod LastBlock
 pub mod Rules
 pub mod Head
-pub mod Header
+pub mod KeptHead
 pub mod Faults
 pub mod Holds
 pub mod Calls

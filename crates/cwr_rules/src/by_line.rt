@@ -1,4 +1,4 @@
-ghost use Rattle.std.specs.Prelude.{◌≡◌, ◌∷◌, ◌++◌, ◌≤◌, ℕ, [], List, length, IsTrue, IfOk, OnOk};
+ghost use Rattle.std.specs.Prelude.{◌≡◌, ◌+◌, ◌∷◌, ◌++◌, ◌≤◌, ℕ, [], List, length, IsTrue, IfOk, OnOk};
 ghost use Rattle.cwr_call.specs.Lawful.{is_clean};
 ghost use Rattle.cwr_field.specs.Number.{most_count};
 ghost use Rattle.cwr_grammar.specs.RawParts.{RawParts};
@@ -7,13 +7,13 @@ ghost use Rattle.cwr_record.specs.declared.works.WorkKind.{WorkKind};
 ghost use Rattle.cwr_rules.specs.Collected.{found_in, kept_at};
 ghost use Rattle.cwr_rules.specs.Calls.{call_of};
 ghost use Rattle.cwr_rules.specs.Faults.{faults_of};
-ghost use Rattle.cwr_rules.specs.Header.{header_of};
+ghost use Rattle.cwr_rules.specs.KeptHead.{kept_head};
 ghost use Rattle.cwr_rules.specs.Judging.{IsJudging};
 ghost use Rattle.cwr_rules.specs.Parties.{kept_in};
 ghost use Rattle.cwr_rules.specs.SoFar.{IsWhole};
 ghost use Rattle.cwr_rules.specs.declared.record.Record.{Record};
 
-use crate::header::Header;
+use crate::header::KeptHead;
 use crate::so_far::SoFar;
 use crate::standing::push_standing;
 use crate::whole_faults::push_faults_of_whole;
@@ -28,7 +28,7 @@ use std::marker::Model;
 /// It borrows no line. After an error it tells nothing any more.
 #[derive(Drop)]
 pub struct Judge<A: Allocator = Global> {
-    header: Header,
+    header: KeptHead,
     read: SoFar<A>,
     alloc: A,
 }
@@ -55,18 +55,20 @@ impl<A: Allocator> Model for Judge<A> {
 
 impl<A: Allocator + Copy> Judge<A> {
     /// Begins at the header's line. No memory is asked for.
+    #[inline(always)]
     pub fn begin(alloc: A, kind: WorkKind, head: &[u8]) -> Judge<A>
         requires clean { IsTrue (is_clean head.now) }
         ensures { IsJudging result kind (head.now ∷ []) }
     {
         Judge {
-            header: Header::of(kind, head),
+            header: KeptHead::of(kind, head),
             read: SoFar::new(alloc),
             alloc,
         }
     }
 
     /// Goes past a detail's line, of this record type.
+    #[inline(always)]
     pub fn take(&mut self, line: &[u8], record_type: RecordType) -> Result<(), Memory>
         requires open { (kind : WorkKind) × (lines : List (List ℕ)) × IsJudging self.old kind lines × (length lines ≤ most_count) }
         requires read { record_type ≡ type_of line.now }
@@ -79,7 +81,7 @@ impl<A: Allocator + Copy> Judge<A> {
     /// The call of the transaction whose lines were taken. Memory is asked for only where it has faults.
     pub fn end(&self, submitter: [u8; 11]) -> Result<Call<A>, Memory>
         requires clean { IsTrue (is_clean submitter) }
-        requires open { (kind : WorkKind) × (lines : List (List ℕ)) × IsJudging self.now kind lines × (length lines ≤ most_count) }
+        requires open { (kind : WorkKind) × (lines : List (List ℕ)) × IsJudging self.now kind lines × (length lines ≤ most_count + 1) }
         ensures { IfOk result (λ call. (transaction : RawParts) → IsJudging self.now transaction.kind transaction.lines → call ≡ call_of submitter transaction) }
     {
         let header = self.header;
@@ -105,11 +107,11 @@ impl<A: Allocator + Copy> Judge<A> {
 /// All faults of a transaction, in order. Memory is asked for only where there is one.
 fn faults_of<A: Allocator + Copy>(
     alloc: A,
-    header: &Header,
+    header: &KeptHead,
     read: &SoFar<A>,
 ) -> Result<Vec<Fault, A>, Memory>
     ensures { IfOk result (λ faults. (kind : WorkKind) (head : List ℕ) (records : List Record)
-        → header.now ≡ header_of kind head
+        → header.now ≡ kept_head kind head
         → IsWhole read.now.summary.sums (kept_in read.now.summary.parties.first read.now.summary.parties.set) (found_in read.now.summary.collected.first (kept_at read.now.summary.collected.others)) read.now.summary.collected.is_over read.now.findings.items records
         → faults.items ≡ faults_of kind head records) }
 {

@@ -3,14 +3,14 @@ ghost use Rattle.cwr_field.specs.Iswc.{iswc_of};
 ghost use Rattle.cwr_call.specs.Lawful.{is_iswc};
 ghost use Rattle.cwr_record.specs.Columns.{field_at, work_head_copyright_date, work_head_duration, work_head_iswc};
 ghost use Rattle.cwr_rules.specs.Head.{has_no_title, has_no_number, has_wrong_iswc, has_wrong_date, is_copyright_date, is_duration, number_in};
-ghost use Rattle.cwr_rules.specs.Header.{header_of};
+ghost use Rattle.cwr_rules.specs.KeptHead.{kept_head};
 
 use cwr_field::{Iswc, date, is_blank, iswc, time};
 use cwr_record::{WorkHead, WorkKind, field_at, is_no_day};
 
-/// What the call and the rules need of a header's line.
+/// What is kept of a transaction's header line, NWR or REV: what the call and the rules need of it.
 #[derive(Clone, Copy)]
-pub(crate) struct Header {
+pub(crate) struct KeptHead {
     pub(crate) kind: WorkKind,
     pub(crate) title: [u8; 60],
     /// The submitter's number of the work.
@@ -27,14 +27,14 @@ pub(crate) struct Header {
     pub(crate) has_wrong_date: bool,
 }
 
-impl Header {
+impl KeptHead {
     /// Of a header's line.
-    pub(crate) fn of(kind: WorkKind, head: &[u8]) -> Header
-        ensures value { result ≡ header_of kind head.now }
+    pub(crate) fn of(kind: WorkKind, head: &[u8]) -> KeptHead
+        ensures value { result ≡ kept_head kind head.now }
         ensures nine_digits { IsTrue (is_iswc result.iswc) }
     {
         let (has_wrong_iswc, iswc) = work_iswc(head);
-        Header {
+        KeptHead {
             kind,
             title: field_at(head, WorkHead::TITLE).bytes(),
             number: field_at(head, WorkHead::SUBMITTER_NUMBER).bytes(),

@@ -2,9 +2,8 @@
 //!
 //! [`judge`] reads a transaction's lines and gives its [`Call`]: who submits which work under which number, with how
 //! large a control of each right, and every fault of the rules J1 to J15, in rising order. A [`Judge`] gives the same of
-//! lines that come one by one. For who is to mend it,
-//! [`added_shares`] tells what its shares add up to, and [`is_copyright_date`] and [`is_duration`] which of the two is
-//! wrong. [`laws`] says of the definitions what they mean.
+//! lines that come one by one. For who is to mend it, [`added_shares`] tells what its shares add up to, and
+//! [`is_copyright_date`] and [`is_duration`] which of the two is wrong. [`laws`] says of the definitions what they mean.
 #![tactic(auto)]
 
 mod added;

@@ -3,12 +3,12 @@ ghost use Rattle.cwr_record.specs.Kinds.{work_kind_code};
 ghost use Rattle.cwr_rules.specs.Collected.{found_in, kept_at};
 ghost use Rattle.cwr_rules.specs.declared.record.Record.{Record};
 ghost use Rattle.cwr_rules.specs.Head.{is_off};
-ghost use Rattle.cwr_rules.specs.Header.{whole_rules};
+ghost use Rattle.cwr_rules.specs.KeptHead.{whole_rules};
 ghost use Rattle.cwr_rules.specs.Faults.{all_found};
 ghost use Rattle.cwr_rules.specs.Parties.{kept_in};
 ghost use Rattle.cwr_rules.specs.Summary.{IsSummary};
 
-use crate::header::Header;
+use crate::header::KeptHead;
 use crate::standing::push_found;
 use crate::summary::Summary;
 use cwr_call::Fault;
@@ -25,7 +25,7 @@ fn is_off(total: u64) -> bool
 /// Appends the faults of the transaction as a whole.
 pub(crate) fn push_faults_of_whole<A: Allocator + Copy>(
     faults: &mut Vec<Fault, A>,
-    header: &Header,
+    header: &KeptHead,
     summary: &Summary<A>,
 ) -> Result<(), Memory>
     ensures { OnOk result ((records : List Record) → IsSummary summary.now.sums (kept_in summary.now.parties.first summary.now.parties.set) (found_in summary.now.collected.first (kept_at summary.now.collected.others)) summary.now.collected.is_over records

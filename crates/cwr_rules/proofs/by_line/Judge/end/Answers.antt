@@ -1,12 +1,12 @@
 use Rattle.std.proofs.Common.{sym, ap, subst, ◌∙◌}
 use Rattle.cwr_record.specs.declared.works.WorkKind.{WorkKind}
-use Rattle.cwr_rules.specs.declared.header.Header.{Header}
+use Rattle.cwr_rules.specs.declared.header.KeptHead.{KeptHead}
 use Rattle.cwr_rules.specs.declared.sums.Sums.{Sums}
 use Rattle.cwr_rules.specs.Faults.{faults_of}
 use Rattle.cwr_rules.specs.Judging.{JudgeState, IsJudging}
 use Rattle.cwr_rules.specs.Records.{records_of}
 use Rattle.cwr_rules.proofs.LawfulCall.{lawful_from}
-use Rattle.cwr_rules.proofs.Lines.{few_records, whole_of, same_call}
+use Rattle.cwr_rules.proofs.Lines.{few_all, whole_of, same_call}
 use Rattle.cwr_rules.proofs.SmallShares.{records_capped}
 use Rattle.cwr_rules.proofs.by_line.Judge.end.Goals as goal
 
@@ -19,9 +19,9 @@ of_lawful-call-requires g c =
     let records = records_of h.details in
     let whole = whole_of _ kind lines h in
     let faults = c.new.ensures ∙ c.in_ok-faults.ensures kind h.head records h.header_is whole in
-    let same = ap (λ (k : WorkKind). faults_of k h.head records) (sym (ap (λ (x : Header). x.kind) h.header_is)) in
-    lawful_from c.args.submitter h.head _ _ _ _ _ records _ (few_records _ kind lines h c.requires.open.3) (records_capped h.details) c.requires.clean h.clean h.nine_digits
-    (ap (λ (x : Header). x.title) h.header_is) (ap (λ (x : Header). x.number) h.header_is) (ap (λ (x : Header). x.iswc) h.header_is)
+    let same = ap (λ (k : WorkKind). faults_of k h.head records) (sym (ap (λ (x : KeptHead). x.kind) h.header_is)) in
+    lawful_from c.args.submitter h.head _ _ _ _ _ records _ (few_all _ kind lines h c.requires.open.3) (records_capped h.details) c.requires.clean h.clean h.nine_digits
+    (ap (λ (x : KeptHead). x.title) h.header_is) (ap (λ (x : KeptHead). x.number) h.header_is) (ap (λ (x : KeptHead). x.iswc) h.header_is)
     (ap (λ (s : Sums). s.control) whole.summary.sums_are) (faults ∙ same)
 
 pub returns : goal.returns

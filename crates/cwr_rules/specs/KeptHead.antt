@@ -4,13 +4,13 @@ use Rattle.cwr_field.specs.Iswc.{iswc_of}
 use Rattle.cwr_record.specs.Columns as column
 use Rattle.cwr_record.specs.Columns.{field_at}
 use Rattle.cwr_record.specs.declared.works.WorkKind.{WorkKind}
-use Rattle.cwr_rules.specs.declared.header.Header.{Header}
+use Rattle.cwr_rules.specs.declared.header.KeptHead.{KeptHead}
 use Rattle.cwr_rules.specs.declared.record.Record.{Record}
 use Rattle.cwr_rules.specs.Head.{has_no_title, has_no_number, has_wrong_iswc, has_wrong_date, has_no_writer, is_off, number_in}
 use Rattle.cwr_rules.specs.Totals.{ownership, is_over_somewhere}
 
-abbrev pub header_of : WorkKind → List ℕ → Header
-header_of kind head = record {
+abbrev pub kept_head : WorkKind → List ℕ → KeptHead
+kept_head kind head = record {
   kind = kind;
   title = field_at head column.work_head_title;
   number = field_at head column.work_head_submitter_number;
@@ -22,7 +22,7 @@ header_of kind head = record {
 }
 
 -- the rules of a transaction as a whole, as far as its header's line is kept
-abbrev pub whole_rules : Header → List Record → List (ℕ × Bool)
+abbrev pub whole_rules : KeptHead → List Record → List (ℕ × Bool)
 whole_rules header records =
     (2, header.has_no_title)
     ∷ (3, header.has_no_number)
