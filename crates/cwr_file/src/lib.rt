@@ -5,8 +5,8 @@
 //! a sink.
 //!
 //! [`parse_file`] reads a submission file: its header and its transactions, or its first fault. Nothing is copied:
-//! a [`RawTransaction`] borrows the file's bytes, and [`Lines`] goes over lines. [`ack_file`] is the text of the
-//! acknowledgement file that answers it.
+//! a [`RawTransaction`] borrows the file's bytes, and [`Lines`] goes over lines. [`visit_file`] gives a [`Visitor`] the
+//! same transactions line by line, on its way. [`ack_file`] is the text of the acknowledgement file that answers it.
 #![tactic(auto)]
 
 pub mod laws;
@@ -18,6 +18,7 @@ pub use cwr_acknowledgement::{AckItem, ack_file};
 pub use cwr_call::{Fault, Faults};
 pub use cwr_field::Memory;
 pub use cwr_grammar::{
-    FileRefusal, Lines, RawTransaction, Submission, TransactionIter, Transactions, parse_file,
+    Envelope, FileRefusal, Lines, RawTransaction, Submission, TransactionIter, Transactions,
+    Visitor, file_header, parse_file, visit_file,
 };
 pub use cwr_record::{Header, Stamp, Status, WorkKind};

@@ -15,3 +15,5 @@ mod lines;
 mod streams;
 #[cfg(test)]
 mod taken;
+#[cfg(test)]
+mod visited;

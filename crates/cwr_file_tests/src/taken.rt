@@ -67,11 +67,11 @@ fn gives_the_lines_of_a_transaction(rt: HostRuntime) -> Result<(), Fail> {
 }
 
 /// A header of a revision.
-const REV: &[u8] =
+pub(crate) const REV: &[u8] =
     b"REV0000000000000000SONG ONE                                                      W1";
 
 /// A file of two groups, with two transactions and one.
-const THREE_WORKS: [&[u8]; 10] = [
+pub(crate) const THREE_WORKS: [&[u8]; 10] = [
     HDR,
     GRH,
     NWR,

@@ -4,7 +4,7 @@ use Rattle.std.proofs.lemmas.Bool.Decides.{nat_tests}
 use Rattle.std.proofs.Math.Bool.{and-false}
 use Rattle.std.proofs.lemmas.Bool.{not-false}
 use Rattle.std.specs.List.{list_any, range_with_len}
-use Rattle.cwr_grammar.proofs.Envelope.{Group, transactions_from, size, all_transactions_of, all_lines_of, groups_from, envelope, first_role_fault}
+use Rattle.cwr_grammar.proofs.Enveloped.{Group, transactions_from, size, all_transactions_of, all_lines_of, groups_from, envelope, first_role_fault}
 use Rattle.cwr_grammar.specs.Before.{in_group, in_transaction, group_kind, groups, transactions, all_transactions, group_lines, transaction_lines, is_file_trailer, is_nil}
 use Rattle.cwr_grammar.specs.FaultTests.{is_number, option_next, same_kind, is_foreign}
 use Rattle.cwr_grammar.specs.FirstFault.{role_fault, fault_at_end, at_line, or_else}
@@ -57,7 +57,7 @@ some_kind (Some a) g e = (a, refl)
 
 -- ---- what a line without a fault is
 
-detail_is : (before : List Role) (t r : Option ℕ) → role_fault before (Detail t r) ≡ None
+pub detail_is : (before : List Role) (t r : Option ℕ) → role_fault before (Detail t r) ≡ None
     → (in_group before ≡ true) × (in_transaction before ≡ true) × (j : ℕ) × (t ≡ Some j) × (j + 1 ≡ transactions before) × (r ≡ Some (length (transaction_lines before) + 1))
 detail_is before t r e =
     let a = passes _ 11 _ e in
@@ -79,6 +79,32 @@ head_is before k t r e =
     let d = passes _ 8 _ f.1 in
     let numbers = both _ _ d.0 in
     (not-false _ c.0, kind_is k (group_kind before) (not-false _ f.0), number_is t _ numbers.0, number_is r _ numbers.1)
+
+some_none : {A : Type 0} (n : ℕ) → Some n ≡ None → A
+some_none n e = absurd cc
+
+-- the header of a kind that is not read has a fault
+pub head_named : (before : List Role) (t r : Option ℕ) → role_fault before (TransactionHeader None t r) ≡ None → ⊥
+head_named before t r e =
+    let a = passes _ 11 _ e in
+    let b = passes _ 1 _ a.1 in
+    let c = passes _ 4 _ b.1 in
+    some_none 6 c.1
+
+-- HDR stands first
+pub file_head_is : (before : List Role) (valid : Bool) → role_fault before (FileHeader valid) ≡ None → is_nil before ≡ true
+file_head_is before valid e =
+    let a = passes _ 11 _ e in
+    let b = passes _ 1 _ a.1 in
+    let m = passes _ 3 _ b.1 in
+    let c = passes _ 4 _ m.1 in
+    not-false _ c.0
+
+pub unnamed_is : (before : List Role) → role_fault before Unnamed ≡ None → ⊥
+unnamed_is before e =
+    let a = passes _ 11 _ e in
+    let b = passes _ 1 _ a.1 in
+    some_none 3 b.1
 
 pub group_head_is : (before : List Role) (k : Option WorkKind) (i : Option ℕ) → role_fault before (GroupHeader k i) ≡ None
     → (in_group before ≡ false) × (a : WorkKind) × (k ≡ Some a) × (i ≡ Some (groups before + 1))
@@ -250,9 +276,6 @@ file_head_first before valid e some =
     let c = passes _ 3 _ b.1 in
     let d = passes _ 4 _ c.1 in
     false_true _ (not-false _ d.0) some
-
-some_none : {A : Type 0} (n : ℕ) → Some n ≡ None → A
-some_none n e = absurd cc
 
 -- ---- a line for an equal one
 

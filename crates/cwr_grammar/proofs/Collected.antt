@@ -1,13 +1,10 @@
 -- The transactions of lines, each with its details, and how many groups and records lines have.
-use Rattle.std.specs.Prelude.{ℕ, ◌+◌, Bool, true, false, List, [], ◌∷◌, Some, None, if◌then◌else◌}
+use Rattle.std.specs.Prelude.{ℕ, ◌+◌, List, [], ◌∷◌, Some, None, if◌then◌else◌}
 use Rattle.cwr_grammar.specs.declared.role.Role.{Role}
 use Rattle.cwr_grammar.specs.declared.role.Role.TheVariants.{FileHeader, GroupHeader, TransactionHeader, Detail, GroupTrailer, FileTrailer, Unnamed}
 use Rattle.cwr_grammar.specs.Roles.{role_of}
 use Rattle.cwr_grammar.specs.RawParts.{RawParts}
-
-abbrev pub is_detail : Role → Bool
-is_detail (Detail transaction place) = true
-is_detail _ = false
+use Rattle.cwr_grammar.specs.Visiting.{is_detail}
 
 -- the details that lines begin with
 abbrev pub details : List (List ℕ) → List (List ℕ)

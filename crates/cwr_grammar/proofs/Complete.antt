@@ -9,7 +9,7 @@ use Rattle.cwr_record.specs.declared.works.WorkKind.TheVariants.{Nwr, Rev}
 use Rattle.cwr_grammar.specs.Before.{in_group, in_transaction, group_kind, groups, transactions, all_transactions, group_lines, transaction_lines, is_file_trailer, is_nil}
 use Rattle.cwr_grammar.specs.FaultTests.{same_kind}
 use Rattle.cwr_grammar.specs.FirstFault.{role_fault}
-use Rattle.cwr_grammar.proofs.Envelope.{first_role_fault, Group, transaction, transactions_from, size, all_transactions_of, all_lines_of, group_text, groups_from, envelope}
+use Rattle.cwr_grammar.proofs.Enveloped.{first_role_fault, Group, transaction, transactions_from, size, all_transactions_of, all_lines_of, group_text, groups_from, envelope}
 use Rattle.cwr_grammar.proofs.Accepted.{details_from}
 
 -- a line without a fault

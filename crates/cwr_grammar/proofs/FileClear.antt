@@ -8,7 +8,7 @@ use Rattle.cwr_grammar.specs.Roles.{role_of}
 use Rattle.cwr_grammar.specs.Before.{is_file_trailer}
 use Rattle.cwr_grammar.specs.FaultTests.{is_headless, is_after_end, is_tail, has_control, is_long}
 use Rattle.cwr_grammar.specs.FirstFault.{role_fault, at_line, or_else, or_number, line_fault, first_fault_after}
-use Rattle.cwr_grammar.proofs.Envelope.{first_role_fault, Group, transaction, transactions_from, size, all_transactions_of, all_lines_of, group_text, groups_from, envelope}
+use Rattle.cwr_grammar.proofs.Enveloped.{first_role_fault, Group, transaction, transactions_from, size, all_transactions_of, all_lines_of, group_text, groups_from, envelope}
 use Rattle.cwr_grammar.specs.File.{File, FileGroup, IsFile, IsPlain, AreGroups, AreTransactions, AreDetails, records_of, lines_of_group, lines_of_groups, joined, transactions_in}
 use Rattle.cwr_grammar.proofs.Accepted.{details_from, split, end_is}
 use Rattle.cwr_grammar.proofs.Complete.{envelope_clear, group_end_is, file_end_is}

@@ -4,7 +4,7 @@ use Rattle.cwr_grammar.specs.declared.role.Role.{Role}
 use Rattle.cwr_grammar.specs.declared.role.Role.TheVariants.{GroupHeader, TransactionHeader, Detail, GroupTrailer}
 use Rattle.cwr_record.specs.declared.works.WorkKind.{WorkKind}
 use Rattle.cwr_grammar.specs.Roles.{role_of}
-use Rattle.cwr_grammar.proofs.Envelope.{Group, transaction, transactions_from, size, all_transactions_of, all_lines_of, group_text, groups_from}
+use Rattle.cwr_grammar.proofs.Enveloped.{Group, transaction, transactions_from, size, all_transactions_of, all_lines_of, group_text, groups_from}
 use Rattle.cwr_grammar.specs.File.{FileGroup, AreGroups, AreTransactions, AreDetails, lines_of_groups, joined, transactions_in}
 use Rattle.cwr_grammar.proofs.Accepted.{details_from}
 use Rattle.cwr_grammar.proofs.Complete.{group_end_is}

@@ -6,7 +6,7 @@ use Rattle.cwr_grammar.specs.Roles.{role_of}
 use Rattle.cwr_grammar.specs.Before.{is_file_trailer}
 use Rattle.cwr_grammar.specs.FaultTests.{is_headless, is_after_end, is_tail, has_control, is_long}
 use Rattle.cwr_grammar.specs.FirstFault.{role_fault, fault_at_end, at_line, or_number, line_fault, first_fault_after}
-use Rattle.cwr_grammar.proofs.Envelope.{first_role_fault}
+use Rattle.cwr_grammar.proofs.Enveloped.{first_role_fault}
 use Rattle.cwr_grammar.specs.File.{File, IsFile, IsPlain, lines_of_groups}
 use Rattle.cwr_grammar.proofs.Accepted.{accepted, split}
 use Rattle.cwr_grammar.proofs.Complete.{step, file_end_is}

@@ -2,7 +2,7 @@ pub mod FirstLine
 pub mod Controls
 pub mod lemmas
 pub mod Small
-pub mod Envelope
+pub mod Enveloped
 pub mod Accepted
 pub mod Complete
 pub mod OneEnvelope
@@ -23,3 +23,4 @@ pub mod FileBounds
 pub mod HeaderLine
 pub mod Least
 pub mod RoleLaw
+pub mod Visits

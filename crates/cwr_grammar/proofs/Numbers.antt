@@ -33,7 +33,7 @@ HasSmallNumbers (TransactionHeader kind transaction place) = IfSome transaction 
 HasSmallNumbers (GroupTrailer group transactions records) = IfSome records (λ n. n < 10 ^ 8)
 HasSmallNumbers (FileTrailer groups transactions records) = IfSome records (λ n. n < 10 ^ 8)
 HasSmallNumbers (FileHeader valid) = Unit {0}
-HasSmallNumbers (Detail transaction place) = Unit {0}
+HasSmallNumbers (Detail transaction place) = IfSome place (λ n. n < 10 ^ 8)
 HasSmallNumbers Unnamed = Unit {0}
 
 -- ---- digits
@@ -64,16 +64,16 @@ small_at Rev line = field_below line column.prefix_transaction
 small_at Ack line = field_below line column.prefix_transaction
 small_at Other line = field_below line column.prefix_transaction
 small_at Hdr line = tt
-small_at Spu line = tt
-small_at Spt line = tt
-small_at Opu line = tt
-small_at Swr line = tt
-small_at Swt line = tt
-small_at Pwr line = tt
-small_at Owr line = tt
-small_at Alt line = tt
-small_at Xrf line = tt
-small_at Carried line = tt
+small_at Spu line = field_below line column.prefix_detail
+small_at Spt line = field_below line column.prefix_detail
+small_at Opu line = field_below line column.prefix_detail
+small_at Swr line = field_below line column.prefix_detail
+small_at Swt line = field_below line column.prefix_detail
+small_at Pwr line = field_below line column.prefix_detail
+small_at Owr line = field_below line column.prefix_detail
+small_at Alt line = field_below line column.prefix_detail
+small_at Xrf line = field_below line column.prefix_detail
+small_at Carried line = field_below line column.prefix_detail
 small_at Bad line = tt
 
 pub small_role : (line : List ℕ) (role : Role) → role_of line ≡ role → HasSmallNumbers role
@@ -85,6 +85,11 @@ small_role line role e = subst HasSmallNumbers e (small_at (type_of line) line)
 pub clear_role : (before : List (List ℕ)) (line : List ℕ) → is_after_end before ≡ false → None ≡ line_fault before line → role_fault (map role_of before) (role_of line) ≡ None
 clear_role before line goes clear =
     (unchain (is_after_end before) (is_headless (map role_of before) (role_of line)) (has_control line) (is_long line) (role_fault (map role_of before) (role_of line)) (cond (is_tail line) None (Some 11)) goes (sym clear)).2
+
+-- and no control byte
+pub clear_control : (before : List (List ℕ)) (line : List ℕ) → is_after_end before ≡ false → None ≡ line_fault before line → has_control line ≡ false
+clear_control before line goes clear =
+    (unchain (is_after_end before) (is_headless (map role_of before) (role_of line)) (has_control line) (is_long line) (role_fault (map role_of before) (role_of line)) (cond (is_tail line) None (Some 11)) goes (sym clear)).1
 
 small_is : (o : Option ℕ) (n k : ℕ) → o ≡ Some n → IfSome o (λ m. m < k) → n < k
 small_is None n k e h = absurd cc
@@ -109,11 +114,10 @@ few_groups_after before line role s next is next_is read clear few =
     subst (λ (n : ℕ). n < 10 ^ 5) (sym (ap (λ (x : FileCounts). x.groups) next_is)) (groups_stay role (map role_of before) clear_at (small_role line role (sym read)) now)
 
 fits_at : (role : Role) (before : List Role) (s : FileCounts) → s ≡ counts_of before → role_fault before role ≡ None → HasSmallNumbers role → s.groups < 10 ^ 5 → FitsHeader role s
-fits_at (TransactionHeader (Some k) j d) before s is clear small few =
-    let h = head_is before (Some k) j d clear in
+fits_at (TransactionHeader k j d) before s is clear small few =
+    let h = head_is before k j d clear in
     let lt = small_is j _ (10 ^ 8) h.2 small in
-    (omega (arith, few), omega (arith, lt, ap (λ (x : FileCounts). x.transactions) is))
-fits_at (TransactionHeader None j d) before s is clear small few = tt
+    (few, omega (arith, lt, ap (λ (x : FileCounts). x.transactions) is))
 fits_at (GroupHeader k i) before s is clear small few = tt
 fits_at (FileHeader valid) before s is clear small few = tt
 fits_at (Detail j d) before s is clear small few = tt

@@ -3,7 +3,7 @@ use Rattle.std.proofs.Common.{◌≡◌, ℕ, zero, suc, ◌+◌, List, [], ◌�
 use Rattle.cwr_grammar.specs.declared.role.Role.{Role}
 use Rattle.cwr_grammar.specs.declared.role.Role.TheVariants.{FileHeader, GroupHeader, TransactionHeader, Detail, GroupTrailer, FileTrailer, Unnamed}
 use Rattle.cwr_record.specs.declared.works.WorkKind.{WorkKind}
-use Rattle.cwr_grammar.proofs.Envelope.{Group, size, transaction, transactions_from, group_text, groups_from, envelope}
+use Rattle.cwr_grammar.proofs.Enveloped.{Group, size, transaction, transactions_from, group_text, groups_from, envelope}
 use Rattle.cwr_grammar.proofs.Accepted.{details_from}
 
 -- the groups of lines, the transactions before the first group head, and the details before the first head

@@ -35,7 +35,8 @@ pub record Collecting (text : List ℕ) (spans : List Span) (current : Option Op
   pub whole : IsWhole text at current
   pub found : raws_at text spans ++ following text at current (lines (drop at text)) ++ raws (lines (drop at text)) g t ≡ raws (lines text) 0 0
 
-pub record Reading (text : List ℕ) (spans : List Span) (current : Option Open) (counts : FileCounts) (at : ℕ) (before : List (List ℕ)) : Type 0 where
+-- the lines before a position have no fault, and are counted; what is still to come decides on the text
+pub record Going (text : List ℕ) (counts : FileCounts) (at : ℕ) (before : List (List ℕ)) : Type 0 where
   pub inside : at ≤ length text
   pub few : length before ≤ at
   pub few_groups : counts.groups < 10 ^ 5
@@ -44,4 +45,8 @@ pub record Reading (text : List ℕ) (spans : List Span) (current : Option Open)
   pub fault : first_fault_after before (lines (drop at text)) ≡ first_fault_after [] (lines text)
   pub group_total : counts.groups + group_count (lines (drop at text)) ≡ group_count (lines text)
   pub record_total : counts.lines + record_count (lines (drop at text)) ≡ record_count (lines text)
+
+-- the same, with the places of the transactions
+pub record Reading (text : List ℕ) (spans : List Span) (current : Option Open) (counts : FileCounts) (at : ℕ) (before : List (List ℕ)) : Type 0 where
+  pub going : Going text counts at before
   pub collecting : at < length text → Collecting text spans current counts.groups counts.transactions at

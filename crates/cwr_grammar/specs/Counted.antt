@@ -1,5 +1,5 @@
 -- What is counted while a file is read, and what the lines before make of it.
-use Rattle.std.specs.Prelude.{◌<◌, ◌≤◌, ◌^◌, List, length, Some}
+use Rattle.std.specs.Prelude.{◌<◌, ◌≤◌, ◌^◌, List, length}
 use Rattle.cwr_grammar.specs.declared.role.Role.{Role}
 use Rattle.cwr_grammar.specs.declared.role.Role.TheVariants.{TransactionHeader}
 use Rattle.cwr_grammar.specs.declared.file_counts.FileCounts.{FileCounts}
@@ -29,7 +29,7 @@ pub record AreSmall (s : FileCounts) : Type 0 where
   pub transactions : s.transactions ≤ s.lines
   pub all : s.all_transactions ≤ s.lines
 
--- where a transaction begins, the numbers of its group and of itself fit 32 bits
+-- where a transaction begins, its group's number has five digits at most, and its own eight
 abbrev pub FitsHeader : Role → FileCounts → Type 0
-FitsHeader (TransactionHeader (Some kind) transaction place) s = (s.groups < 2 ^ 32) × (s.transactions < 2 ^ 32)
+FitsHeader (TransactionHeader kind transaction place) s = (s.groups < 10 ^ 5) × (s.transactions < 10 ^ 8)
 FitsHeader _ s = Unit {0}

@@ -9,3 +9,4 @@ pub mod Submitted
 pub mod Counted
 pub mod Spans
 pub mod FaultText
+pub mod Visiting

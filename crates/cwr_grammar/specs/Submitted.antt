@@ -14,9 +14,7 @@ use Rattle.cwr_grammar.specs.Faults.{IsLeastFault}
 use Rattle.cwr_grammar.specs.File.{File, IsFile, records_of}
 use Rattle.cwr_grammar.specs.RawParts.{RawParts, IsPlaced, lines_in, raws_of}
 use Rattle.cwr_grammar.specs.declared.file_counts.FileCounts.{FileCounts}
-use Rattle.cwr_grammar.specs.declared.span.Span.{Span}
 use Rattle.cwr_grammar.specs.FirstFault.{first_fault, tail_fault, with_eleven}
-use Rattle.cwr_grammar.specs.Spans.{IsInside, raws_at}
 
 -- the file as it is handed out: its header, its transactions, how many groups and how many records it has
 pub record IsSubmission (f : File) (head : Header) (found : List RawParts) (group_count record_count : ℕ) : Type 0 where
@@ -48,12 +46,21 @@ pub record AreParts (f : File) (found : List RawParts) (group_count record_count
   pub records : record_count ≡ length (records_of f)
 
 -- A text was read up to its TRL without a fault, which ends before a position. What follows decides alone whether the
--- text is a file, and if it is one, these are its parts.
-pub record IsReadTo (text : List ℕ) (spans : List Span) (s : FileCounts) (at : ℕ) : Type 0 where
+-- text is a file.
+pub record IsEndedAt (text : List ℕ) (s : FileCounts) (at : ℕ) : Type 0 where
   pub inside : at ≤ length text
   pub few : s.lines ≤ at
   pub few_groups : s.groups < 10 ^ 5
   pub few_records : s.lines < 10 ^ 8
-  pub placed : AllByRecursion (IsInside text) spans
   pub fault : first_fault (lines text) ≡ with_eleven (tail_fault (s.lines + 1) (lines (drop at text)))
-  pub parts : (f : File) → IsFile (lines text) f → AreParts f (raws_at text spans) s.groups s.lines
+
+-- and if it is one, these are its parts
+pub record IsReadTo (text : List ℕ) (found : List RawParts) (s : FileCounts) (at : ℕ) : Type 0 where
+  pub ended : IsEndedAt text s at
+  pub parts : (f : File) → IsFile (lines text) f → AreParts f found s.groups s.lines
+
+-- a text is a file with this header
+pub record IsHeaded (text : List (List ℕ)) (head : Header) : Type 0 where
+  pub file : File
+  pub formed : IsFile text file
+  pub header : StandsFor table.header file.header head

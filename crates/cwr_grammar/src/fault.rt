@@ -15,6 +15,7 @@ use cwr_field::is_printable;
 const LONGEST_LINE: usize = 4096;
 
 /// The least fault of the next line, where the file did not end before it.
+#[inline(always)]
 pub(crate) fn fault_of(counts: &FileCounts, line: &[u8], is_clean: bool, role: &Role) -> Option<u8>
     requires small { AreSmall counts.now }
     requires goes { counts.now.is_ended ≡ false }

@@ -52,6 +52,7 @@ impl FileCounts {
     }
 
     /// FileCounts a line that has no fault.
+    #[inline(always)]
     pub(crate) fn add(&mut self, role: &Role)
         requires small { AreSmall self.old }
         ensures { (before : List Role) → self.old ≡ counts_of before → self.new ≡ counts_of (role.now ∷ before) }
@@ -82,6 +83,7 @@ impl FileCounts {
     }
 
     /// The least fault that the role of the next line shows.
+    #[inline(always)]
     pub(crate) fn fault(&self, role: &Role) -> Option<u8>
         requires small { AreSmall self.now }
         ensures { (before : List Role) → self.now ≡ counts_of before → result ≡ role_fault before role.now }

@@ -1,10 +1,12 @@
 //! The grammar of CWR submission files.
 //!
 //! [`parse_file`] reads a submission file: its header and its transactions, or its first fault. Nothing is copied:
-//! a [`RawTransaction`] borrows the file's bytes, and [`Lines`] goes over lines.
+//! a [`RawTransaction`] borrows the file's bytes, and [`Lines`] goes over lines. [`visit_file`] gives the same transactions
+//! to a [`Visitor`] line by line, on its way. [`file_header`] reads the header alone.
 #![tactic(auto)]
 
 mod control_bytes;
+mod envelope;
 mod fault;
 mod file_counts;
 pub mod laws;
@@ -14,10 +16,13 @@ mod role;
 mod span;
 mod submission;
 mod transactions;
+mod visitor;
 
 pub use cwr_field::Memory;
 pub use cwr_record::{Header, WorkKind};
+pub use envelope::{Envelope, file_header};
 pub use lines::Lines;
 pub use refusal::FileRefusal;
 pub use submission::{Submission, parse_file};
 pub use transactions::{RawTransaction, TransactionIter, Transactions};
+pub use visitor::{Visitor, visit_file};

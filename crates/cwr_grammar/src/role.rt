@@ -1,7 +1,7 @@
 ghost use Rattle.std.specs.Prelude.{◌≡◌};
 ghost use Rattle.cwr_record.specs.Columns.{field_at, group_head_transaction_type};
 ghost use Rattle.cwr_record.specs.Kinds.{work_kind_named};
-ghost use Rattle.cwr_grammar.specs.Roles.{role_of, transaction_header, detail, is_dated};
+ghost use Rattle.cwr_grammar.specs.Roles.{role_of, role_at, transaction_header, detail, is_dated};
 
 use cwr_field::{date, time};
 use cwr_record::{
@@ -34,7 +34,15 @@ pub(crate) enum Role {
 pub(crate) fn role_of(line: &[u8]) -> Role
     ensures { result ≡ role_of line.now }
 {
-    match type_of(line) {
+    role_at(type_of(line), line)
+}
+
+/// The role of a line with a record of this type.
+#[inline(always)]
+pub(crate) fn role_at(record_type: RecordType, line: &[u8]) -> Role
+    ensures { result ≡ role_at record_type line.now }
+{
+    match record_type {
         RecordType::Hdr => Role::FileHeader(is_dated(line)),
         RecordType::Grh => Role::GroupHeader(group_kind(line), digits_at(line, GroupHead::GROUP)),
         RecordType::Grt => Role::GroupTrailer(

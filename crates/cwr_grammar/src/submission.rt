@@ -1,18 +1,19 @@
-ghost use Rattle.std.specs.Prelude.{◌≡◌, ◌∷◌, ℕ, List, IfOk, IfErr, length};
+ghost use Rattle.std.specs.Prelude.{IfOk, IfErr, length};
+ghost use Rattle.std.specs.List.{AllByRecursion};
 ghost use Rattle.std.specs.Str.Lines.{lines};
-ghost use Rattle.cwr_record.specs.Control as table;
-ghost use Rattle.cwr_record.specs.Layout.{StandsFor};
 ghost use Rattle.cwr_grammar.specs.File.{File, IsFile};
-ghost use Rattle.cwr_grammar.specs.Submitted.{BeginsWithHeader, IsReadTo, IsSubmission, IsBounded, IsRefusal};
+ghost use Rattle.cwr_grammar.specs.Spans.{IsInside, raws_at};
+ghost use Rattle.cwr_grammar.specs.Submitted.{IsReadTo, IsSubmission, IsBounded, IsRefusal};
 
-use crate::fault::{fault_of, tail_fault};
+use crate::envelope::{Envelope, envelope_of};
+use crate::fault::fault_of;
 use crate::file_counts::FileCounts;
 use crate::lines::first_line;
 use crate::refusal::FileRefusal;
 use crate::role::role_of;
 use crate::span::{Span, take_line};
 use crate::transactions::Transactions;
-use cwr_record::{Header, read_header};
+use cwr_record::Header;
 use std::alloc::{Allocator, Global};
 
 /// A well-formed file, whose bytes it borrows.
@@ -76,32 +77,21 @@ fn finished<'a, A: Allocator>(
     spans: Vec<Span, A>,
     counts: &FileCounts,
 ) -> Result<Submission<'a, A>, FileRefusal>
-    requires { IsReadTo bytes.now spans.items counts.now at }
+    requires read { IsReadTo bytes.now (raws_at bytes.now spans.items) counts.now at }
+    requires placed { AllByRecursion (IsInside bytes.now) spans.items }
     ensures found { IfOk result (λ s. (f : File) × IsFile (lines bytes.now) f × IsSubmission f s.header s.transactions s.groups s.records) }
     ensures bounds { IfOk result (λ s. IsBounded (length bytes.now) s.header s.transactions) }
     ensures fault { IfErr result (IsRefusal (lines bytes.now)) }
 {
-    if let Some(line) = tail_fault(&bytes[at..], counts.lines + 1) {
-        return Err(FileRefusal::Fault { number: 11, line });
-    }
+    let Envelope {
+        header,
+        groups,
+        records,
+    } = envelope_of(bytes, at, counts)?;
     Ok(Submission {
-        header: header_of(bytes),
+        header,
         transactions: Transactions { bytes, spans },
-        groups: counts.groups as u32,
-        records: counts.lines as u32,
+        groups,
+        records,
     })
-}
-
-/// The file header that the first line is.
-fn header_of(bytes: &[u8]) -> Header
-    requires { BeginsWithHeader (lines bytes.now) }
-    ensures { (first : List ℕ) (more : List (List ℕ)) → lines bytes.now ≡ first ∷ more → StandsFor table.header first result }
-{
-    let Some(line) = first_line(bytes) else {
-        unreachable!()
-    };
-    let Ok(header) = read_header(line.bytes) else {
-        unreachable!()
-    };
-    header
 }

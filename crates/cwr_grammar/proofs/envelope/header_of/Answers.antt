@@ -3,7 +3,7 @@ use Rattle.cwr_grammar.specs.declared.role.Role.TheVariants.{FileHeader}
 use Rattle.cwr_grammar.specs.Roles.{role_of}
 use Rattle.cwr_grammar.specs.Submitted.{BeginsWithHeader}
 use Rattle.cwr_grammar.proofs.HeaderLine.{header_readable}
-use Rattle.cwr_grammar.proofs.submission.header_of.Goals as goal
+use Rattle.cwr_grammar.proofs.envelope.header_of.Goals as goal
 
 -- the first of lines
 abbrev head_of : List ℕ → List (List ℕ) → List ℕ

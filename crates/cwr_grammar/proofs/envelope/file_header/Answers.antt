@@ -1,0 +1,26 @@
+use Rattle.std.proofs.Common.{◌≡◌, ℕ, List, [], ◌∷◌, sym, ap, ◌∙◌, subst}
+use Rattle.cwr_field.proofs.lemmas.Printable.{printable-field}
+use Rattle.cwr_record.specs.Columns.{header_sender}
+use Rattle.cwr_record.specs.Control as table
+use Rattle.cwr_record.specs.Layout.{StandsFor}
+use Rattle.cwr_grammar.specs.File.{File, IsFile}
+use Rattle.cwr_grammar.specs.Roles.{role_of}
+use Rattle.cwr_grammar.proofs.HeaderLine.{header_readable}
+use Rattle.cwr_grammar.proofs.envelope.file_header.Goals as goal
+
+-- the first of lines
+abbrev head_of : List ℕ → List (List ℕ) → List ℕ
+head_of line [] = line
+head_of line (first ∷ more) = first
+
+first_is : (text more : List (List ℕ)) (line : List ℕ) (f : File) → text ≡ line ∷ more → IsFile text f → line ≡ f.header
+first_is text more line f split is = ap (head_of line) (sym split ∙ is.lines)
+
+pub returns-in-Ok-clause-header : goal.returns-in-Ok-clause-header
+returns-in-Ok-clause-header c = λ f is. subst (λ (line : List ℕ). StandsFor table.header line c.in-Ok.header) (first_is _ _ _ f c.in_ok-line.ensures.line is) c.in-Ok.ensures.ok
+
+pub returns-in-Ok-clause-printable : goal.returns-in-Ok-clause-printable
+returns-in-Ok-clause-printable c = rw c.in-Ok.ensures.ok.1.0 (printable-field c.in_ok-line.line.bytes.now header_sender.start header_sender.width (sym c.is_printable.ensures ∙ c.if-not-is_printable.false))
+
+pub returns-in-Err-clause-none : goal.returns-in-Err-clause-none
+returns-in-Err-clause-none c = λ f is. header_readable c.in_ok-line.line.bytes.now _ (ap role_of (first_is _ _ _ f c.in_ok-line.ensures.line is) ∙ is.header) c.in-Err.ensures.fault

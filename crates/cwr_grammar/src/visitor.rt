@@ -1,0 +1,124 @@
+ghost use Rattle.std.specs.Prelude.{◌≡◌, ◌+◌, ◌≤◌, ◌<◌, ◌^◌, ◌∷◌, ◌++◌, [], ℕ, List, Option, Some, None, length, is_some, IsTrue, IfOk, IfErr, OnOk};
+ghost use Rattle.std.specs.Str.Lines.{lines};
+ghost use Rattle.cwr_field.specs.Layout.{is_printable};
+ghost use Rattle.cwr_field.specs.Number.{most_count};
+ghost use Rattle.cwr_record.specs.RecordTypes.{type_of};
+ghost use Rattle.cwr_grammar.specs.Counted.{FitsHeader};
+ghost use Rattle.cwr_grammar.specs.RawParts.{RawParts};
+ghost use Rattle.cwr_grammar.specs.Submitted.{IsRefusal};
+ghost use Rattle.cwr_grammar.specs.Visiting.{MayBeGiven, WasGiven, leaves_open, open_after, whole_after, with_line};
+
+use crate::envelope::{Envelope, envelope_of};
+use crate::fault::fault_of;
+use crate::file_counts::FileCounts;
+use crate::lines::first_line;
+use crate::refusal::FileRefusal;
+use crate::role::{Role, role_at};
+use cwr_field::Memory;
+use cwr_record::{RecordType, WorkKind, type_of};
+
+/// Takes the transactions of a file line by line, as [`visit_file`] comes to them.
+///
+/// No line that it is given has a byte below 32. Where memory is refused, it is given nothing any more.
+pub trait Visitor {
+    // What it keeps, since it was as at first, of the transactions that it was given whole, and of the lines of one that
+    // is open.
+    ghost keeps: { Self → Self → List RawParts → Option RawParts → Type 0 };
+
+    /// A transaction begins: its group id, its transaction sequence, its kind and its header's line.
+    fn begin(
+        &mut self,
+        group: u32,
+        sequence: u32,
+        kind: WorkKind,
+        head: &[u8],
+    ) -> Result<(), Memory>
+        requires between { (first : Self) × (whole : List RawParts) × keeps first self.old whole None }
+        requires group { group < 10 ^ 5 }
+        requires sequence { sequence < 10 ^ 8 }
+        requires printable { IsTrue (is_printable head.now) }
+        ensures { OnOk result ((first : Self) (whole : List RawParts) → keeps first self.old whole None
+            → keeps first self.new whole (Some (record { group = group; sequence = sequence; kind = kind; lines = head.now ∷ [] }))) };
+
+    /// The open transaction goes on with a detail's line, of this record type.
+    fn detail(&mut self, line: &[u8], record_type: RecordType) -> Result<(), Memory>
+        requires begun { (first : Self) × (whole : List RawParts) × (t : RawParts) × keeps first self.old whole (Some t) × (length t.lines ≤ most_count) }
+        requires read { record_type ≡ type_of line.now }
+        requires printable { IsTrue (is_printable line.now) }
+        ensures { OnOk result ((first : Self) (whole : List RawParts) (t : RawParts) → keeps first self.old whole (Some t) → keeps first self.new whole (Some (with_line line.now t))) };
+
+    /// The open transaction is whole.
+    fn end(&mut self) -> Result<(), Memory>
+        requires begun { (first : Self) × (whole : List RawParts) × (t : RawParts) × keeps first self.old whole (Some t) × (length t.lines ≤ most_count + 1) × (length whole < 2 ^ 63) }
+        ensures { OnOk result ((first : Self) (whole : List RawParts) (t : RawParts) → keeps first self.old whole (Some t) → keeps first self.new (whole ++ t ∷ []) None) };
+}
+
+/// Reads a file as [`parse_file`](crate::parse_file) does, and gives its transactions to a visitor on its way.
+///
+/// A well-formed file gives it all its transactions, in order, and answers the
+/// file's envelope. Of any other the first fault is answered: what the visitor was given by then is of no file. No
+/// memory is asked for but by the visitor.
+pub fn visit_file<V: Visitor>(bytes: &[u8], visitor: &mut V) -> Result<Envelope, FileRefusal>
+    requires { V.keeps visitor.old visitor.old [] None }
+    ensures given { IfOk result (λ envelope. WasGiven (V.keeps visitor.old visitor.new) bytes.now envelope.header envelope.groups envelope.records) }
+    ensures fault { IfErr result (IsRefusal (lines bytes.now)) }
+{
+    let mut counts = FileCounts::new();
+    let mut is_open = false;
+    let mut at = 0;
+    while let Some(line) = first_line(&bytes[at..]) {
+        let record_type = type_of(line.bytes);
+        let role = role_at(record_type, line.bytes);
+        if let Some(number) = fault_of(&counts, line.bytes, line.is_clean, &role) {
+            return Err(FileRefusal::Fault {
+                number,
+                line: counts.lines + 1,
+            });
+        }
+        is_open = give(visitor, is_open, line.bytes, record_type, &role, &counts)?;
+        counts.add(&role);
+        at += line.size;
+        if counts.is_ended {
+            let envelope = envelope_of(bytes, at, &counts)?;
+            return Ok(envelope);
+        }
+    }
+    Err(FileRefusal::Fault {
+        number: if counts.lines == 0 { 1 } else { 11 },
+        line: counts.lines + 1,
+    })
+}
+
+/// Gives a line to a visitor: one that is no detail ends the open transaction, and a header opens the next one. Answers
+/// whether one is open then.
+#[inline(always)]
+fn give<V: Visitor>(
+    visitor: &mut V,
+    is_open: bool,
+    line: &[u8],
+    record_type: RecordType,
+    role: &Role,
+    counts: &FileCounts,
+) -> Result<bool, Memory>
+    requires fits { FitsHeader role.now counts.now }
+    requires read { record_type ≡ type_of line.now }
+    requires printable { IsTrue (is_printable line.now) }
+    requires kept { (first : V) × (whole : List RawParts) × (current : Option RawParts) × V.keeps first visitor.old whole current × MayBeGiven role.now is_open current × (length whole < 2 ^ 63) }
+    ensures kept { IfOk result (λ _. (first : V) (whole : List RawParts) (current : Option RawParts) → is_some current ≡ is_open → V.keeps first visitor.old whole current
+        → V.keeps first visitor.new (whole_after role.now whole current) (open_after role.now line.now counts.now.groups counts.now.transactions current)) }
+    ensures is_open { IfOk result (λ next. next ≡ leaves_open role.now) }
+{
+    if let Role::Detail(_, _) = *role {
+        visitor.detail(line, record_type)?;
+        return Ok(true);
+    }
+    if is_open {
+        visitor.end()?;
+    }
+    if let Role::TransactionHeader(Some(kind), _, _) = *role {
+        visitor.begin(counts.groups as u32, counts.transactions as u32, kind, line)?;
+        Ok(true)
+    } else {
+        Ok(false)
+    }
+}
