@@ -1,17 +1,20 @@
 -- What a check writes, piece by piece.
-use Rattle.std.proofs.Common.{◌≡◌, ◌∙◌, ℕ, ◌+◌, ◌<◌, Bool, true, false, cond, List, [], ◌∷◌, ◌++◌, length, drop, get_or, ap, sym, refl, arith}
+use Rattle.std.proofs.Common.{◌≡◌, ◌∙◌, ℕ, ◌+◌, ◌<◌, ◌≤◌, Bool, true, false, not, cond, List, [], ◌∷◌, ◌++◌, length, drop, get_or, ap, sym, refl, arith, length-append, append_assoc}
 use Rattle.std.specs.Prelude.{codes, ◌==◌}
 use Rattle.std.specs.List.{flat_map}
 use Rattle.std.proofs.lemmas.List.{drop_more}
-use Rattle.std.proofs.lemmas.List.Sums.{sum_by-cons}
+use Rattle.std.proofs.lemmas.Grind.{flat_map-append}
+use Rattle.std.proofs.lemmas.Bool.Decides.{nat_tests}
+use Rattle.std.proofs.lemmas.List.{append-nil}
+use Rattle.std.proofs.lemmas.List.Sums.{sum_by_push}
 use Rattle.cwr_field.specs.Number.{number_text}
 use Rattle.cwr_record.specs.Kinds.{work_kind_code}
 use Rattle.cwr_grammar.specs.File.{File, IsFile}
 use Rattle.cwr_grammar.specs.RawParts.{RawParts, raws_of}
 use Rattle.cwr_call.specs.declared.transaction_fault.Fault.{Fault}
-use Rattle.cwr_call.specs.CallValue.{CallValue}
-use Rattle.cwr_rules.specs.Calls.{call_of}
+use Rattle.cwr_call.specs.Lawful.{is_none_found}
 use Rattle.cwr_check.specs.CheckText.{fault_text, verdict_text, place_text, transaction_line, faults_in, has_faults, faulty_count, check_lines, submitter_of, IsCheckOfFile}
+use Rattle.cwr_check.specs.LinesSoFar.{IsTold}
 use Rattle.cwr_field.proofs.lemmas.Pieces.{then, moved}
 
 pub fault_more : (faults : List Fault) (i : ℕ) (d : Fault) (out new total : List ℕ) → i < length faults
@@ -38,46 +41,56 @@ place_written t out a b c d e f p q r u v w =
     then out e f (x ++ blank ++ y ++ blank ++ z) blank E w
 
 -- the place, the verdict and the end of a transaction's line
-pub line_written : (submitter : List ℕ) (t : RawParts) (call : CallValue) (faults : List Fault) (out a b c : List ℕ) → call ≡ call_of submitter t
-    → faults ≡ call.faults → a ≡ out ++ place_text t → b ≡ a ++ verdict_text faults → c ≡ b ++ 10 ∷ [] → c ≡ out ++ transaction_line submitter t
-line_written submitter t call faults out a b c judged is p q r =
-    let faults_are : faults ≡ faults_in submitter t = is ∙ ap (λ (x : CallValue). x.faults) judged in
-    then out b c (place_text t ++ verdict_text (faults_in submitter t)) (10 ∷ [])
-    (then out a b (place_text t) (verdict_text (faults_in submitter t)) p (q ∙ ap (λ (fs : List Fault). a ++ verdict_text fs) faults_are)) r
+pub line_written : (t : RawParts) (faults : List Fault) (out a b c : List ℕ) → a ≡ out ++ place_text t → b ≡ a ++ verdict_text faults → c ≡ b ++ 10 ∷ []
+    → c ≡ out ++ place_text t ++ verdict_text faults ++ 10 ∷ []
+line_written t faults out a b c p q r = r ∙ ap (λ (xs : List ℕ). xs ++ 10 ∷ []) (q ∙ ap (λ (xs : List ℕ). xs ++ verdict_text faults) p)
+
+text_more : (submitter text next : List ℕ) (whole : List RawParts) (t : RawParts) (faults : List Fault) → faults ≡ faults_in submitter t → text ≡ flat_map (transaction_line submitter) whole
+    → next ≡ text ++ place_text t ++ verdict_text faults ++ 10 ∷ [] → next ≡ flat_map (transaction_line submitter) (whole ++ t ∷ [])
+text_more submitter text next whole t faults is so_far wrote =
+    let all : flat_map (transaction_line submitter) (t ∷ []) ≡ transaction_line submitter t = append-nil (transaction_line submitter t) in
+    let line = transaction_line submitter in
+    let place = place_text t in
+    let verdict = verdict_text faults in
+    wrote ∙ append_assoc (text ++ place) verdict (10 ∷ []) ∙ append_assoc text place (verdict ++ 10 ∷ [])
+    ∙ ap (λ (xs : List ℕ). text ++ xs) (sym (append_assoc place verdict (10 ∷ [])))
+    ∙ ap (λ (fs : List Fault). text ++ (place ++ verdict_text fs ++ 10 ∷ [])) is
+    ∙ ap (λ (xs : List ℕ). xs ++ line t) so_far ∙ ap (λ (xs : List ℕ). flat_map line whole ++ xs) (sym all) ∙ sym (flat_map-append line whole (t ∷ []))
+
+pub none_more : (faults : List Fault) (n : ℕ) → (length faults == 0) ≡ true → n + 0 ≡ n + cond (not (is_none_found faults)) 1 0
+none_more [] n e = refl
+none_more (f ∷ fs) n e = let none : length (f ∷ fs) ≡ 0 = grind (arith, nat_tests) in absurd (omega (arith, none))
+
+pub one_more : (faults : List Fault) (n : ℕ) → (length faults == 0) ≡ false → n + 1 ≡ n + cond (not (is_none_found faults)) 1 0
+one_more [] n e = absurd cc
+one_more (f ∷ fs) n e = refl
 
 -- one transaction more, with faults or without
-pub transaction_more : (submitter : List ℕ) (t : RawParts) (left rest : List RawParts) (out new total : List ℕ) → left ≡ t ∷ rest
-    → new ≡ out ++ transaction_line submitter t → out ++ flat_map (transaction_line submitter) left ≡ total
-    → new ++ flat_map (transaction_line submitter) rest ≡ total
-transaction_more submitter t left rest out new total is wrote so_far =
-    moved out new (transaction_line submitter t) _ (flat_map (transaction_line submitter) rest) total wrote refl
-    (ap (λ (ts : List RawParts). out ++ flat_map (transaction_line submitter) ts) (sym is) ∙ so_far)
+pub told_more : (submitter text next : List ℕ) (transactions faulty now_faulty : ℕ) (whole : List RawParts) (t : RawParts) (faults : List Fault) → faults ≡ faults_in submitter t
+    → next ≡ text ++ place_text t ++ verdict_text faults ++ 10 ∷ [] → now_faulty ≡ faulty + cond (not (is_none_found faults)) 1 0
+    → IsTold submitter text transactions faulty whole → IsTold submitter next (transactions + 1) now_faulty (whole ++ t ∷ [])
+told_more submitter text next transactions faulty now_faulty whole t faults is wrote counted h =
+    let one : cond (not (is_none_found faults)) 1 0 ≤ 1 = (elim (not (is_none_found faults)) as (λ b. cond b 1 0 ≤ 1) [ true ↦ omega arith | false ↦ omega arith ]) in
+    record {
+      clean = h.clean;
+      text_is = text_more submitter text next whole t faults is h.text_is wrote;
+      transactions_are = omega (arith, h.transactions_are, length-append whole (t ∷ []));
+      faulty_are =
+          counted ∙ ap (λ (n : ℕ). n + cond (not (is_none_found faults)) 1 0) h.faulty_are
+          ∙ ap (λ (fs : List Fault). faulty_count submitter whole + cond (not (is_none_found fs)) 1 0) is
+          ∙ sym (sum_by_push (λ (x : RawParts). cond (has_faults submitter x) 1 0) whole t);
+      few = omega (arith, h.few, counted, one);
+    }
 
-count_more : (submitter : List ℕ) (t : RawParts) (left rest : List RawParts) (n : ℕ) → left ≡ t ∷ rest
-    → cond (has_faults submitter t) 1 0 ≡ n → faulty_count submitter left ≡ n + faulty_count submitter rest
-count_more submitter t left rest n is one =
-    ap (λ (ts : List RawParts). faulty_count submitter ts) is ∙ sum_by-cons (λ (x : RawParts). cond (has_faults submitter x) 1 0) t rest
-    ∙ ap (λ (k : ℕ). k + faulty_count submitter rest) one
-
-pub counted_faulty : (submitter : List ℕ) (t : RawParts) (left rest : List RawParts) (faulty total : ℕ) → left ≡ t ∷ rest
-    → has_faults submitter t ≡ true → faulty + faulty_count submitter left ≡ total → (faulty + 1) + faulty_count submitter rest ≡ total
-counted_faulty submitter t left rest faulty total is faults so_far =
-    omega (arith, count_more submitter t left rest 1 is (ap (λ (b : Bool). cond b 1 0) faults), so_far)
-
-pub counted_clean : (submitter : List ℕ) (t : RawParts) (left rest : List RawParts) (faulty total : ℕ) → left ≡ t ∷ rest
-    → has_faults submitter t ≡ false → faulty + faulty_count submitter left ≡ total → faulty + faulty_count submitter rest ≡ total
-counted_clean submitter t left rest faulty total is none so_far =
-    omega (arith, count_more submitter t left rest 0 is (ap (λ (b : Bool). cond b 1 0) none), so_far)
-
--- what is written of a file is its check
-pub file_checked : (text : List (List ℕ)) (f : File) (found : List RawParts) (sender out told : List ℕ) (clean : Bool) → IsFile text f
-    → found ≡ raws_of 1 f.groups → sender ≡ submitter_of f → out ≡ [] → told ≡ out ++ check_lines sender found
+-- what is told of a file is its check
+pub file_checked : (text : List (List ℕ)) (f : File) (found : List RawParts) (sender told : List ℕ) (clean : Bool) → IsFile text f
+    → found ≡ raws_of 1 f.groups → sender ≡ submitter_of f → told ≡ check_lines sender found
     → clean ≡ (faulty_count sender found == 0) → IsCheckOfFile text told clean
-file_checked text f found sender out told clean formed found_is sender_is empty wrote counted = record {
+file_checked text f found sender told clean formed found_is sender_is wrote counted = record {
   file = f;
   formed = formed;
   lines =
-      wrote ∙ ap (λ (x : List ℕ). x ++ check_lines sender found) empty ∙ ap (λ (s : List ℕ). check_lines s found) sender_is
+      wrote ∙ ap (λ (s : List ℕ). check_lines s found) sender_is
       ∙ ap (λ (ts : List RawParts). check_lines (submitter_of f) ts) found_is;
   clean_is =
       counted ∙ ap (λ (s : List ℕ). faulty_count s found == 0) sender_is

@@ -1,67 +1,51 @@
-ghost use Rattle.std.specs.Prelude.{◌≡◌, ◌==◌, ◌++◌, IsTrue, IfOk, OnOk};
-ghost use Rattle.std.specs.List.{flat_map, AllByRecursion};
-ghost use Rattle.cwr_grammar.specs.RawParts.{IsPlaced};
-ghost use Rattle.cwr_call.specs.Lawful.{is_clean};
-ghost use Rattle.cwr_check.specs.CheckText.{fault_text, verdict_text, place_text, transaction_line, has_faults, faulty_count, total_line, check_lines};
+ghost use Rattle.std.specs.Prelude.{◌≡◌, ◌<◌, ◌^◌, ◌∷◌, ◌++◌, [], OnOk};
+ghost use Rattle.std.specs.List.{flat_map};
+ghost use Rattle.cwr_grammar.specs.RawParts.{RawParts};
+ghost use Rattle.cwr_check.specs.CheckText.{fault_text, verdict_text, place_text, total_line};
+ghost use Rattle.cwr_check.specs.LinesSoFar.{IsPlaceOf};
 
 use cwr_call::Fault;
 use cwr_field::{Memory, put_decimal, put_digits};
-use cwr_grammar::{RawTransaction, Transactions};
-use cwr_rules::judge;
+use cwr_record::WorkKind;
 use std::alloc::Allocator;
 
-/// Appends a line for each transaction, in order, and a last line with their numbers. Answers whether none has a fault.
-pub(crate) fn put_check<A: Allocator + Copy>(
-    alloc: A,
-    out: &mut Vec<u8, A>,
-    submitter: [u8; 11],
-    transactions: &Transactions<A>,
-) -> Result<bool, Memory>
-    requires clean { IsTrue (is_clean submitter) }
-    requires placed { AllByRecursion IsPlaced transactions.now }
-    ensures lines { OnOk result (out.new.items ≡ out.old.items ++ check_lines submitter transactions.now) }
-    ensures clean_is { IfOk result (λ clean. clean ≡ (faulty_count submitter transactions.now == 0)) }
-{
-    let all = transactions.len();
-    let mut faulty = 0;
-    for transaction in transactions {
-        if put_transaction(alloc, out, submitter, &transaction)? {
-            faulty += 1;
-        }
-    }
-    put_total(out, all as u64, faulty)?;
-    Ok(faulty == 0)
+/// Where a transaction stands in its file, and its kind.
+#[derive(Clone, Copy)]
+pub(crate) struct Place {
+    /// The group id, from 1.
+    pub(crate) group: u32,
+    /// The transaction sequence, from 0.
+    pub(crate) sequence: u32,
+    pub(crate) kind: WorkKind,
 }
 
-/// Appends the line of a transaction, and answers whether it has faults.
-fn put_transaction<A: Allocator + Copy>(
-    alloc: A,
+/// Appends the line of a transaction with these faults.
+pub(crate) fn put_transaction<A: Allocator>(
     out: &mut Vec<u8, A>,
-    submitter: [u8; 11],
-    transaction: &RawTransaction,
-) -> Result<bool, Memory>
-    requires clean { IsTrue (is_clean submitter) }
-    requires placed { IsPlaced transaction.now }
-    ensures line { OnOk result (out.new.items ≡ out.old.items ++ transaction_line submitter transaction.now) }
-    ensures faulty { IfOk result (λ faulty. faulty ≡ has_faults submitter transaction.now) }
+    place: Place,
+    faults: &[Fault],
+) -> Result<(), Memory>
+    requires group { place.group < 10 ^ 5 }
+    requires sequence { place.sequence < 10 ^ 8 }
+    ensures { OnOk result ((t : RawParts) → IsPlaceOf place t → out.new.items ≡ out.old.items ++ place_text t ++ verdict_text faults.now ++ 10 ∷ []) }
 {
-    let call = judge(alloc, transaction, submitter)?;
-    put_place(out, transaction)?;
-    put_verdict(out, call.faults())?;
+    put_place(out, place)?;
+    put_verdict(out, faults)?;
     out.push(b'\n')?;
-    Ok(!call.faults().is_empty())
+    Ok(())
 }
 
 /// Appends where a transaction stands in its file, and its kind.
-fn put_place<A: Allocator>(out: &mut Vec<u8, A>, transaction: &RawTransaction) -> Result<(), Memory>
-    requires { IsPlaced transaction.now }
-    ensures { OnOk result (out.new.items ≡ out.old.items ++ place_text transaction.now) }
+fn put_place<A: Allocator>(out: &mut Vec<u8, A>, place: Place) -> Result<(), Memory>
+    requires group { place.group < 10 ^ 5 }
+    requires sequence { place.sequence < 10 ^ 8 }
+    ensures { OnOk result ((t : RawParts) → IsPlaceOf place t → out.new.items ≡ out.old.items ++ place_text t) }
 {
-    put_digits(out, transaction.group() as u64, 5)?;
+    put_digits(out, place.group as u64, 5)?;
     out.extend_from_slice(b" ")?;
-    put_digits(out, transaction.sequence() as u64, 8)?;
+    put_digits(out, place.sequence as u64, 8)?;
     out.extend_from_slice(b" ")?;
-    out.extend_from_slice(transaction.kind().code())?;
+    out.extend_from_slice(place.kind.code())?;
     out.extend_from_slice(b" ")?;
     Ok(())
 }

@@ -1,13 +1,13 @@
-ghost use Rattle.std.specs.Prelude.{◌≡◌, IfOk, length};
+ghost use Rattle.std.specs.Prelude.{◌≡◌, IfOk, IsTrue};
 ghost use Rattle.std.specs.Str.Lines.{lines};
+ghost use Rattle.cwr_call.specs.Lawful.{is_clean};
 ghost use Rattle.cwr_grammar.specs.Faults.{IsLeastFault};
 ghost use Rattle.cwr_grammar.specs.File.{File, IsFile};
-ghost use Rattle.cwr_grammar.specs.Submitted.{IsSubmission, IsBounded};
-ghost use Rattle.cwr_check.specs.CheckText.{IsCheck, IsCheckOfFile, IsCheckOfFault};
+ghost use Rattle.cwr_check.specs.CheckText.{IsCheck, IsCheckOfFault, submitter_of};
 
-use crate::check_lines::put_check;
+use crate::lines_so_far::LinesSoFar;
 use cwr_field::Memory;
-use cwr_grammar::{FileRefusal, Submission, parse_file};
+use cwr_grammar::{FileRefusal, file_header, visit_file};
 use std::alloc::{Allocator, Global};
 
 /// What a check found in a file.
@@ -30,26 +30,23 @@ pub struct Checked<A: Allocator = Global> {
 pub fn check_text<A: Allocator + Copy>(alloc: A, bytes: &[u8]) -> Result<Checked<A>, Memory>
     ensures { IfOk result (λ checked. IsCheck (lines bytes.now) checked.text.items checked.clean) }
 {
-    match parse_file(alloc, bytes) {
-        Ok(file) => check_of_file(alloc, bytes, &file),
+    let mut told = LinesSoFar::new(alloc, submitter_of(bytes));
+    match visit_file(bytes, &mut told) {
+        Ok(_) => Ok(told.finish()?),
         Err(FileRefusal::Fault { number, line }) => check_of_fault(alloc, bytes, number, line),
         Err(FileRefusal::Memory) => Err(Memory),
     }
 }
 
-/// What is told of a well-formed file.
-fn check_of_file<A: Allocator + Copy>(
-    alloc: A,
-    bytes: &[u8],
-    file: &Submission<A>,
-) -> Result<Checked<A>, Memory>
-    requires file { (f : File) × IsFile (lines bytes.now) f × IsSubmission f file.now.header file.now.transactions file.now.groups file.now.records }
-    requires bounds { IsBounded (length bytes.now) file.now.header file.now.transactions }
-    ensures { IfOk result (λ checked. IsCheckOfFile (lines bytes.now) checked.text.items checked.clean) }
+/// The submitter of a file, or blanks where the text is none.
+fn submitter_of(bytes: &[u8]) -> [u8; 11]
+    ensures clean { IsTrue (is_clean result) }
+    ensures submitter { (f : File) → IsFile (lines bytes.now) f → result ≡ submitter_of f }
 {
-    let mut text = Vec::new(alloc);
-    let clean = put_check(alloc, &mut text, file.header.sender, &file.transactions)?;
-    Ok(Checked { text, clean })
+    match file_header(bytes) {
+        Some(header) => header.sender,
+        None => [b' '; 11],
+    }
 }
 
 /// What is told of a file that has a fault.

@@ -1,0 +1,122 @@
+ghost use Rattle.std.specs.Prelude.{◌≡◌, ◌==◌, ◌≤◌, ◌<◌, ◌^◌, ◌∷◌, ◌++◌, None, [], List, IsTrue, IfOk, OnOk};
+ghost use Rattle.cwr_call.specs.Lawful.{is_clean};
+ghost use Rattle.cwr_grammar.specs.RawParts.{RawParts};
+ghost use Rattle.cwr_check.specs.CheckText.{check_lines, faults_in, faulty_count};
+ghost use Rattle.cwr_check.specs.LinesSoFar.{IsOpenAt, IsPlaceOf, IsTold};
+
+use crate::check_lines::{Place, put_total, put_transaction};
+use crate::checking::Checked;
+use cwr_call::Fault;
+use cwr_field::Memory;
+use cwr_grammar::Visitor;
+use cwr_record::{RecordType, WorkKind};
+use cwr_rules::Judge;
+use std::alloc::Allocator;
+
+/// The lines of a check, of the transactions of a file so far.
+#[derive(Drop)]
+pub(crate) struct LinesSoFar<A: Allocator> {
+    alloc: A,
+    submitter: [u8; 11],
+    text: Vec<u8, A>,
+    /// How many transactions were judged.
+    transactions: u64,
+    /// How many of them have faults.
+    faulty: u64,
+    /// Where the open transaction stands.
+    place: Place,
+    /// What judges the open transaction.
+    judge: Option<Judge<A>>,
+}
+
+impl<A: Allocator + Copy> LinesSoFar<A> {
+    /// Before the first transaction. No memory is asked for.
+    pub(crate) fn new(alloc: A, submitter: [u8; 11]) -> LinesSoFar<A>
+        requires clean { IsTrue (is_clean submitter) }
+        ensures submitter { result.submitter ≡ submitter }
+        ensures told { IsTold result.submitter result.text.items result.transactions result.faulty [] }
+        ensures none { result.judge ≡ None }
+    {
+        LinesSoFar {
+            alloc,
+            submitter,
+            text: Vec::new(alloc),
+            transactions: 0,
+            faulty: 0,
+            place: Place {
+                group: 0,
+                sequence: 0,
+                kind: WorkKind::Nwr,
+            },
+            judge: None,
+        }
+    }
+
+    /// Adds the line of the open transaction, which has these faults.
+    fn tell(&mut self, faults: &[Fault]) -> Result<(), Memory>
+        requires group { self.old.place.group < 10 ^ 5 }
+        requires sequence { self.old.place.sequence < 10 ^ 8 }
+        requires few { self.old.transactions < 2 ^ 63 }
+        requires faulty { self.old.faulty ≤ self.old.transactions }
+        ensures same { OnOk result (self.new ≡ record self.old { text = self.new.text; transactions = self.new.transactions; faulty = self.new.faulty }) }
+        ensures told { OnOk result ((whole : List RawParts) (t : RawParts) → IsPlaceOf self.old.place t → faults.now ≡ faults_in self.old.submitter t
+            → IsTold self.old.submitter self.old.text.items self.old.transactions self.old.faulty whole
+            → IsTold self.old.submitter self.new.text.items self.new.transactions self.new.faulty (whole ++ t ∷ [])) }
+    {
+        put_transaction(&mut self.text, self.place, faults)?;
+        self.transactions += 1;
+        self.faulty += if faults.is_empty() { 0 } else { 1 };
+        Ok(())
+    }
+
+    /// What is told of a file, once all its transactions were judged.
+    pub(crate) fn finish(self) -> Result<Checked<A>, Memory>
+        ensures lines { IfOk result (λ checked. (whole : List RawParts) → IsTold self.submitter self.text.items self.transactions self.faulty whole → checked.text.items ≡ check_lines self.submitter whole) }
+        ensures clean { IfOk result (λ checked. (whole : List RawParts) → IsTold self.submitter self.text.items self.transactions self.faulty whole → checked.clean ≡ (faulty_count self.submitter whole == 0)) }
+    {
+        let mut text = self.text;
+        put_total(&mut text, self.transactions, self.faulty)?;
+        Ok(Checked {
+            text,
+            clean: self.faulty == 0,
+        })
+    }
+}
+
+impl<A: Allocator + Copy> Visitor for LinesSoFar<A> {
+    ghost keeps = { λ first l whole current. (l.submitter ≡ first.submitter) × IsTold l.submitter l.text.items l.transactions l.faulty whole × IsOpenAt l.place l.judge current };
+
+    fn begin(
+        &mut self,
+        group: u32,
+        sequence: u32,
+        kind: WorkKind,
+        head: &[u8],
+    ) -> Result<(), Memory> {
+        self.place = Place {
+            group,
+            sequence,
+            kind,
+        };
+        self.judge = Some(Judge::begin(self.alloc, kind, head));
+        Ok(())
+    }
+
+    fn detail(&mut self, line: &[u8], record_type: RecordType) -> Result<(), Memory> {
+        let Some(judge) = &mut self.judge else {
+            unreachable!()
+        };
+        judge.take(line, record_type)?;
+        Ok(())
+    }
+
+    fn end(&mut self) -> Result<(), Memory> {
+        let Some(judge) = &self.judge else {
+            unreachable!()
+        };
+        let call = judge.end(self.submitter)?;
+        self.tell(call.faults())?;
+        self.judge = None;
+        Ok(())
+    }
+}
