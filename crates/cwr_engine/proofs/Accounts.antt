@@ -5,15 +5,13 @@ use Rattle.std.proofs.lemmas.List.{length-map}
 use Rattle.std.proofs.lemmas.List.Sums.{sum_by-cons}
 use Rattle.std.specs.Io.KnownBytes.{Appends}
 use Rattle.std.specs.List.{AllByRecursion}
-use Rattle.std.specs.Str.Lines.{lines}
 use Rattle.byte_streams.specs.GivenBytes.{HasGiven}
 use Rattle.cwr_record.specs.Stamp.{StampParts}
 use Rattle.cwr_record.specs.declared.control.Header.{Header}
 use Rattle.cwr_acknowledgement.specs.AckItem.{Item, told_faults, is_rejected}
 use Rattle.cwr_acknowledgement.specs.Acknowledgement.{ack_text, told_count, most_told}
-use Rattle.cwr_grammar.specs.File.{File, IsFile}
 use Rattle.cwr_grammar.specs.RawParts.{RawParts, IsPlaced, lines_in}
-use Rattle.cwr_grammar.specs.Submitted.{IsSubmission, IsBounded}
+use Rattle.cwr_grammar.specs.Submitted.{IsBounded}
 use Rattle.cwr_call.specs.declared.transaction_fault.Fault.{Fault}
 use Rattle.cwr_call.specs.CallValue.{CallValue}
 use Rattle.cwr_rules.specs.Calls.{call_of}
@@ -24,6 +22,7 @@ use Rattle.cwr_engine.specs.Account.{most, Ends, Account, IsRead, IsMadeOf, IsMa
 use Rattle.cwr_engine.specs.Causes.{cause_of, IsCause}
 use Rattle.cwr_engine.specs.Handing.{Entries, AreAnswered, IsWorked}
 use Rattle.cwr_engine.specs.Items.{item_of, items_of, calls_in}
+use Rattle.cwr_engine.specs.Judged.{JudgedValue, judged_of, AreJudged, WasJudged}
 use Rattle.byte_streams.specs.declared.reading.ReadRefused.{ReadRefused}
 use Rattle.byte_streams.specs.declared.reading.ReadRefused.TheVariants as unread
 use Rattle.cwr_engine.specs.declared.outcome.FileOutcome.{FileOutcome}
@@ -35,15 +34,20 @@ use Rattle.cwr_engine.proofs.CallSizes.{few_faults}
 
 -- ---- what was read
 
-pub read_whole : (input : List ℕ) (file : File) (head : Header) (ts : List RawParts) (groups records : ℕ) → length input ≤ most → IsFile (lines input) file
-    → IsSubmission file head ts groups records → IsRead input head ts
-read_whole input file head ts groups records fits formed submission =
-    record { fits = fits; file = file; formed = formed; header = submission.header; found = submission.transactions }
+pub read_whole : (input : List ℕ) (head : Header) (judged : List JudgedValue) → length input ≤ most → (was : WasJudged input head judged)
+    → IsRead input head was.transactions
+read_whole input head judged fits was =
+    record { fits = fits; file = was.file; formed = was.formed; header = was.header; found = was.found }
 
 -- fewer bytes than the most
-pub within : (size : ℕ) (head : Header) (ts : List RawParts) → size ≤ most → IsBounded size head ts → IsBounded most head ts
-within size head ts fits bounds =
-    record { placed = bounds.placed; few = let few = bounds.few in omega (arith, few, fits); printable = bounds.printable }
+pub within : (input : List ℕ) (head : Header) (judged : List JudgedValue) → length input ≤ most → (was : WasJudged input head judged)
+    → AreJudged most head was.transactions judged
+within input head judged fits was =
+    let bounds = was.are.bounds in
+    record {
+      judged_are = was.are.judged_are;
+      bounds = record { placed = bounds.placed; few = let few = bounds.few in omega (arith, few, fits); printable = bounds.printable };
+    }
 
 few_in_all : (head : Header) (ts : List RawParts) → IsBounded most head ts → lines_in ts ≤ 8388608
 few_in_all head ts bounds = let few : 2 * lines_in ts ≤ 16777216 = bounds.few in omega (arith, few)
@@ -54,6 +58,15 @@ each_has_lines (t ∷ ts) all = let h = each_has_lines ts all.1 in let some = al
 
 pub few_transactions : (head : Header) (ts : List RawParts) → IsBounded most head ts → length ts ≤ 8388608
 few_transactions head ts bounds = let a = few_in_all head ts bounds in let b = each_has_lines ts bounds.placed in omega (arith, a, b)
+
+pub length_judged : (head : Header) (ts : List RawParts) (judged : List JudgedValue) → AreJudged most head ts judged → length judged ≡ length ts
+length_judged head ts judged are = ap length are.judged_are ∙ length-map ts (judged_of head.sender)
+
+pub few_judged : (head : Header) (ts : List RawParts) (judged : List JudgedValue) → AreJudged most head ts judged → length judged ≤ 8388608
+few_judged head ts judged are =
+    let few = few_transactions head ts are.bounds in
+    let same = length_judged head ts judged are in
+    omega (arith, few, same)
 
 items_few : (ts : List RawParts) (made : List EntryValue) → length (items_of ts made) ≤ length ts
 items_few [] made = omega arith

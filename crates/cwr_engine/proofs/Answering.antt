@@ -1,5 +1,5 @@
 -- One transaction more was handed in and got a reply.
-use Rattle.std.proofs.Common.{◌≡◌, ◌∙◌, ℕ, zero, suc, ◌+◌, ◌<◌, ◌≤◌, ◌^◌, Bool, true, false, cond, List, [], ◌∷◌, ◌++◌, length, take, drop, Option, Some, None, IsTrue, refl, sym, ap, subst, arith, append_assoc, append-nil, length-append}
+use Rattle.std.proofs.Common.{◌≡◌, ◌∙◌, ℕ, zero, suc, ◌+◌, ◌<◌, ◌≤◌, ◌^◌, Bool, true, false, cond, List, [], ◌∷◌, ◌++◌, length, take, drop, map, Option, Some, None, IsTrue, refl, sym, ap, subst, arith, append_assoc, append-nil, length-append}
 use Rattle.std.specs.Prelude.{◌&&◌, nat_le}
 use Rattle.std.specs.Char.{is_ascii_uppercase}
 use Rattle.std.specs.List.{list_all, AllByRecursion}
@@ -23,6 +23,7 @@ use Rattle.work_registry.specs.Told.{status_in, work_in}
 use Rattle.work_registry.specs.declared.reply.Reply.{Reply}
 use Rattle.work_registry.specs.declared.reply.Reply.TheVariants.{Accepted, Duplicate, Conflict, Rejected}
 use Rattle.cwr_engine.specs.Items.{item_of, items_of, calls_in}
+use Rattle.cwr_engine.specs.Judged.{JudgedValue, judged_of}
 use Rattle.cwr_engine.specs.Handing.{Follows, Entries, HasGained, IsAnswered, AreAnswered}
 
 -- ---- an item fits its line
@@ -132,13 +133,31 @@ items_next ts rest t [] e is = ap (λ l. items_of l (e ∷ [])) is ∙ (ap (λ l
 items_next [] rest t (m ∷ made) e is = absurd cc
 items_next (x ∷ ts) rest t (m ∷ made) e is = ap (λ l. item_of x m ∷ l) (items_next ts rest t made e is)
 
-pub drop_next : (n : ℕ) (ts rest : List RawParts) (t : RawParts) → drop n ts ≡ t ∷ rest → rest ≡ drop (n + 1) ts
-drop_next n ts rest t e = let more : suc n ≡ n + 1 = omega arith in go n ts e ∙ ap (λ k. drop k ts) more where
-  go : (n : ℕ) (ts : List RawParts) → drop n ts ≡ t ∷ rest → rest ≡ drop (suc n) ts
+pub drop_next : {X : Type 0} (n : ℕ) (ts rest : List X) (t : X) → drop n ts ≡ t ∷ rest → rest ≡ drop (n + 1) ts
+drop_next {X} n ts rest t e = let more : suc n ≡ n + 1 = omega arith in go n ts e ∙ ap (λ k. drop k ts) more where
+  go : (n : ℕ) (ts : List X) → drop n ts ≡ t ∷ rest → rest ≡ drop (suc n) ts
   go zero [] e = absurd cc
   go zero (x ∷ ts) e = cc
   go (suc n) [] e = absurd cc
   go (suc n) (x ∷ ts) e = go n ts e
+
+-- the transaction that a judged one was made of, which follows n others
+pub record IsNext (submitter : List ℕ) (ts : List RawParts) (n : ℕ) (judged : JudgedValue) : Type 0 where
+  pub transaction : RawParts
+  pub rest : List RawParts
+  pub follows : drop n ts ≡ transaction ∷ rest
+  pub judged_is : judged ≡ judged_of submitter transaction
+  pub placed : IsPlaced transaction
+
+pub next_judged : (submitter : List ℕ) (n : ℕ) (ts : List RawParts) (judged : JudgedValue) (others : List JudgedValue) → AllByRecursion IsPlaced ts
+    → judged ∷ others ≡ drop n (map (judged_of submitter) ts) → IsNext submitter ts n judged
+next_judged submitter zero [] judged others placed e = absurd cc
+next_judged submitter zero (t ∷ ts) judged others placed e =
+    record { transaction = t; rest = ts; follows = refl; judged_is = cc; placed = placed.0 }
+next_judged submitter (suc n) [] judged others placed e = absurd cc
+next_judged submitter (suc n) (t ∷ ts) judged others placed e =
+    let next = next_judged submitter n ts judged others placed.1 e in
+    record { transaction = next.transaction; rest = next.rest; follows = next.follows; judged_is = next.judged_is; placed = next.placed }
 
 pub answered_next : (s s' : ℕ) (submitter : List ℕ) (ts rest : List RawParts) (t : RawParts) (i : ℕ) (before between after : Entries)
     (items items' : List Item) (item : Item) → s' ≡ s → drop i ts ≡ t ∷ rest → length items ≡ i → items' ≡ items ++ item ∷ []

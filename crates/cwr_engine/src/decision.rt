@@ -1,17 +1,16 @@
-//! One transaction of a file: judged, handed in, and told.
-ghost use Rattle.std.specs.Prelude.{◌≡◌, ◌<◌, ◌≤◌, ◌+◌, IfOk, IfErr, OnOk, OnErr, IsTrue};
-ghost use Rattle.cwr_grammar.specs.RawParts.{IsPlaced};
-ghost use Rattle.cwr_call.specs.Lawful.{is_clean};
+//! One transaction of a file: handed in, and told.
+ghost use Rattle.std.specs.Prelude.{◌≡◌, ◌<◌, ◌≤◌, ◌+◌, ℕ, List, IfOk, IfErr, OnOk, OnErr};
+ghost use Rattle.cwr_grammar.specs.RawParts.{RawParts, IsPlaced};
 ghost use Rattle.cwr_engine.specs.Causes.{IsCause, is_for_full, marked_by, refusal_of};
 ghost use Rattle.cwr_engine.specs.Handing.{IsAnswered};
+ghost use Rattle.cwr_engine.specs.Judged.{judged_of};
 
 use crate::gates::Gate;
+use crate::judged::Judged;
 use crate::outcome::Why;
 use crate::window::Window;
 use cwr_acknowledgement::AckItem;
 use cwr_call::{Call, Fault, Faults};
-use cwr_grammar::RawTransaction;
-use cwr_rules::judge;
 use std::alloc::{AllocError, Allocator};
 use work_registry::WhyRefused;
 
@@ -22,34 +21,33 @@ pub(crate) struct InHand {
     pub(crate) worker: u32,
     /// How many transactions of the file come before this one.
     pub(crate) index: u32,
-    /// The submitter of the file.
-    pub(crate) submitter: [u8; 11],
 }
 
-/// Judges a transaction, hands its call in, and makes the item that tells its reply.
+/// Hands the call of a transaction in, and makes the item that tells its reply.
 pub(crate) fn decide<H: Window<Call<A>>, G: Gate, A: Allocator + Copy + Drop>(
     alloc: A,
     window: H,
     gate: &G,
     in_hand: InHand,
-    transaction: &RawTransaction,
+    transaction: Judged<A>,
 ) -> (H, Result<AckItem<A>, Why>)
     requires turns { 0 < H.turns_left window }
-    requires clean { IsTrue (is_clean in_hand.submitter) }
-    requires placed { IsPlaced transaction.now }
     ensures session { H.session result.0 ≡ H.session window }
     ensures limit { H.limit result.0 ≡ H.limit window }
     ensures home { H.home result.0 ≡ H.home window }
     ensures turns { H.turns_left window ≤ H.turns_left result.0 + 1 }
-    ensures answered { IfOk result.1 (λ item. IsAnswered (H.session window) in_hand.submitter transaction.now item (H.entries window) (H.entries result.0)) }
+    ensures answered { IfOk result.1 (λ item. (submitter : List ℕ) (t : RawParts) → transaction ≡ judged_of submitter t → IsPlaced t
+        → IsAnswered (H.session window) submitter t item (H.entries window) (H.entries result.0)) }
     ensures kept { OnErr result.1 (H.entries result.0 ≡ H.entries window) }
     ensures why { IfErr result.1 (IsCause (H.full result.0) (G.may_shut gate.now)) }
     ensures unmarked { OnOk result.1 (H.mark result.0 ≡ H.mark window) }
     ensures marked { IfErr result.1 (λ why. H.mark result.0 ≡ marked_by (is_for_full why) (H.mark window)) }
 {
-    let Ok(call) = judge(alloc, transaction, in_hand.submitter) else {
-        return (window, Err(Why::Memory));
-    };
+    let Judged {
+        group,
+        sequence,
+        call,
+    } = transaction;
     let Ok(faults) = copied(alloc, call.faults()) else {
         return (window, Err(Why::Memory));
     };
@@ -64,8 +62,8 @@ pub(crate) fn decide<H: Window<Call<A>>, G: Gate, A: Allocator + Copy + Drop>(
         Ok(reply) => {
             gate.after(in_hand.worker, in_hand.index);
             let item = AckItem {
-                group: transaction.group(),
-                sequence: transaction.sequence(),
+                group,
+                sequence,
                 kind,
                 title,
                 number,

@@ -1,23 +1,23 @@
 //! One job, at a window.
-ghost use Rattle.std.specs.Prelude.{◌≡◌, ◌+◌, ◌<◌, ◌≤◌, ◌^◌, ℕ, List, [], false, length, vec_capacity, IsTrue, IfSome, OnOk, OnErr, IfErr};
+ghost use Rattle.std.specs.Prelude.{◌≡◌, ◌+◌, ◌<◌, ◌≤◌, ◌^◌, ℕ, List, [], false, length, map, vec_capacity, IfSome, OnOk, OnErr, IfErr};
 ghost use Rattle.std.specs.List.{AllByRecursion};
 ghost use Rattle.byte_streams.specs.GivenBytes.{HasGiven};
 ghost use Rattle.cwr_acknowledgement.specs.Acknowledgement.{FitsItem};
-ghost use Rattle.cwr_grammar.specs.RawParts.{IsPlaced};
-ghost use Rattle.cwr_grammar.specs.Submitted.{IsBounded};
-ghost use Rattle.cwr_call.specs.Lawful.{is_clean};
+ghost use Rattle.cwr_grammar.specs.RawParts.{RawParts, IsPlaced};
 ghost use Rattle.cwr_engine.specs.Account.{most, Ends, IsRead, ends_of, read_ends, write_ends};
 ghost use Rattle.cwr_engine.specs.Causes.{cause_of, ends_full, is_for_full, marked_by, IsCause};
 ghost use Rattle.cwr_engine.specs.Handing.{AreAnswered, IsWorked, most_handed};
+ghost use Rattle.cwr_engine.specs.Judged.{AreJudged, judged_of};
 
 use crate::decision::{InHand, decide};
 use crate::gates::Gate;
+use crate::judged::{Judged, JudgedFile, judge_file};
 use crate::limits::MOST_BYTES;
 use crate::outcome::{FileOutcome, Why};
 use crate::window::Window;
 use byte_streams::{ReadRefused, Sink, Source, read_file, write_out};
 use cwr_acknowledgement::{AckItem, ack_file};
-use cwr_grammar::{FileRefusal, Submission, parse_file};
+use cwr_grammar::FileRefusal;
 use cwr_record::Stamp;
 use std::alloc::Allocator;
 use work_registry::Call;
@@ -28,34 +28,32 @@ fn hand_in_all<H: Window<Call<A>>, G: Gate, A: Allocator + Copy + Drop>(
     mut window: H,
     gate: &G,
     worker: u32,
-    file: &Submission<A>,
+    transactions: Vec<Judged<A>, A>,
     items: &mut Vec<AckItem<A>, A>,
 ) -> (H, Result<(), Why>)
     requires none { items.old.items ≡ [] }
-    requires room { length file.now.transactions ≤ vec_capacity items.old }
-    requires few { length file.now.transactions < 2 ^ 32 }
-    requires turns { length file.now.transactions ≤ H.turns_left window }
-    requires clean { IsTrue (is_clean file.now.header.sender) }
-    requires placed { AllByRecursion IsPlaced file.now.transactions }
+    requires room { length transactions.items ≤ vec_capacity items.old }
+    requires few { length transactions.items < 2 ^ 32 }
+    requires turns { length transactions.items ≤ H.turns_left window }
+    requires placed { (submitter : List ℕ) × (ts : List RawParts) × (transactions.items ≡ map (judged_of submitter) ts) × AllByRecursion IsPlaced ts }
     ensures session { H.session result.0 ≡ H.session window }
     ensures limit { H.limit result.0 ≡ H.limit window }
     ensures home { H.home result.0 ≡ H.home window }
-    ensures answered { AreAnswered (H.session window) file.now.header.sender file.now.transactions items.new.items (H.entries window) (H.entries result.0) }
+    ensures answered { (submitter : List ℕ) (ts : List RawParts) → transactions.items ≡ map (judged_of submitter) ts → AllByRecursion IsPlaced ts
+        → AreAnswered (H.session window) submitter ts items.new.items (H.entries window) (H.entries result.0) }
     ensures fit { AllByRecursion FitsItem items.new.items }
-    ensures all { OnOk result.1 (length items.new.items ≡ length file.now.transactions) }
-    ensures some { OnErr result.1 (length items.new.items < length file.now.transactions) }
+    ensures all { OnOk result.1 (length items.new.items ≡ length transactions.items) }
+    ensures some { OnErr result.1 (length items.new.items < length transactions.items) }
     ensures why { IfErr result.1 (IsCause (H.full result.0) (G.may_shut gate.now)) }
     ensures unmarked { OnOk result.1 (H.mark result.0 ≡ H.mark window) }
     ensures marked { IfErr result.1 (λ why. H.mark result.0 ≡ marked_by (is_for_full why) (H.mark window)) }
 {
-    for (index, transaction) in file.transactions.iter().enumerate() {
-        let index = index as u32;
+    for transaction in transactions {
         let in_hand = InHand {
             worker,
-            index,
-            submitter: file.header.sender,
+            index: items.len() as u32,
         };
-        let (next, item) = decide(alloc, window, gate, in_hand, &transaction);
+        let (next, item) = decide(alloc, window, gate, in_hand, transaction);
         window = next;
         match item {
             Ok(item) => {
@@ -72,25 +70,25 @@ fn hand_in_all<H: Window<Call<A>>, G: Gate, A: Allocator + Copy + Drop>(
 /// Hands the transactions of a well-formed file in at the window, and writes their acknowledgement.
 ///
 /// A transaction that gets no reply ends the job. The list of items is reserved before the first one is handed in.
-fn work_submission<H: Window<Call<A>>, G: Gate, W: Sink, A: Allocator + Copy + Drop>(
+fn work_judged<H: Window<Call<A>>, G: Gate, W: Sink, A: Allocator + Copy + Drop>(
     alloc: A,
     window: H,
     gate: &G,
     worker: u32,
-    file: &Submission<A>,
+    file: JudgedFile<A>,
     writer: &mut W,
     stamp: &Stamp,
 ) -> (H, FileOutcome)
     requires writes { W.has_failed writer.old ≡ false }
     requires turns { most_handed ≤ H.turns_left window }
-    requires bounds { IsBounded most file.now.header file.now.transactions }
+    requires judged { (ts : List RawParts) × AreJudged most file.header ts file.transactions.items }
     ensures session { H.session result.0 ≡ H.session window }
     ensures limit { H.limit result.0 ≡ H.limit window }
     ensures home { H.home result.0 ≡ H.home window }
     ensures marked { H.mark result.0 ≡ marked_by (ends_full result.1) (H.mark window) }
-    ensures worked { (ends : Ends) (input : List ℕ)
+    ensures worked { (ts : List RawParts) (ends : Ends) (input : List ℕ) → AreJudged most file.header ts file.transactions.items
         → IfSome ends.left_before (λ bytes. input ≡ bytes) → HasGiven ends.left_before ends.left_after
-        → ends.reads_after ≤ ends.reads_before + most + 2 → IsRead input file.now.header file.now.transactions
+        → ends.reads_after ≤ ends.reads_before + most + 2 → IsRead input file.header ts
         → IsWorked (H.session window) (record ends {
           taken_before = W.taken writer.old;
           taken_after = W.taken writer.new;
@@ -99,15 +97,19 @@ fn work_submission<H: Window<Call<A>>, G: Gate, W: Sink, A: Allocator + Copy + D
           may_shut = G.may_shut gate.now;
         }) stamp.now result.1 (H.entries window) (H.entries result.0) }
 {
-    let Ok(mut items) = Vec::with_capacity(alloc, file.transactions.len()) else {
+    let JudgedFile {
+        header,
+        transactions,
+    } = file;
+    let Ok(mut items) = Vec::with_capacity(alloc, transactions.len()) else {
         return (window, stopped(0, Why::Memory));
     };
-    let (window, done) = hand_in_all(alloc, window, gate, worker, file, &mut items);
+    let (window, done) = hand_in_all(alloc, window, gate, worker, transactions, &mut items);
     let handed = items.len() as u32;
     if let Err(why) = done {
         return (window, stopped(handed, why));
     }
-    let Ok(answer) = ack_file(alloc, stamp, &file.header, &items) else {
+    let Ok(answer) = ack_file(alloc, stamp, &header, &items) else {
         return (window, stopped(handed, Why::Memory));
     };
     match write_out(writer, &answer) {
@@ -118,7 +120,7 @@ fn work_submission<H: Window<Call<A>>, G: Gate, W: Sink, A: Allocator + Copy + D
 
 /// Reads a file, hands its transactions in at the window, in file order, and writes their acknowledgement.
 ///
-/// At most 16,777,216 bytes are taken, in at most two reads more than that; a reader that tells its bytes gave the first
+/// Nothing is handed in before the whole file is read and each of its transactions is judged. /// At most 16,777,216 bytes are taken, in at most two reads more than that; a reader that tells its bytes gave the first
 /// of them and holds the others. A transaction that gets no reply ends the job, and the entries made before it stay. The
 /// window comes back with the outcome, marked where the book was full for the job and else as it was, and can take
 /// 99,999,995 calls, one for each transaction that a file may have.
@@ -145,8 +147,10 @@ pub fn work_file<H: Window<Call<A>>, G: Gate, R: Source, W: Sink, A: Allocator +
         Ok(text) => text,
         Err(unread) => return (window, stopped(0, cause(unread))),
     };
-    match parse_file(alloc, &text) {
-        Ok(file) => work_submission(alloc, window, gate, worker, &file, writer, stamp),
+    let judged = judge_file(alloc, &text);
+    drop(text);
+    match judged {
+        Ok(file) => work_judged(alloc, window, gate, worker, file, writer, stamp),
         Err(FileRefusal::Fault { number, line }) => {
             (window, FileOutcome::Refused { number, line })
         }

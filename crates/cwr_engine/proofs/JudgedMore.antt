@@ -1,0 +1,20 @@
+-- One transaction more is judged.
+use Rattle.std.proofs.Common.{◌≡◌, ◌∙◌, ℕ, List, [], ◌∷◌, ◌++◌, map, ap, sym, refl}
+use Rattle.cwr_grammar.specs.RawParts.{RawParts}
+use Rattle.cwr_rules.specs.Calls.{call_of}
+use Rattle.cwr_engine.specs.Judged.{JudgedValue, judged_of}
+use Rattle.cwr_engine.specs.JudgedSoFar.{IsJudgedSoFar}
+
+map_more : {X Y : Type 0} (f : X → Y) (xs : List X) (x : X) → map f (xs ++ x ∷ []) ≡ map f xs ++ f x ∷ []
+map_more f [] x = refl
+map_more f (y ∷ xs) x = ap (λ l. f y ∷ l) (map_more f xs x)
+
+pub judged_more : (submitter : List ℕ) (judged next : List JudgedValue) (whole : List RawParts) (t : RawParts) (now : JudgedValue)
+    → IsJudgedSoFar submitter judged whole → now.group ≡ t.group → now.sequence ≡ t.sequence → now.call ≡ call_of submitter t
+    → next ≡ judged ++ now ∷ [] → IsJudgedSoFar submitter next (whole ++ t ∷ [])
+judged_more submitter judged next whole t now so_far group sequence call is =
+    let now_is : now ≡ judged_of submitter t = λ i. record { group = group i; sequence = sequence i; call = call i } in
+    record {
+      clean = so_far.clean;
+      judged_are = is ∙ ((λ i. so_far.judged_are i ++ now_is i ∷ []) ∙ sym (map_more (judged_of submitter) whole t));
+    }
