@@ -12,7 +12,7 @@ use Rattle.cwr_grammar.specs.Roles.{role_of}
 use Rattle.cwr_grammar.specs.Before.{groups, transactions, is_file_trailer}
 use Rattle.cwr_grammar.specs.RawParts.{RawParts}
 use Rattle.cwr_grammar.specs.Visiting.{is_detail}
-use Rattle.cwr_grammar.proofs.Collected.{details, raws, raws_after}
+use Rattle.cwr_grammar.specs.Collected.{details, raws, raws_after}
 use Rattle.cwr_grammar.specs.declared.span.Span.{Span}
 use Rattle.cwr_grammar.specs.Spans.{closed, closed_by, opened_by, raw_at, raws_at, IsInside}
 use Rattle.cwr_grammar.proofs.Reading.{following, IsWhole, IsOpenUpTo, Collecting}

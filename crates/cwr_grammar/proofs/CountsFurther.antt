@@ -4,7 +4,7 @@ use Rattle.cwr_grammar.specs.declared.role.Role.{Role}
 use Rattle.cwr_grammar.specs.declared.role.Role.TheVariants.{FileHeader, GroupHeader, TransactionHeader, Detail, GroupTrailer, FileTrailer, Unnamed}
 use Rattle.cwr_grammar.specs.Roles.{role_of}
 use Rattle.cwr_grammar.specs.Before.{groups, is_file_trailer}
-use Rattle.cwr_grammar.proofs.Collected.{group_count, group_count_at, record_count, record_count_at}
+use Rattle.cwr_grammar.specs.Collected.{group_count, group_count_at, record_count, record_count_at}
 
 groups_advance_at : (role : Role) (before : List Role) (n total : ℕ) → is_file_trailer role ≡ false → groups before + group_count_at role n ≡ total → groups (role ∷ before) + n ≡ total
 groups_advance_at (GroupHeader k i) before n total e h = omega (arith, h)

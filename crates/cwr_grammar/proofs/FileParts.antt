@@ -7,7 +7,7 @@ use Rattle.cwr_grammar.specs.Roles.{role_of}
 use Rattle.cwr_grammar.specs.File.{File, FileGroup, IsFile, AreGroups, AreTransactions, AreDetails, records_of, lines_of_group, lines_of_groups, joined}
 use Rattle.cwr_grammar.specs.RawParts.{RawParts, raws_of, raws_of_group}
 use Rattle.cwr_grammar.specs.Visiting.{is_detail}
-use Rattle.cwr_grammar.proofs.Collected.{details, raws, raws_after, group_count, group_count_at, record_count, record_count_at}
+use Rattle.cwr_grammar.specs.Collected.{details, raws, raws_after, group_count, group_count_at, record_count, record_count_at}
 
 -- a fold of lines, at a line whose type is known
 raws_line : (line : List ℕ) (kind : Role) (rest : List (List ℕ)) (g t : ℕ) → role_of line ≡ kind → raws (line ∷ rest) g t ≡ raws_after kind line (details rest) (raws rest) g t

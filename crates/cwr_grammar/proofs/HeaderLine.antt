@@ -1,5 +1,5 @@
 -- A line that the grammar takes for a valid file header is read as one.
-use Rattle.std.proofs.Common.{◌≡◌, ℕ, Bool, true, false, ◌&&◌, cond, List, [], ◌∷◌, Option, Some, None, is_some, arith, refl, ◌∙◌}
+use Rattle.std.proofs.Common.{◌≡◌, ℕ, Bool, true, false, ◌&&◌, cond, List, [], ◌∷◌, Option, Some, None, is_some, arith, refl, sym, ap, ◌∙◌}
 use Rattle.std.specs.Prelude.{codes, option_map}
 use Rattle.std.specs.Str.{bytes_eq}
 use Rattle.cwr_field.specs.Calendar.{day_of, time_of}
@@ -11,6 +11,7 @@ use Rattle.cwr_record.specs.declared.slot.FieldFault.{FieldFault}
 use Rattle.cwr_record.specs.declared.record_type.RecordType.{RecordType}
 use Rattle.cwr_record.specs.declared.record_type.RecordType.TheVariants.{Hdr, Grh, Grt, Trl, Nwr, Rev, Ack, Spu, Spt, Opu, Swr, Swt, Pwr, Owr, Alt, Xrf, Other, Carried, Bad}
 use Rattle.cwr_grammar.specs.declared.role.Role.TheVariants.{FileHeader}
+use Rattle.cwr_grammar.specs.File.{File, IsFile}
 use Rattle.cwr_grammar.specs.Roles.{role_of, role_at, is_dated}
 
 -- the chain of names gives HDR at its own name alone
@@ -86,3 +87,12 @@ no_faults line is =
 
 pub header_readable : (line : List ℕ) (fault : FieldFault) → role_of line ≡ FileHeader true → IsLeastFault line (checked table.header) fault → ⊥
 header_readable line fault is least = let (i, inside, here) = rw (no_faults line is) at least.0 in omega (arith, inside)
+
+-- the first of lines
+abbrev head_of : List ℕ → List (List ℕ) → List ℕ
+head_of line [] = line
+head_of line (first ∷ more) = first
+
+-- the first line of a file is its header
+pub first_is : (text more : List (List ℕ)) (line : List ℕ) (f : File) → text ≡ line ∷ more → IsFile text f → line ≡ f.header
+first_is text more line f split is = ap (head_of line) (sym split ∙ is.lines)

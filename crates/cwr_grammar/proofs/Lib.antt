@@ -10,7 +10,6 @@ pub mod ReadSteps
 pub mod FileCuts
 pub mod FileLaw
 pub mod FileClear
-pub mod Collected
 pub mod Reading
 pub mod FileParts
 pub mod OneFile
@@ -24,3 +23,4 @@ pub mod HeaderLine
 pub mod Least
 pub mod RoleLaw
 pub mod Visits
+pub mod ReadFurther

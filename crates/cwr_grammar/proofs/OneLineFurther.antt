@@ -11,10 +11,11 @@ use Rattle.cwr_grammar.specs.Before.{groups, transactions, is_file_trailer, is_e
 use Rattle.cwr_grammar.specs.declared.span.Span.{Span}
 use Rattle.cwr_grammar.specs.FirstFault.{with_eleven, fault_at_end, at_line, or_else, line_fault, first_fault_after, tail_fault}
 use Rattle.cwr_grammar.specs.FaultTests.{is_after_end}
-use Rattle.cwr_grammar.proofs.Collected.{group_count, record_count, raws}
+use Rattle.cwr_grammar.specs.Collected.{group_count, record_count, raws}
 use Rattle.cwr_grammar.specs.Spans.{closed_by, opened_by}
 use Rattle.cwr_grammar.specs.Counted.{counts_of, AreSmall}
-use Rattle.cwr_grammar.proofs.Reading.{Going, Reading, Collecting}
+use Rattle.cwr_grammar.specs.ReadUpTo.{Going}
+use Rattle.cwr_grammar.proofs.Reading.{Reading, Collecting}
 use Rattle.cwr_grammar.proofs.Small.{small_from}
 use Rattle.cwr_grammar.proofs.Numbers.{few_groups_after, few_records, clear_role}
 use Rattle.cwr_grammar.proofs.FileParts.{file_raws, file_groups, file_records}
@@ -26,8 +27,8 @@ use Rattle.cwr_grammar.proofs.ReadSteps.{after_end}
 use Rattle.cwr_grammar.proofs.Collecting.{IsLine, Collected, advances, ends_file}
 use Rattle.cwr_grammar.proofs.CountsFurther.{groups_advance, records_advance, groups_end, records_end}
 
-pub going_small : (text : List ℕ) (s : FileCounts) (at : ℕ) (before : List (List ℕ)) → Going text s at before → length text < 2 ^ 63 → AreSmall s
-going_small text s at before r few = small_from (map role_of before) s r.counted (omega (arith, length-map before role_of, r.few, r.inside, few))
+pub going_small : (text : List ℕ) (s : FileCounts) (at : ℕ) (before : List (List ℕ)) → Going text s at before → at < 2 ^ 63 → AreSmall s
+going_small text s at before r few = small_from (map role_of before) s r.counted (omega (arith, length-map before role_of, r.few, few))
 
 -- before the first line
 pub going_begins : (text : List ℕ) (s : FileCounts) → s ≡ counts_of [] → Going text s 0 []
@@ -44,7 +45,6 @@ pub record OneLine (text : List ℕ) (before : List (List ℕ)) (at n : ℕ) (li
   pub split : lines (drop at text) ≡ line ∷ lines (drop (at + n) text)
   pub some : 0 < n
   pub fits : n ≤ length text - at
-  pub whole : (length text - at ≤ n) ⊎ IsLine text at n line
   pub read : role ≡ role_of line
   pub clear : None ≡ line_fault before line
   pub counted : next ≡ counts_of (role ∷ map role_of before)
@@ -98,9 +98,10 @@ goes_on text s next at n before line role r one goes =
     }
 
 pub reads_on : (text : List ℕ) (spans spans' : List Span) (current current' : Option Open) (s next : FileCounts) (at n : ℕ) (before : List (List ℕ)) (line : List ℕ) (role : Role)
-    → Reading text spans current s at before → OneLine text before at n line role next → spans' ≡ spans ++ closed_by role at current → current' ≡ opened_by role at s.groups s.transactions current → next.is_ended ≡ false
+    → Reading text spans current s at before → OneLine text before at n line role next → (length text - at ≤ n) ⊎ IsLine text at n line
+    → spans' ≡ spans ++ closed_by role at current → current' ≡ opened_by role at s.groups s.transactions current → next.is_ended ≡ false
     → Reading text spans' current' next (at + n) (line ∷ before)
-reads_on text spans spans' current current' s next at n before line role reading one taken opened goes =
+reads_on text spans spans' current current' s next at n before line role reading one whole taken opened goes =
     let r = reading.going in
     let more = no_trailer text s next at n before line role r one goes in
     let g : s.groups ≡ groups (map role_of before) = ap (λ (x : FileCounts). x.groups) r.counted in
@@ -110,7 +111,7 @@ reads_on text spans spans' current current' s next at n before line role reading
       going = goes_on text s next at n before line role r one goes;
       collecting = λ lt.
           let start = collecting_to text spans spans current current s.groups s.transactions (groups (map role_of before)) (transactions (map role_of before)) at refl refl g t (reading.collecting here) in
-          let is : IsLine text at n line = whole_inside (length text - at) n 0 one.whole (omega (arith, lt)) in
+          let is : IsLine text at n line = whole_inside (length text - at) n 0 whole (omega (arith, lt)) in
           collecting_to text (spans ++ closed_by role at current) spans' (opened_by role at (groups (map role_of before)) (transactions (map role_of before)) current) current' _ _ _ _ (at + n) (sym taken)
           (sym (opened ∙ ap (λ (x : FileCounts). opened_by role at x.groups x.transactions current) r.counted)) (sym (ap (λ (x : FileCounts). x.groups) one.counted)) (sym (ap (λ (x : FileCounts). x.transactions) one.counted))
           (advances role text spans current at n (map role_of before) line r.inside one.split is (sym one.read) more start);
@@ -165,19 +166,18 @@ reads_whole text spans spans' current s next at n before line role r one taken e
     let here : at < length text = omega (arith, one.some, one.fits) in
     collected_to text _ spans' (sym taken) (ends_file role text spans current s.groups s.transactions at line (lines (drop (at + n) text)) r.going.inside one.split (sym one.read) last (r.collecting here))
 
-whole_at : (text : List ℕ) (at n : ℕ) (line rest : List ℕ) → rest ≡ drop at text → (length rest ≤ n) ⊎ ((more : List ℕ) → lines (take n rest ++ more) ≡ line ∷ lines more) → (length text - at ≤ n) ⊎ IsLine text at n line
+pub whole_at : (text : List ℕ) (at n : ℕ) (line rest : List ℕ) → rest ≡ drop at text → (length rest ≤ n) ⊎ ((more : List ℕ) → lines (take n rest ++ more) ≡ line ∷ lines more) → (length text - at ≤ n) ⊎ IsLine text at n line
 whole_at text at n line rest is (inl le) = inl (omega (arith, le, ap (λ (xs : List ℕ). length xs) is, length-drop at text))
 whole_at text at n line rest is (inr h) = inr (λ more. ap (λ (xs : List ℕ). lines (take n xs ++ more)) (sym is) ∙ h more)
 
 -- the line as a slice's reader tells it
 pub one_line : (text : List ℕ) (before : List (List ℕ)) (at n : ℕ) (line : List ℕ) (role : Role) (next : FileCounts) (rest : List ℕ) → rest ≡ drop at text
-    → lines rest ≡ line ∷ lines (drop n rest) → 0 < n → n ≤ length rest → (length rest ≤ n) ⊎ ((more : List ℕ) → lines (take n rest ++ more) ≡ line ∷ lines more)
+    → lines rest ≡ line ∷ lines (drop n rest) → 0 < n → n ≤ length rest
     → role ≡ role_of line → None ≡ line_fault before line → next ≡ counts_of (role ∷ map role_of before) → OneLine text before at n line role next
-one_line text before at n line role next rest is split some fits whole read clear counted = record {
+one_line text before at n line role next rest is split some fits read clear counted = record {
   split = ap lines (sym is) ∙ split ∙ ap (λ (xs : List ℕ). line ∷ lines (drop n xs)) is ∙ ap (λ (xs : List ℕ). line ∷ lines xs) (drop-drop n at text);
   some = some;
   fits = omega (arith, fits, ap (λ (xs : List ℕ). length xs) is, length-drop at text);
-  whole = whole_at text at n line rest is whole;
   read = read;
   clear = clear;
   counted = counted;

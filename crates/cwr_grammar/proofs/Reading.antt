@@ -1,17 +1,14 @@
--- What is known while a file is read.
-use Rattle.std.specs.Prelude.{ℕ, ◌+◌, ◌≡◌, ◌≤◌, ◌<◌, ◌^◌, false, List, [], ◌∷◌, ◌++◌, length, map, drop, Option, Some, None}
+-- The places of the transactions while a file is read.
+use Rattle.std.specs.Prelude.{ℕ, ◌≡◌, ◌≤◌, ◌<◌, List, [], ◌∷◌, ◌++◌, length, drop, Option, Some, None}
 use Rattle.std.specs.List.{slice_range, AllByRecursion}
 use Rattle.std.specs.Str.Lines.{lines}
 use Rattle.cwr_grammar.specs.declared.span.Span.{Span}
 use Rattle.cwr_grammar.specs.declared.span.Open.{Open}
 use Rattle.cwr_grammar.specs.declared.file_counts.FileCounts.{FileCounts}
-use Rattle.cwr_grammar.specs.Counted.{counts_of}
-use Rattle.cwr_grammar.specs.Roles.{role_of}
-use Rattle.cwr_grammar.specs.FaultTests.{is_after_end}
-use Rattle.cwr_grammar.specs.FirstFault.{first_fault_after}
 use Rattle.cwr_grammar.specs.RawParts.{RawParts}
 use Rattle.cwr_grammar.specs.Spans.{IsInside, raws_at}
-use Rattle.cwr_grammar.proofs.Collected.{details, raws, group_count, record_count}
+use Rattle.cwr_grammar.specs.Collected.{details, raws}
+use Rattle.cwr_grammar.specs.ReadUpTo.{Going}
 
 -- the open transaction, whose bytes end at a position, with the details that follow
 abbrev pub following : List ℕ → ℕ → Option Open → List (List ℕ) → List RawParts
@@ -35,18 +32,7 @@ pub record Collecting (text : List ℕ) (spans : List Span) (current : Option Op
   pub whole : IsWhole text at current
   pub found : raws_at text spans ++ following text at current (lines (drop at text)) ++ raws (lines (drop at text)) g t ≡ raws (lines text) 0 0
 
--- the lines before a position have no fault, and are counted; what is still to come decides on the text
-pub record Going (text : List ℕ) (counts : FileCounts) (at : ℕ) (before : List (List ℕ)) : Type 0 where
-  pub inside : at ≤ length text
-  pub few : length before ≤ at
-  pub few_groups : counts.groups < 10 ^ 5
-  pub counted : counts ≡ counts_of (map role_of before)
-  pub goes : is_after_end before ≡ false
-  pub fault : first_fault_after before (lines (drop at text)) ≡ first_fault_after [] (lines text)
-  pub group_total : counts.groups + group_count (lines (drop at text)) ≡ group_count (lines text)
-  pub record_total : counts.lines + record_count (lines (drop at text)) ≡ record_count (lines text)
-
--- the same, with the places of the transactions
+-- what is known before a line, with the places of the transactions
 pub record Reading (text : List ℕ) (spans : List Span) (current : Option Open) (counts : FileCounts) (at : ℕ) (before : List (List ℕ)) : Type 0 where
   pub going : Going text counts at before
   pub collecting : at < length text → Collecting text spans current counts.groups counts.transactions at

@@ -19,21 +19,14 @@ use Rattle.cwr_record.specs.declared.record_type.RecordType.{RecordType}
 use Rattle.cwr_grammar.specs.Roles.{role_of, role_at}
 use Rattle.cwr_grammar.specs.Visiting.{is_detail, leaves_open, closed, whole_after, open_after, with_line, HasAtMost, MayBeGiven, WasGiven}
 use Rattle.cwr_grammar.proofs.Accepted.{detail_is, head_is, head_named, file_head_is, unnamed_is, file_end_is}
-use Rattle.cwr_grammar.proofs.Collected.{details, raws, raws_after}
+use Rattle.cwr_grammar.specs.Collected.{details, raws, raws_after}
 use Rattle.cwr_grammar.specs.Submitted.{IsReadTo, IsHeaded}
 use Rattle.cwr_grammar.proofs.FileBounds.{file_bounds}
 use Rattle.cwr_grammar.proofs.Numbers.{HasSmallNumbers, clear_role, small_role}
 use Rattle.cwr_grammar.proofs.OneLineFurther.{OneLine, going_begins, goes_on, no_trailer, trailer, ends_on}
-use Rattle.cwr_grammar.proofs.Reading.{Going}
+use Rattle.cwr_grammar.specs.ReadUpTo.{IsOpen, going_on, IsGiven, Visiting}
 
 -- ---- what is open
-
--- whether a transaction is open follows from the counts, and how many lines it has
-pub record IsOpen (s : FileCounts) (is_open : Bool) (current : Option RawParts) : Type 0 where
-  pub open_is : is_some current ≡ is_open
-  pub counted : is_open ≡ (s.in_group && s.in_transaction)
-  pub long : IfSome current (λ t. length t.lines ≡ s.details + 1)
-  pub few : HasAtMost (most_count + 1) current
 
 pub open_begins : (s : FileCounts) → s ≡ counts_of [] → IsOpen s false None
 open_begins s is = rw is (record { open_is = refl; counted = refl; long = tt; few = tt })
@@ -113,15 +106,6 @@ open_goes (FileTrailer g t r) before line is_open current clear small h = nothin
 open_goes Unnamed before line is_open current clear small h = absurd (unnamed_is before clear)
 
 -- ---- what was found
-
--- the open transaction with the details that follow
-abbrev pub going_on : Option RawParts → List (List ℕ) → List RawParts
-going_on None rest = []
-going_on (Some t) rest = record t { lines = t.lines ++ details rest } ∷ []
-
--- what was given and what is still to come are the transactions of the text
-abbrev pub IsGiven : List RawParts → List RawParts → Option RawParts → (g t : ℕ) → List (List ℕ) → Type 0
-IsGiven all whole current g t rest = whole ++ going_on current rest ++ raws rest g t ≡ all
 
 ends : (whole : List RawParts) (current : Option RawParts) (line : List ℕ) (rest : List (List ℕ)) → is_detail (role_of line) ≡ false → whole ++ going_on current (line ∷ rest) ≡ closed whole current
 ends whole None line rest e = append-nil whole
@@ -237,13 +221,6 @@ whole_few Unnamed whole current n le = closed_few whole current n le
 
 -- ---- all that holds before a line
 
-pub record Visiting (K : List RawParts → Option RawParts → Type 0) (text : List ℕ) (s : FileCounts) (at : ℕ) (before : List (List ℕ)) (is_open : Bool) (whole : List RawParts) (current : Option RawParts) : Type 0 where
-  pub going : Going text s at before
-  pub kept : K whole current
-  pub is : IsOpen s is_open current
-  pub few : length whole ≤ length before
-  pub given : IsGiven (raws (lines text) 0 0) whole current s.groups s.transactions (lines (drop at text))
-
 pub visiting_begins : (K : List RawParts → Option RawParts → Type 0) (text : List ℕ) (s : FileCounts) → s ≡ counts_of [] → K [] None → Visiting K text s 0 [] false [] None
 visiting_begins K text s is kept = record {
   going = going_begins text s is;
@@ -255,11 +232,11 @@ visiting_begins K text s is kept = record {
 
 -- a line without a fault may be given
 pub visiting_gives : (K : List RawParts → Option RawParts → Type 0) (text : List ℕ) (s : FileCounts) (at : ℕ) (before : List (List ℕ)) (is_open : Bool) (whole : List RawParts) (current : Option RawParts) (line : List ℕ) (role : Role)
-    → Visiting K text s at before is_open whole current → role ≡ role_of line → None ≡ line_fault before line → length text < 2 ^ 63 → Kept K role is_open
+    → Visiting K text s at before is_open whole current → role ≡ role_of line → None ≡ line_fault before line → at < 2 ^ 63 → Kept K role is_open
 visiting_gives K text s at before is_open whole current line role v read clear small =
     let none = ap (role_fault (map role_of before)) read ∙ clear_role before line v.going.goes clear in
     let is = subst (λ (x : FileCounts). IsOpen x is_open current) v.going.counted v.is in
-    (whole, current, v.kept, may_be_given role (map role_of before) is_open current none (small_role line role (sym read)) is, omega (arith, v.few, v.going.few, v.going.inside, small))
+    (whole, current, v.kept, may_be_given role (map role_of before) is_open current none (small_role line role (sym read)) is, omega (arith, v.few, v.going.few, small))
 
 -- and then all holds before the next line
 pub visiting_goes : (K L : List RawParts → Option RawParts → Type 0) (text : List ℕ) (s next : FileCounts) (at n : ℕ) (before : List (List ℕ)) (is_open is_next : Bool) (whole : List RawParts) (current : Option RawParts) (line : List ℕ) (role : Role)

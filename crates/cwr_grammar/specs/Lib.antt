@@ -10,3 +10,5 @@ pub mod Counted
 pub mod Spans
 pub mod FaultText
 pub mod Visiting
+pub mod Collected
+pub mod ReadUpTo

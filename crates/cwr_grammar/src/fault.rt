@@ -56,7 +56,7 @@ pub(crate) fn tail_fault(text: &[u8], number: u64) -> Option<u64>
     None
 }
 
-fn is_tail(line: &[u8]) -> bool
+pub(crate) fn is_tail(line: &[u8]) -> bool
     ensures { result ≡ is_tail line.now }
 {
     line.iter().all(|byte| *byte == b' ' || *byte == 26)

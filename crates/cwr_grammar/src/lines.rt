@@ -1,4 +1,4 @@
-ghost use Rattle.std.specs.Prelude.{◌≡◌, ◌<◌, ◌≤◌, ◌==◌, ◌∷◌, ◌++◌, ◌⊎◌, ℕ, List, [], true, false, length, take, drop, IfSome, IfNone};
+ghost use Rattle.std.specs.Prelude.{◌≡◌, ◌<◌, ◌≤◌, ◌==◌, ◌∷◌, ◌++◌, ◌⊎◌, ℕ, List, [], None, true, false, length, take, drop, IfSome, IfNone};
 ghost use Rattle.std.specs.Iterator.{YieldsFirstRef, item_count};
 ghost use Rattle.std.specs.List.{position};
 ghost use Rattle.std.specs.Str.Lines.{lines, strip_carriage_return};
@@ -59,6 +59,8 @@ pub(crate) struct FirstLine<'a> {
     pub(crate) size: usize,
     /// No byte of it is below 32. Where this is false, one may be.
     pub(crate) is_clean: bool,
+    /// An LF ends it.
+    pub(crate) is_whole: bool,
 }
 
 /// The first line of a text.
@@ -71,6 +73,8 @@ pub(crate) fn first_line(text: &[u8]) -> Option<FirstLine<'_>>
 
     // Its bytes are the whole text, or are a line with its end before any other bytes too.
     ensures whole { IfSome result (λ x. (length text.now ≤ x.size) ⊎ ((more : List ℕ) → lines (take x.size text.now ++ more) ≡ x.bytes.now ∷ lines more)) }
+    ensures ended { IfSome result (λ x. x.is_whole ≡ true → (more : List ℕ) → lines (take x.size text.now ++ more) ≡ x.bytes.now ∷ lines more) }
+    ensures open { IfSome result (λ x. x.is_whole ≡ false → position (λ b. b == 10) text.now ≡ None) }
 {
     if text.is_empty() {
         return None;
@@ -80,11 +84,13 @@ pub(crate) fn first_line(text: &[u8]) -> Option<FirstLine<'_>>
             bytes: without_return(&text[..end]),
             size: end + 1,
             is_clean,
+            is_whole: true,
         }),
         (None, _) => Some(FirstLine {
             bytes: text,
             size: text.len(),
             is_clean: false,
+            is_whole: false,
         }),
     }
 }

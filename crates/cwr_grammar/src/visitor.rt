@@ -8,14 +8,13 @@ ghost use Rattle.cwr_grammar.specs.RawParts.{RawParts};
 ghost use Rattle.cwr_grammar.specs.Submitted.{IsRefusal};
 ghost use Rattle.cwr_grammar.specs.Visiting.{MayBeGiven, WasGiven, leaves_open, open_after, whole_after, with_line};
 
-use crate::envelope::{Envelope, envelope_of};
-use crate::fault::fault_of;
+use crate::envelope::Envelope;
 use crate::file_counts::FileCounts;
-use crate::lines::first_line;
+use crate::file_reader::FileReader;
 use crate::refusal::FileRefusal;
-use crate::role::{Role, role_at};
+use crate::role::Role;
 use cwr_field::Memory;
-use cwr_record::{RecordType, WorkKind, type_of};
+use cwr_record::{RecordType, WorkKind};
 
 /// Takes the transactions of a file line by line, as [`visit_file`] comes to them.
 ///
@@ -53,7 +52,8 @@ pub trait Visitor {
         ensures { OnOk result ((first : Self) (whole : List RawParts) (t : RawParts) → keeps first self.old whole (Some t) → keeps first self.new (whole ++ t ∷ []) None) };
 }
 
-/// Reads a file as [`parse_file`](crate::parse_file) does, and gives its transactions to a visitor on its way.
+/// Reads a file as [`parse_file`](crate::parse_file) does, and gives its transactions to a visitor on its way. One whose
+/// bytes come a piece at a time is read by a [`FileReader`].
 ///
 /// A well-formed file gives it all its transactions, in order, and answers the
 /// file's envelope. Of any other the first fault is answered: what the visitor was given by then is of no file. No
@@ -63,36 +63,13 @@ pub fn visit_file<V: Visitor>(bytes: &[u8], visitor: &mut V) -> Result<Envelope,
     ensures given { IfOk result (λ envelope. WasGiven (V.keeps visitor.old visitor.new) bytes.now envelope.header envelope.groups envelope.records) }
     ensures fault { IfErr result (IsRefusal (lines bytes.now)) }
 {
-    let mut counts = FileCounts::new();
-    let mut is_open = false;
-    let mut at = 0;
-    while let Some(line) = first_line(&bytes[at..]) {
-        let record_type = type_of(line.bytes);
-        let role = role_at(record_type, line.bytes);
-        if let Some(number) = fault_of(&counts, line.bytes, line.is_clean, &role) {
-            return Err(FileRefusal::Fault {
-                number,
-                line: counts.lines + 1,
-            });
-        }
-        is_open = give(visitor, is_open, line.bytes, record_type, &role, &counts)?;
-        counts.add(&role);
-        at += line.size;
-        if counts.is_ended {
-            let envelope = envelope_of(bytes, at, &counts)?;
-            return Ok(envelope);
-        }
-    }
-    Err(FileRefusal::Fault {
-        number: if counts.lines == 0 { 1 } else { 11 },
-        line: counts.lines + 1,
-    })
+    FileReader::new().finish(visitor, bytes)
 }
 
 /// Gives a line to a visitor: one that is no detail ends the open transaction, and a header opens the next one. Answers
 /// whether one is open then.
 #[inline(always)]
-fn give<V: Visitor>(
+pub(crate) fn give<V: Visitor>(
     visitor: &mut V,
     is_open: bool,
     line: &[u8],

@@ -1,20 +1,11 @@
-use Rattle.std.proofs.Common.{◌≡◌, ℕ, List, [], ◌∷◌, sym, ap, ◌∙◌, subst}
+use Rattle.std.proofs.Common.{ℕ, List, sym, ap, ◌∙◌, subst}
 use Rattle.cwr_field.proofs.lemmas.Printable.{printable-field}
 use Rattle.cwr_record.specs.Columns.{header_sender}
 use Rattle.cwr_record.specs.Control as table
 use Rattle.cwr_record.specs.Layout.{StandsFor}
-use Rattle.cwr_grammar.specs.File.{File, IsFile}
 use Rattle.cwr_grammar.specs.Roles.{role_of}
-use Rattle.cwr_grammar.proofs.HeaderLine.{header_readable}
+use Rattle.cwr_grammar.proofs.HeaderLine.{first_is, header_readable}
 use Rattle.cwr_grammar.proofs.envelope.file_header.Goals as goal
-
--- the first of lines
-abbrev head_of : List ℕ → List (List ℕ) → List ℕ
-head_of line [] = line
-head_of line (first ∷ more) = first
-
-first_is : (text more : List (List ℕ)) (line : List ℕ) (f : File) → text ≡ line ∷ more → IsFile text f → line ≡ f.header
-first_is text more line f split is = ap (head_of line) (sym split ∙ is.lines)
 
 pub returns-in-Ok-clause-header : goal.returns-in-Ok-clause-header
 returns-in-Ok-clause-header c = λ f is. subst (λ (line : List ℕ). StandsFor table.header line c.in-Ok.header) (first_is _ _ _ f c.in_ok-line.ensures.line is) c.in-Ok.ensures.ok

@@ -1,0 +1,231 @@
+-- A reader goes past one line more.
+use Rattle.std.proofs.Common.{◌≡◌, ◌∙◌, ℕ, suc, ◌+◌, ◌-◌, ◌≤◌, ◌<◌, ◌⊎◌, Bool, true, false, List, [], ◌∷◌, ◌++◌, length, map, take, drop, Option, Some, None, is_some, arith, refl, sym, ap, subst, append_assoc, length-append}
+use Rattle.std.specs.Str.Lines.{lines}
+use Rattle.std.proofs.lemmas.List.{length-map, length-drop, drop-drop, drop-append-le, take-append-drop}
+use Rattle.cwr_record.specs.Control as table
+use Rattle.cwr_record.specs.Layout.{StandsFor}
+use Rattle.cwr_record.specs.declared.control.Header.{Header}
+use Rattle.cwr_grammar.specs.declared.file_counts.FileCounts.{FileCounts}
+use Rattle.cwr_grammar.specs.declared.role.Role.{Role}
+use Rattle.cwr_grammar.specs.declared.role.Role.TheVariants.{FileHeader, GroupHeader, TransactionHeader, Detail, GroupTrailer, FileTrailer, Unnamed}
+use Rattle.cwr_grammar.specs.Before.{is_nil}
+use Rattle.cwr_grammar.specs.Counted.{counts_of}
+use Rattle.cwr_grammar.specs.FaultTests.{is_tail}
+use Rattle.cwr_grammar.specs.Faults.{IsLeastFault}
+use Rattle.cwr_grammar.specs.FirstFault.{first_fault, line_fault, role_fault, tail_fault, with_eleven}
+use Rattle.cwr_grammar.specs.RawParts.{RawParts}
+use Rattle.cwr_grammar.specs.ReadUpTo.{ReaderState, IsReadUpTo, IsNextLine, IsHeadOf, HeadAfter, GoesOnAt, EndedBefore, StandsAt}
+use Rattle.cwr_grammar.specs.Roles.{role_of}
+use Rattle.cwr_grammar.specs.Visiting.{WasGiven, leaves_open, whole_after, open_after}
+use Rattle.cwr_grammar.proofs.Accepted.{file_head_is}
+use Rattle.cwr_grammar.proofs.FileBounds.{file_bounds}
+use Rattle.cwr_grammar.proofs.FileLaw.{accepted_file}
+use Rattle.cwr_grammar.proofs.HeaderLine.{first_is}
+use Rattle.cwr_grammar.proofs.Least.{first_is_least}
+use Rattle.cwr_grammar.proofs.Numbers.{clear_role}
+use Rattle.cwr_grammar.proofs.OneLineFurther.{OneLine, end_faulty}
+use Rattle.cwr_grammar.proofs.Visits.{visiting_goes, visiting_ends, visiting_kept}
+
+-- ---- the header
+
+-- a header without a fault is the first line, and is valid
+pub valid_header : (before : List Role) → role_fault before (FileHeader false) ≡ None → ⊥
+valid_header [] clear = absurd cc
+valid_header (b ∷ before) clear = let first = file_head_is (b ∷ before) false clear in absurd cc
+
+headed_first : (head next : Option Header) (line text : List ℕ) (at n : ℕ) (header : Header) → next ≡ Some header → StandsFor table.header line header → at ≡ 0
+    → lines (drop at text) ≡ line ∷ lines (drop (at + n) text) → IsHeadOf next text
+headed_first head next line text at n header is stands none split =
+    let whole : lines text ≡ line ∷ lines (drop (at + n) text) = ap (λ (k : ℕ). lines (drop k text)) (sym none) ∙ split in
+    record { header = header; header_is = is; stands = λ f file. subst (λ (l : List ℕ). StandsFor table.header l header) (first_is (lines text) _ line f whole file) stands }
+
+headed_on : (head next : Option Header) (text : List ℕ) → next ≡ head → IsHeadOf head text → IsHeadOf next text
+headed_on head next text is h = record { header = h.header; header_is = is ∙ h.header_is; stands = h.stands }
+
+no_lines : (before : List Role) → is_nil before ≡ true → length before ≡ 0
+no_lines [] e = refl
+no_lines (b ∷ before) e = absurd cc
+
+pub headed_after : (role : Role) (before : List Role) (head next : Option Header) (line text : List ℕ) (at n : ℕ) → role_fault before role ≡ None → HeadAfter head role line next
+    → (length before ≡ 0 → at ≡ 0) → (0 < length before → IsHeadOf head text) → lines (drop at text) ≡ line ∷ lines (drop (at + n) text) → IsHeadOf next text
+headed_after (FileHeader valid) before head next line text at n clear kept first headed split =
+    headed_first head next line text at n kept.0 kept.1 kept.2 (first (no_lines before (file_head_is before valid clear))) split
+headed_after (GroupHeader k i) [] head next line text at n clear kept first headed split = absurd cc
+headed_after (TransactionHeader k j d) [] head next line text at n clear kept first headed split = absurd cc
+headed_after (Detail j d) [] head next line text at n clear kept first headed split = absurd cc
+headed_after (GroupTrailer i t r) [] head next line text at n clear kept first headed split = absurd cc
+headed_after (FileTrailer g t r) [] head next line text at n clear kept first headed split = absurd cc
+headed_after Unnamed [] head next line text at n clear kept first headed split = absurd cc
+headed_after (GroupHeader k i) (b ∷ before) head next line text at n clear kept first headed split = headed_on head next text kept (headed (omega arith))
+headed_after (TransactionHeader k j d) (b ∷ before) head next line text at n clear kept first headed split = headed_on head next text kept (headed (omega arith))
+headed_after (Detail j d) (b ∷ before) head next line text at n clear kept first headed split = headed_on head next text kept (headed (omega arith))
+headed_after (GroupTrailer i t r) (b ∷ before) head next line text at n clear kept first headed split = headed_on head next text kept (headed (omega arith))
+headed_after (FileTrailer g t r) (b ∷ before) head next line text at n clear kept first headed split = headed_on head next text kept (headed (omega arith))
+headed_after Unnamed (b ∷ before) head next line text at n clear kept first headed split = headed_on head next text kept (headed (omega arith))
+
+-- ---- a line before the file's end
+
+pub one_next : (text : List ℕ) (before : List (List ℕ)) (at n : ℕ) (line : List ℕ) (role : Role) (next : FileCounts) → IsNextLine line text at n → role ≡ role_of line
+    → None ≡ line_fault before line → next ≡ counts_of (role ∷ map role_of before) → OneLine text before at n line role next
+one_next text before at n line role next here read clear counted =
+    record { split = here.split; some = here.some; fits = (let inside = here.inside in omega (arith, inside)); read = read; clear = clear; counted = counted }
+
+module _ (K L : List RawParts → Option RawParts → Type 0) (s : ReaderState) (text : List ℕ) (at n : ℕ) (line : List ℕ) (role : Role) (next : FileCounts) (is_next : Bool) (head : Option Header)
+    (read : IsReadUpTo K s text at) (g : GoesOnAt K s text at) (one : OneLine text g.before at n line role next) (opens : is_next ≡ leaves_open role)
+    (gives : (whole : List RawParts) (current : Option RawParts) → is_some current ≡ s.is_open → K whole current → L (whole_after role whole current) (open_after role line s.counts.groups s.counts.transactions current))
+    (kept : HeadAfter s.header role line head) where
+  abbrev after : ReaderState
+  after = record { counts = next; is_open = is_next; header = head; tail = s.tail }
+
+  lines_after : next.lines ≡ suc (length g.before)
+  lines_after = ap (λ (x : FileCounts). x.lines) one.counted ∙ ap suc (length-map g.before role_of)
+
+  ended_after : next.is_ended ≡ true → EndedBefore L after text (at + n)
+  ended_after e =
+      let last = visiting_ends K text s.counts next at n g.before s.is_open g.whole g.current line role g.visiting one e in
+      let no_tail = g.no_tail in
+      let few = last.ended.few in
+      let more = lines_after in
+      record {
+        whole = whole_after role g.whole g.current;
+        kept = visiting_kept K L text s.counts next at n g.before s.is_open g.whole g.current line role g.visiting one e gives;
+        parts = last.parts;
+        inside = last.ended.inside;
+        some = omega (arith, more);
+        few = omega (arith, few, no_tail);
+        few_groups = last.ended.few_groups;
+        few_records = last.ended.few_records;
+        fault = last.ended.fault ∙ ap (λ (k : ℕ). with_eleven (tail_fault k (lines (drop (at + n) text)))) (omega (arith, no_tail));
+      }
+
+  pub line_taken : IsReadUpTo L (record { counts = next; is_open = is_next; header = head; tail = s.tail }) text (at + n)
+  line_taken =
+      let counted = ap (λ (x : FileCounts). x.lines) g.visiting.going.counted in
+      let clear = ap (role_fault (map role_of g.before)) one.read ∙ clear_role g.before line g.visiting.going.goes one.clear in
+      record {
+        goes = λ e. record {
+          before = line ∷ g.before;
+          whole = whole_after role g.whole g.current;
+          current = open_after role line s.counts.groups s.counts.transactions g.current;
+          visiting = visiting_goes K L text s.counts next at n g.before s.is_open is_next g.whole g.current line role g.visiting one e opens gives;
+          no_tail = g.no_tail;
+        };
+        ended = ended_after;
+        first = λ none. absurd (let more = lines_after in omega (arith, none, more));
+        headed = λ _. headed_after role (map role_of g.before) s.header head line text at n clear kept (λ none. read.first (omega (arith, counted, none)))
+            (λ some. read.headed (omega (arith, counted, some))) one.split;
+      }
+
+-- ---- a line behind the file's end
+
+tail_goes : (line : List ℕ) (rest : List (List ℕ)) (k : ℕ) → is_tail line ≡ true → tail_fault k (line ∷ rest) ≡ tail_fault (k + 1) rest
+tail_goes line rest k e = rw e refl
+
+tail_stops : (line : List ℕ) (rest : List (List ℕ)) (k : ℕ) → is_tail line ≡ false → tail_fault k (line ∷ rest) ≡ Some k
+tail_stops line rest k e = rw e refl
+
+pub tail_taken : (K L : List RawParts → Option RawParts → Type 0) (s : ReaderState) (text : List ℕ) (at n : ℕ) (line : List ℕ) → IsReadUpTo K s text at → s.counts.is_ended ≡ true → IsNextLine line text at n
+    → is_tail line ≡ true → ((whole : List RawParts) → K whole None → L whole None) → IsReadUpTo L (record s { tail = s.tail + 1 }) text (at + n)
+tail_taken K L s text at n line read e here is same =
+    let x = read.ended e in
+    let few = x.few in
+    let some = here.some in
+    record {
+      goes = λ not_yet. absurd (let both : true ≡ false = sym e ∙ not_yet in cc);
+      ended = λ _. record {
+        whole = x.whole;
+        kept = same x.whole x.kept;
+        parts = x.parts;
+        inside = here.inside;
+        some = x.some;
+        few = omega (arith, few, some);
+        few_groups = x.few_groups;
+        few_records = x.few_records;
+        fault =
+            x.fault ∙ ap (λ (ls : List (List ℕ)). with_eleven (tail_fault (s.counts.lines + s.tail + 1) ls)) here.split
+            ∙ ap with_eleven (tail_goes line (lines (drop (at + n) text)) (s.counts.lines + s.tail + 1) is)
+            ∙ ap (λ (k : ℕ). with_eleven (tail_fault k (lines (drop (at + n) text)))) (omega arith);
+      };
+      first = λ none. absurd (let some = x.some in omega (arith, none, some));
+      headed = read.headed;
+    }
+
+pub tail_faulty : (K : List RawParts → Option RawParts → Type 0) (s : ReaderState) (text : List ℕ) (at n : ℕ) (line : List ℕ) → IsReadUpTo K s text at → s.counts.is_ended ≡ true → IsNextLine line text at n
+    → is_tail line ≡ false → IsLeastFault (lines text) (s.counts.lines + s.tail + 1) 11
+tail_faulty K s text at n line read e here is =
+    first_is_least (lines text) (s.counts.lines + s.tail + 1) 11 (
+    (read.ended e).fault ∙ ap (λ (ls : List (List ℕ)). with_eleven (tail_fault (s.counts.lines + s.tail + 1) ls)) here.split
+    ∙ ap with_eleven (tail_stops line (lines (drop (at + n) text)) (s.counts.lines + s.tail + 1) is)
+    )
+
+-- ---- the next line, as a slice's reader tells it
+
+len_at : (text rest : List ℕ) (at : ℕ) → drop at text ≡ rest → length rest ≡ length text - at
+len_at text rest at is = sym (ap (λ (xs : List ℕ). length xs) is) ∙ length-drop at text
+
+-- a line of bytes that the text goes on with
+pub next_whole : (bytes text rest line : List ℕ) (at i n : ℕ) → StandsAt bytes text at → i ≤ length bytes → rest ≡ drop i bytes → 0 < n → n ≤ length rest
+    → ((more : List ℕ) → lines (take n rest ++ more) ≡ line ∷ lines more) → IsNextLine line text (at + i) n
+next_whole bytes text rest line at i n here inside rest_is some fits whole =
+    let left : drop (at + i) text ≡ rest ++ here.after =
+    sym (drop-drop i at text) ∙ ap (drop i) here.here ∙ drop-append-le i bytes here.after inside ∙ ap (λ (xs : List ℕ). xs ++ here.after) (sym rest_is) in
+    let next : drop (at + i + n) text ≡ drop n rest ++ here.after =
+    sym (drop-drop n (at + i) text) ∙ ap (drop n) left ∙ drop-append-le n rest here.after fits in
+    let cut : rest ++ here.after ≡ take n rest ++ (drop n rest ++ here.after) =
+    ap (λ (xs : List ℕ). xs ++ here.after) (sym (take-append-drop n rest)) ∙ append_assoc (take n rest) (drop n rest) here.after in
+    let size = len_at text (rest ++ here.after) (at + i) left in
+    let sum = length-append rest here.after in
+    record {
+      split = ap lines (left ∙ cut) ∙ whole (drop n rest ++ here.after) ∙ ap (λ (xs : List ℕ). line ∷ lines xs) (sym next);
+      some = some;
+      inside = omega (arith, size, sum, fits, some);
+    }
+
+-- a line of the last bytes of the text
+pub next_last : (last text rest line : List ℕ) (at i n : ℕ) → drop at text ≡ last → rest ≡ drop i last → 0 < n → n ≤ length rest
+    → lines rest ≡ line ∷ lines (drop n rest) → IsNextLine line text (at + i) n
+next_last last text rest line at i n here rest_is some fits split =
+    let left : drop (at + i) text ≡ rest = sym (drop-drop i at text) ∙ ap (drop i) here ∙ sym rest_is in
+    let size = len_at text rest (at + i) left in
+    record {
+      split = ap lines left ∙ split ∙ ap (λ (xs : List ℕ). line ∷ lines xs) (ap (drop n) (sym left) ∙ drop-drop n (at + i) text);
+      some = some;
+      inside = omega (arith, size, fits, some);
+    }
+
+-- ---- the end
+
+-- no TRL was read
+pub none_ended : (K : List RawParts → Option RawParts → Type 0) (s : ReaderState) (text : List ℕ) (at number : ℕ) → IsReadUpTo K s text at → s.counts.is_ended ≡ false → drop at text ≡ []
+    → ((s.counts.lines ≡ 0) × (number ≡ 1)) ⊎ ((0 < s.counts.lines) × (number ≡ 11)) → IsLeastFault (lines text) (s.counts.lines + 1) number
+none_ended K s text at number read goes end which =
+    let g = read.goes goes in
+    end_faulty text s.counts at g.before (drop at text) number g.visiting.going refl end which
+
+pub given : (K : List RawParts → Option RawParts → Type 0) (s : ReaderState) (text : List ℕ) (at : ℕ) (head : Header) → IsReadUpTo K s text at → s.counts.is_ended ≡ true → drop at text ≡ []
+    → s.header ≡ Some head → WasGiven K text head s.counts.groups s.counts.lines
+given K s text at head read ended end head_is =
+    let x = read.ended ended in
+    let some = x.some in
+    let none : first_fault (lines text) ≡ None = x.fault ∙ ap (λ (xs : List ℕ). with_eleven (tail_fault (s.counts.lines + s.tail + 1) (lines xs))) end in
+    let file = accepted_file (lines text) none in
+    let headed = read.headed (omega (arith, some)) in
+    let same : headed.header ≡ head = (let both : Some headed.header ≡ Some head = sym headed.header_is ∙ head_is in cc) in
+    let stands = subst (λ (h : Header). StandsFor table.header file.0.header h) same (headed.stands file.0 file.1) in
+    let parts = x.parts file.0 file.1 in
+    record {
+      file = file.0;
+      transactions = x.whole;
+      formed = file.1;
+      kept = x.kept;
+      submission = record { header = stands; transactions = parts.transactions; groups = parts.groups; records = parts.records };
+      bounds = file_bounds text file.0 head x.whole file.1 stands parts.transactions;
+    }
+
+-- after the file's end the header is known
+pub some_header : (K : List RawParts → Option RawParts → Type 0) (s : ReaderState) (text : List ℕ) (at : ℕ) → IsReadUpTo K s text at → s.counts.is_ended ≡ true → s.header ≡ None → ⊥
+some_header K s text at read ended none =
+    let some = (read.ended ended).some in
+    let headed = read.headed (omega (arith, some)) in
+    let both : Some headed.header ≡ None = sym headed.header_is ∙ none in
+    absurd cc

@@ -1,0 +1,193 @@
+ghost use Rattle.std.specs.Prelude.{◌≡◌, ◌+◌, ◌≤◌, ◌<◌, ◌==◌, ◌^◌, ℕ, List, None, true, false, drop, length, IfOk, IfErr, OnOk};
+ghost use Rattle.std.specs.List.{position};
+ghost use Rattle.std.specs.Str.Lines.{lines};
+ghost use Rattle.cwr_grammar.specs.FaultTests.{has_control, is_tail};
+ghost use Rattle.cwr_grammar.specs.ReadUpTo.{IsNextLine, IsReadUpTo, StandsAt, HeadAfter, at_start};
+ghost use Rattle.cwr_grammar.specs.Roles.{role_of};
+ghost use Rattle.cwr_grammar.specs.Submitted.{IsRefusal};
+ghost use Rattle.cwr_grammar.specs.Visiting.{WasGiven};
+ghost use Rattle.cwr_grammar.specs.declared.refusal.FileRefusal.TheVariants.{Fault};
+ghost use Rattle.cwr_grammar.specs.declared.role.Role.TheVariants.{FileHeader};
+
+use crate::envelope::Envelope;
+use crate::fault::{fault_of, is_tail};
+use crate::file_counts::FileCounts;
+use crate::lines::first_line;
+use crate::refusal::FileRefusal;
+use crate::role::{Role, role_at};
+use crate::visitor::{Visitor, give};
+use cwr_record::{Header, read_header, type_of};
+use std::marker::Model;
+
+/// Reads a file whose bytes come a piece at a time, and gives its transactions to a visitor on its way.
+///
+/// It keeps no byte of the file but its header. A file that comes as one piece is read by
+/// [`visit_file`](crate::visit_file). After an error it tells nothing any more.
+#[derive(Drop)]
+pub struct FileReader {
+    counts: FileCounts,
+    /// A transaction is open.
+    is_open: bool,
+    /// The file's head, once its line was read.
+    header: Option<Header>,
+    /// How many lines follow the file's end.
+    tail: u64,
+}
+
+impl Model for FileReader {
+    ghost use Rattle.cwr_grammar.specs.ReadUpTo.{ReaderState};
+
+    ghost Value = { ReaderState };
+
+    ghost view = { λ r. record { counts = r.counts; is_open = r.is_open; header = r.header; tail = r.tail } };
+}
+
+impl FileReader {
+    /// Before the first line.
+    pub fn new() -> FileReader
+        ensures { result ≡ at_start }
+    {
+        FileReader {
+            counts: FileCounts::new(),
+            is_open: false,
+            header: None,
+            tail: 0,
+        }
+    }
+
+    /// Goes past the lines that some bytes begin with, up to the last LF, and answers how many bytes these are. What is
+    /// behind them is part of a line: it is to come again, at the front of the next bytes.
+    ///
+    /// A fault is the file's first, whatever follows. No memory is asked for but by the visitor.
+    pub fn take_lines<V: Visitor>(
+        &mut self,
+        visitor: &mut V,
+        bytes: &[u8],
+    ) -> Result<usize, FileRefusal>
+        requires { (first : V) × (text : List ℕ) × (at : ℕ) × IsReadUpTo (V.keeps first visitor.old) self.old text at × StandsAt bytes.now text at × (at + length bytes.now < 2 ^ 63) }
+        ensures inside { IfOk result (λ n. n ≤ length bytes.now) }
+        ensures all { IfOk result (λ n. position (λ b. b == 10) (drop n bytes.now) ≡ None) }
+        ensures taken { IfOk result (λ n. (first : V) (text : List ℕ) (at : ℕ) → StandsAt bytes.now text at → IsReadUpTo (V.keeps first visitor.old) self.old text at → IsReadUpTo (V.keeps first visitor.new) self.new text (at + n)) }
+        ensures fault { IfErr result (λ refusal. (first : V) (text : List ℕ) (at : ℕ) → StandsAt bytes.now text at → IsReadUpTo (V.keeps first visitor.old) self.old text at → IsRefusal (lines text) refusal) }
+    {
+        let mut at = 0;
+        while let Some(line) = first_line(&bytes[at..]) {
+            if !line.is_whole {
+                return Ok(at);
+            }
+            self.take_line(visitor, line.bytes, line.is_clean)?;
+            at += line.size;
+        }
+        Ok(at)
+    }
+
+    /// Goes past the last bytes of the file, and answers its envelope.
+    ///
+    /// A well-formed file has given the visitor all its transactions, in order. Of any other the first fault is
+    /// answered: what the visitor was given by then is of no file. No memory is asked for but by the visitor.
+    pub fn finish<V: Visitor>(
+        mut self,
+        visitor: &mut V,
+        last: &[u8],
+    ) -> Result<Envelope, FileRefusal>
+        requires { (first : V) × (text : List ℕ) × (at : ℕ) × IsReadUpTo (V.keeps first visitor.old) self text at × (drop at text ≡ last.now) × (at + length last.now < 2 ^ 63) }
+        ensures given { IfOk result (λ envelope. (first : V) (text : List ℕ) (at : ℕ) → drop at text ≡ last.now → IsReadUpTo (V.keeps first visitor.old) self text at
+            → WasGiven (V.keeps first visitor.new) text envelope.header envelope.groups envelope.records) }
+        ensures fault { IfErr result (λ refusal. (first : V) (text : List ℕ) (at : ℕ) → drop at text ≡ last.now → IsReadUpTo (V.keeps first visitor.old) self text at → IsRefusal (lines text) refusal) }
+    {
+        let mut at = 0;
+        while let Some(line) = first_line(&last[at..]) {
+            self.take_line(visitor, line.bytes, line.is_clean)?;
+            at += line.size;
+        }
+        let FileReader {
+            counts,
+            is_open: _,
+            header,
+            tail: _,
+        } = self;
+        if !counts.is_ended {
+            return Err(FileRefusal::Fault {
+                number: if counts.lines == 0 { 1 } else { 11 },
+                line: counts.lines + 1,
+            });
+        }
+        let Some(header) = header else { unreachable!() };
+        Ok(Envelope {
+            header,
+            groups: counts.groups as u32,
+            records: counts.lines as u32,
+        })
+    }
+
+    /// Goes past the next line.
+    #[inline(always)]
+    fn take_line<V: Visitor>(
+        &mut self,
+        visitor: &mut V,
+        line: &[u8],
+        is_clean: bool,
+    ) -> Result<(), FileRefusal>
+        requires clean { is_clean ≡ true → has_control line.now ≡ false }
+        requires next { (first : V) × (text : List ℕ) × (at : ℕ) × (n : ℕ) × IsReadUpTo (V.keeps first visitor.old) self.old text at × IsNextLine line.now text at n × (at + n < 2 ^ 63) }
+        ensures taken { OnOk result ((first : V) (text : List ℕ) (at n : ℕ) → IsNextLine line.now text at n → IsReadUpTo (V.keeps first visitor.old) self.old text at → IsReadUpTo (V.keeps first visitor.new) self.new text (at + n)) }
+        ensures fault { IfErr result (λ refusal. (first : V) (text : List ℕ) (at n : ℕ) → IsNextLine line.now text at n → IsReadUpTo (V.keeps first visitor.old) self.old text at → IsRefusal (lines text) refusal) }
+    {
+        if self.counts.is_ended {
+            self.take_tail(line)?;
+            return Ok(());
+        }
+        let record_type = type_of(line);
+        let role = role_at(record_type, line);
+        if let Some(number) = fault_of(&self.counts, line, is_clean, &role) {
+            return Err(FileRefusal::Fault {
+                number,
+                line: self.counts.lines + 1,
+            });
+        }
+        self.is_open = give(
+            visitor,
+            self.is_open,
+            line,
+            record_type,
+            &role,
+            &self.counts,
+        )?;
+        self.header = head_after(self.header, &role, line);
+        self.counts.add(&role);
+        Ok(())
+    }
+
+    /// Goes past a line that follows the file's end.
+    fn take_tail(&mut self, line: &[u8]) -> Result<(), FileRefusal>
+        requires few { self.old.counts.lines + self.old.tail < 2 ^ 63 }
+        ensures taken { OnOk result (is_tail line.now ≡ true) }
+        ensures new { OnOk result (self.new ≡ record self.old { tail = self.old.tail + 1 }) }
+        ensures faulty { IfErr result (λ refusal. (is_tail line.now ≡ false) × (refusal ≡ Fault 11 (self.old.counts.lines + self.old.tail + 1))) }
+    {
+        if !is_tail(line) {
+            return Err(FileRefusal::Fault {
+                number: 11,
+                line: self.counts.lines + self.tail + 1,
+            });
+        }
+        self.tail += 1;
+        Ok(())
+    }
+}
+
+/// The header that is kept after a line.
+#[inline(always)]
+fn head_after(head: Option<Header>, role: &Role, line: &[u8]) -> Option<Header>
+    requires read { role.now ≡ role_of line.now }
+    requires valid { role.now ≡ FileHeader false → ⊥ }
+    ensures { HeadAfter head role.now line.now result }
+{
+    let Role::FileHeader(_) = *role else {
+        return head;
+    };
+    let Ok(header) = read_header(line) else {
+        unreachable!()
+    };
+    Some(header)
+}
