@@ -74,7 +74,7 @@ pub(crate) fn first_line(text: &[u8]) -> Option<FirstLine<'_>>
     // Its bytes are the whole text, or are a line with its end before any other bytes too.
     ensures whole { IfSome result (λ x. (length text.now ≤ x.size) ⊎ ((more : List ℕ) → lines (take x.size text.now ++ more) ≡ x.bytes.now ∷ lines more)) }
     ensures ended { IfSome result (λ x. x.is_whole ≡ true → (more : List ℕ) → lines (take x.size text.now ++ more) ≡ x.bytes.now ∷ lines more) }
-    ensures open { IfSome result (λ x. x.is_whole ≡ false → position (λ b. b == 10) text.now ≡ None) }
+    ensures unended { IfSome result (λ x. x.is_whole ≡ false → position (λ b. b == 10) text.now ≡ None) }
 {
     if text.is_empty() {
         return None;
