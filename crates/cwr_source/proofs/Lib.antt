@@ -1,0 +1,4 @@
+pub mod lemmas
+pub mod Windows
+pub mod Stops
+pub mod Visited
