@@ -19,14 +19,14 @@ use Rattle.work_registry.specs.EntryValue.{EntryValue}
 use Rattle.work_registry.specs.Replay.{calls_of}
 use Rattle.work_registry.specs.Told.{status_in}
 use Rattle.cwr_engine.specs.Account.{most, Ends, Account, IsRead, IsMadeOf, IsMadeOfAll, Gives}
-use Rattle.cwr_engine.specs.Causes.{cause_of, IsCause}
+use Rattle.cwr_source.specs.declared.refused.SourceRefused.{SourceRefused}
+use Rattle.cwr_source.specs.declared.refused.SourceRefused.TheVariants as unjudged
+use Rattle.cwr_engine.specs.Causes.{IsCause, outcome_of}
 use Rattle.cwr_engine.specs.Handing.{Entries, AreAnswered, IsWorked}
 use Rattle.cwr_engine.specs.Items.{item_of, items_of, calls_in}
-use Rattle.cwr_engine.specs.Judged.{JudgedValue, judged_of, AreJudged, WasJudged}
-use Rattle.byte_streams.specs.declared.reading.ReadRefused.{ReadRefused}
-use Rattle.byte_streams.specs.declared.reading.ReadRefused.TheVariants as unread
+use Rattle.cwr_engine.specs.Judged.{JudgedValue, judged_of, AreJudged, IsUnjudged, WasJudged}
 use Rattle.cwr_engine.specs.declared.outcome.FileOutcome.{FileOutcome}
-use Rattle.cwr_engine.specs.declared.outcome.FileOutcome.TheVariants.{Acked, Stopped}
+use Rattle.cwr_engine.specs.declared.outcome.FileOutcome.TheVariants.{Acked, Refused, Stopped}
 use Rattle.cwr_engine.specs.declared.outcome.Why.{Why}
 use Rattle.cwr_engine.specs.declared.outcome.Why.TheVariants.{Memory, Full, Read, TooLong, Gate, Write}
 use Rattle.cwr_engine.proofs.Answering.{gained_none}
@@ -144,18 +144,16 @@ module _ (session : ℕ) (ends : Ends) (stamp : StampParts) (before : Entries) (
     account = record { input = input; written = []; given = given; read_on = read_on; few_reads = few_reads; appended = unwritten; account = account };
   }
 
-  -- its file was not read
-  pub not_read : (why : ReadRefused) → (why ≡ unread.TooLong → IfSome ends.left_before (λ bytes. most < length bytes)) → (why ≡ unread.Read → ends.read_failed ≡ true)
-      → IsWorked session ends stamp (Stopped 0 (cause_of why)) before before
-  not_read unread.Memory long failed =
-      let i = some_input ends.left_before in nothing_made (Stopped 0 Memory) i.0 i.1 (refl, (refl, λ h. absurd (omega arith)))
-  not_read unread.Read long failed = let i = some_input ends.left_before in nothing_made (Stopped 0 (cause_of unread.Read)) i.0 i.1 (refl, (refl, refl, failed refl))
-  not_read unread.TooLong long failed =
-      let i = long_input ends.left_before most (long refl) in nothing_made (Stopped 0 (cause_of unread.TooLong)) i.0 i.1 (refl, (refl, refl, i.2))
-
   -- there was no memory before the first transaction
   pub not_begun : IsWorked session ends stamp (Stopped 0 Memory) before before
   not_begun = let i = some_input ends.left_before in nothing_made (Stopped 0 Memory) i.0 i.1 (refl, (refl, λ h. absurd (omega arith)))
+
+  -- its file was not judged
+  pub not_judged : (why : SourceRefused) → IsUnjudged most ends.left_before ends.read_failed why → IsWorked session ends stamp (outcome_of why) before before
+  not_judged unjudged.Memory h = not_begun
+  not_judged unjudged.Read h = let i = some_input ends.left_before in nothing_made (Stopped 0 Read) i.0 i.1 (refl, (refl, refl, h))
+  not_judged unjudged.TooLong h = let i = long_input ends.left_before most h in nothing_made (Stopped 0 TooLong) i.0 i.1 (refl, (refl, refl, i.2))
+  not_judged (unjudged.Fault number line) h = nothing_made (Refused number line) h.0 (given_whole ends.left_before h.0 h.1.1) (record { fits = h.1.0; first = h.2 }, refl, refl)
 
 -- ---- a job that handed transactions of a file in
 

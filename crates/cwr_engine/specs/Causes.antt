@@ -2,18 +2,19 @@
 use Rattle.std.specs.Prelude.{◌≡◌, Bool, true, false, Option, Some, None}
 use Rattle.work_registry.specs.declared.refused.WhyRefused.{WhyRefused}
 use Rattle.work_registry.specs.declared.refused.WhyRefused.TheVariants as refused
-use Rattle.byte_streams.specs.declared.reading.ReadRefused.{ReadRefused}
-use Rattle.byte_streams.specs.declared.reading.ReadRefused.TheVariants as unread
+use Rattle.cwr_source.specs.declared.refused.SourceRefused.{SourceRefused}
+use Rattle.cwr_source.specs.declared.refused.SourceRefused.TheVariants as unjudged
 use Rattle.cwr_engine.specs.declared.outcome.FileOutcome.{FileOutcome}
 use Rattle.cwr_engine.specs.declared.outcome.FileOutcome.TheVariants.{Acked, Refused, Stopped}
 use Rattle.cwr_engine.specs.declared.outcome.Why.{Why}
 use Rattle.cwr_engine.specs.declared.outcome.Why.TheVariants.{Memory, Full, Read, TooLong, Gate, Write}
 
--- why a job stops whose file was not read
-abbrev pub cause_of : ReadRefused → Why
-cause_of unread.Memory = Memory
-cause_of unread.Read = Read
-cause_of unread.TooLong = TooLong
+-- how a job ends whose file was not judged
+abbrev pub outcome_of : SourceRefused → FileOutcome
+outcome_of unjudged.Memory = Stopped 0 Memory
+outcome_of unjudged.Read = Stopped 0 Read
+outcome_of unjudged.TooLong = Stopped 0 TooLong
+outcome_of (unjudged.Fault number line) = Refused number line
 
 -- why a job stops whose call was refused
 abbrev pub refusal_of : WhyRefused → Why

@@ -5,20 +5,20 @@ ghost use Rattle.byte_streams.specs.GivenBytes.{HasGiven};
 ghost use Rattle.cwr_acknowledgement.specs.Acknowledgement.{FitsItem};
 ghost use Rattle.cwr_grammar.specs.RawParts.{RawParts, IsPlaced};
 ghost use Rattle.cwr_engine.specs.Account.{most, Ends, IsRead, ends_of, read_ends, write_ends};
-ghost use Rattle.cwr_engine.specs.Causes.{cause_of, ends_full, is_for_full, marked_by, IsCause};
+ghost use Rattle.cwr_engine.specs.Causes.{ends_full, is_for_full, marked_by, outcome_of, IsCause};
 ghost use Rattle.cwr_engine.specs.Handing.{AreAnswered, IsWorked, most_handed};
 ghost use Rattle.cwr_engine.specs.Judged.{AreJudged, judged_of};
 
 use crate::decision::{InHand, decide};
 use crate::gates::Gate;
-use crate::judged::{Judged, JudgedFile, judge_file};
-use crate::limits::MOST_BYTES;
+use crate::judged::{Judged, JudgedFile, judge_source};
+use crate::limits::{MOST_BYTES, WINDOW};
 use crate::outcome::{FileOutcome, Why};
 use crate::window::Window;
-use byte_streams::{ReadRefused, Sink, Source, read_file, write_out};
+use byte_streams::{Sink, Source, write_out};
 use cwr_acknowledgement::{AckItem, ack_file};
-use cwr_grammar::FileRefusal;
 use cwr_record::Stamp;
+use cwr_source::SourceRefused;
 use std::alloc::Allocator;
 use work_registry::Call;
 
@@ -143,18 +143,9 @@ pub fn work_file<H: Window<Call<A>>, G: Gate, R: Source, W: Sink, A: Allocator +
     ensures worked { IsWorked (H.session window) (ends_of (read_ends R.Source reader.old reader.new) (write_ends W.Sink writer.old writer.new)
         (H.full result.0) (G.may_shut gate.now)) stamp.now result.1 (H.entries window) (H.entries result.0) }
 {
-    let text = match read_file(alloc, reader, MOST_BYTES) {
-        Ok(text) => text,
-        Err(unread) => return (window, stopped(0, cause(unread))),
-    };
-    let judged = judge_file(alloc, &text);
-    drop(text);
-    match judged {
+    match judge_source(alloc, reader, MOST_BYTES, WINDOW) {
         Ok(file) => work_judged(alloc, window, gate, worker, file, writer, stamp),
-        Err(FileRefusal::Fault { number, line }) => {
-            (window, FileOutcome::Refused { number, line })
-        }
-        Err(FileRefusal::Memory) => (window, stopped(0, Why::Memory)),
+        Err(refused) => (window, unjudged(refused)),
     }
 }
 
@@ -170,13 +161,14 @@ fn stopped(handed: u32, why: Why) -> FileOutcome
     FileOutcome::Stopped { handed, why }
 }
 
-/// Why a job stops whose file was not read.
-fn cause(unread: ReadRefused) -> Why
-    ensures { result ≡ cause_of unread }
+/// How a job ends whose file was not judged.
+fn unjudged(refused: SourceRefused) -> FileOutcome
+    ensures { result ≡ outcome_of refused }
 {
-    match unread {
-        ReadRefused::Memory => Why::Memory,
-        ReadRefused::Read => Why::Read,
-        ReadRefused::TooLong => Why::TooLong,
+    match refused {
+        SourceRefused::Memory => stopped(0, Why::Memory),
+        SourceRefused::Read => stopped(0, Why::Read),
+        SourceRefused::TooLong => stopped(0, Why::TooLong),
+        SourceRefused::Fault { number, line } => FileOutcome::Refused { number, line },
     }
 }

@@ -1,13 +1,17 @@
-ghost use Rattle.std.specs.Prelude.{IfOk, IfErr};
+ghost use Rattle.std.specs.Prelude.{◌≡◌, ◌+◌, ◌≤◌, ◌<◌, ℕ, List, false, IfOk, IfErr, IfSome, IsTrue};
 ghost use Rattle.std.specs.Str.Lines.{lines};
 ghost use Rattle.cwr_grammar.specs.File.{File, IsFile};
 ghost use Rattle.cwr_grammar.specs.Submitted.{IsRefusal};
-ghost use Rattle.cwr_engine.specs.Judged.{WasJudged};
+ghost use Rattle.byte_streams.specs.GivenBytes.{HasGiven};
+ghost use Rattle.cwr_call.specs.Lawful.{is_clean};
+ghost use Rattle.cwr_engine.specs.Judged.{IsInput, IsUnjudged, WasJudged};
 
 use crate::judged_so_far::JudgedSoFar;
+use byte_streams::Source;
 use cwr_call::Call;
 use cwr_grammar::{FileRefusal, file_header, parse_file, visit_file};
 use cwr_record::Header;
+use cwr_source::{SourceFile, SourceRefused};
 use std::alloc::{Allocator, Global};
 use std::marker::Model;
 
@@ -69,5 +73,46 @@ fn refusal_of<A: Allocator>(alloc: A, bytes: &[u8]) -> FileRefusal
     match parse_file(alloc, bytes) {
         Ok(_) => unreachable!(),
         Err(refusal) => refusal,
+    }
+}
+
+/// Judges the file of a source as [`judge_file`] does, and holds no more of it than a window of `room` bytes, which grows
+/// only for a longer line.
+///
+/// At most `limit` bytes are taken, in at most two reads more than that; a reader that tells its bytes gave the first of
+/// them and holds the others. A fault is answered once the file was read to its end.
+pub fn judge_source<R: Source, A: Allocator + Copy>(
+    alloc: A,
+    reader: &mut R,
+    limit: usize,
+    room: usize,
+) -> Result<JudgedFile<A>, SourceRefused>
+    requires going { R.has_failed reader.old ≡ false }
+    requires limit { limit < 4611686018427387904 }
+    ensures judged { IfOk result (λ file. (input : List ℕ) × IsInput limit (R.left reader.old) input × WasJudged input file.header file.transactions.items) }
+    ensures refused { IfErr result (IsUnjudged limit (R.left reader.old) (R.has_failed reader.new)) }
+    ensures read_on { HasGiven (R.left reader.old) (R.left reader.new) }
+    ensures few_reads { R.reads reader.new ≤ R.reads reader.old + limit + 2 }
+{
+    let file = SourceFile::open(alloc, reader, limit, room)?;
+    let header = file.header();
+    let mut so_far = JudgedSoFar::new(alloc, sender_of(&header));
+    file.visit(reader, &mut so_far)?;
+    let Some(header) = header else { unreachable!() };
+    Ok(JudgedFile {
+        header,
+        transactions: so_far.judged,
+    })
+}
+
+/// The sender of a header, or blanks where there is none.
+fn sender_of(header: &Option<Header>) -> [u8; 11]
+    requires { IfSome header.now (λ h. IsTrue (is_clean h.sender)) }
+    ensures clean { IsTrue (is_clean result) }
+    ensures sender { IfSome header.now (λ h. result ≡ h.sender) }
+{
+    match header {
+        Some(header) => header.sender,
+        None => [b' '; 11],
     }
 }

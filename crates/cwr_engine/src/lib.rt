@@ -22,7 +22,7 @@ pub use engine::work_file;
 pub use gates::{Gate, OpenGate, Shut};
 pub use in_turn::{serve_in_turn, work_alone};
 pub use jobs::{Job, Run, ServeRefused};
-pub use judged::{Judged, JudgedFile, judge_file};
+pub use judged::{Judged, JudgedFile, judge_file, judge_source};
 pub use limits::{MOST_BYTES, MOST_ENTRIES};
 pub use lines::outcome_line;
 pub use one_file::acknowledge;

@@ -1,5 +1,5 @@
 -- Reading goes on from where other bytes were read.
-use Rattle.std.proofs.Common.{◌≡◌, ◌∙◌, ℕ, ◌+◌, Bool, List, ◌++◌, length, Option, Some, None, sym, ap, arith, append_assoc, length-append}
+use Rattle.std.proofs.Common.{◌≡◌, ℕ, ◌+◌, Bool, List, ◌++◌, length, Option, arith, length-append}
 use Rattle.std.specs.Io.KnownBytes.{Consumes}
 use Rattle.cwr_source.specs.Source.{SourceState, IsStopped}
 use Rattle.cwr_source.proofs.lemmas.Given.{both}

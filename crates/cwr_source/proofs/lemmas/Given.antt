@@ -1,5 +1,5 @@
 -- Bytes that a source gave, one after the other.
-use Rattle.std.proofs.Common.{◌≡◌, ◌∙◌, ℕ, List, ◌++◌, Option, Some, None, sym, ap, append_assoc}
+use Rattle.std.proofs.Common.{◌∙◌, ℕ, List, ◌++◌, Option, Some, None, sym, ap, append_assoc}
 use Rattle.std.specs.Io.KnownBytes.{Consumes}
 
 -- some bytes and then others
