@@ -22,7 +22,7 @@ pub record SourceState : Type 0 where
 abbrev pub between : List ℕ → ℕ → ℕ → List ℕ
 between bytes start end = take (end - start) (drop start bytes)
 
--- one read more, which gave these bytes, or found the end
+-- more was read, which gave these bytes, or found the end
 pub record HasRead (before after : SourceState) (left_before left_after : Option (List ℕ)) (piece : List ℕ) : Type 0 where
   pub held : after.held ≡ before.held ++ piece
   pub read : after.read ≡ before.read + length piece
@@ -30,7 +30,6 @@ pub record HasRead (before after : SourceState) (left_before left_after : Option
   pub within : after.read ≤ after.limit
   pub consumed : Consumes left_before left_after piece
   pub some : after.is_ended ≡ false → 0 < length piece
-  pub none : after.is_ended ≡ true → piece ≡ []
   pub at_end : after.is_ended ≡ true → IsAtEnd left_after
 
 -- the rest of a file, up to its end

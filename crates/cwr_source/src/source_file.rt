@@ -73,7 +73,7 @@ impl<A: Allocator> SourceFile<A> {
             is_ended: false,
         };
         while !file.is_ended && line_end(file.held()).is_none() {
-            file.fill(reader)?;
+            file.fill_line(reader)?;
         }
         Ok(file)
     }
@@ -113,7 +113,7 @@ impl<A: Allocator> SourceFile<A> {
                 Ok(count) => self.pass(count),
                 Err(refusal) => return Err(self.refused(reader, refusal)),
             }
-            self.fill(reader)?;
+            self.fill_line(reader)?;
         }
         match file.finish(visitor, self.held()) {
             Ok(envelope) => Ok(envelope),
@@ -171,6 +171,29 @@ impl<A: Allocator> SourceFile<A> {
         ensures { self.new ≡ record self.old { held = drop count self.old.held } }
     {
         self.start += count;
+    }
+
+    /// Reads behind the bytes that are held, up to some LF or the end: so a long line is looked through once, however
+    /// few bytes a read gives.
+    fn fill_line<R: Source>(&mut self, reader: &mut R) -> Result<(), SourceRefused>
+        requires going { R.has_failed reader.old ≡ false }
+        requires open { self.old.is_ended ≡ false }
+        requires within { self.old.read ≤ self.old.limit }
+        ensures read { OnOk result ((piece : List ℕ) × HasRead self.old self.new (R.left reader.old) (R.left reader.new) piece) }
+        ensures stopped { IfErr result (IsStopped self.old (R.left reader.old) (R.left reader.new) (R.has_failed reader.new)) }
+        ensures going { OnOk result (R.has_failed reader.new ≡ false) }
+        ensures read_on { HasGiven (R.left reader.old) (R.left reader.new) }
+        ensures few_reads { R.reads reader.new + self.old.read ≤ R.reads reader.old + self.old.limit + 1 }
+        ensures counted { OnOk result (R.reads reader.new + self.old.read ≤ R.reads reader.old + self.new.read + 1) }
+        ensures each { OnOk result (self.new.is_ended ≡ false → R.reads reader.new + self.old.read ≤ R.reads reader.old + self.new.read) }
+    {
+        let mut seen = self.held().len();
+        self.fill(reader)?;
+        while !self.is_ended && line_end(&self.held()[seen..]).is_none() {
+            seen = self.held().len();
+            self.fill(reader)?;
+        }
+        Ok(())
     }
 
     /// Reads once, behind the bytes that are held.

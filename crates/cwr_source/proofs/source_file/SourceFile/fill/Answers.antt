@@ -36,7 +36,6 @@ returns-in-Ok-2-clause-read g c =
         within = omega (arith, read, limit, c.if-n-self.false, c.requires.within);
         consumed = c.in-Ok-read_some.ensures.bytes.0;
         some = λ goes. (let some = some_is n goes in omega (arith, some, size));
-        none = λ ended. ap (λ k. take k room) (zero_is n ended);
         at_end = λ ended. c.in-Ok-read_some.ensures.bytes.1 (zero_is n ended) (omega (arith, wide, long, c.in-Ok.ensures.room, c.make_room.new.bytes.ok.0));
       },
     )

@@ -41,31 +41,31 @@ loop-self-preserved g c =
     let i = c.loop-self.invariant in
     let v = i.visiting in
     let w = c.requires.within in
-    let h = c.in_ok-fill.ensures.read in
+    let h = c.in_ok-fill_line.ensures.read in
     let goes : c.loop-self.self.is_ended ≡ false = sym (ap (λ (s : SourceState). s.is_ended) c.self.view_is) ∙ c.loop-self-test.true in
     let each = i.each goes in
     let read = ap (λ (s : SourceState). s.read) c.pass.ensures in
     let more = h.1.read in
-    let one = c.in_ok-fill.ensures.counted in
+    let one = c.in_ok-fill_line.ensures.counted in
     record {
-      going = c.in_ok-fill.ensures.going;
-      visiting = visiting_goes _ _ _ _ _ _ v w (g.V.Visitor.keeps c.args.visitor.now c.take_lines.new.visitor) c.take_lines.new.self c.pass.new.self c.fill.new.self c.in-Ok.count h.0 _
+      going = c.in_ok-fill_line.ensures.going;
+      visiting = visiting_goes _ _ _ _ _ _ v w (g.V.Visitor.keeps c.args.visitor.now c.take_lines.new.visitor) c.take_lines.new.self c.pass.new.self c.fill_line.new.self c.in-Ok.count h.0 _
           (rw c.held.ensures at c.in-Ok.ensures.inside) c.pass.ensures h.1 goes
           (λ rest. c.in-Ok.ensures.taken c.args.visitor.now _ (length v.passed) (rw c.held.ensures (stands _ _ _ _ _ _ v w rest)) (v.lines_read rest));
       counted = omega (arith, one, each, more, read);
-      each = λ on. (let some = h.1.some on in omega (arith, one, each, more, read, some));
+      each = λ on. (let now = c.in_ok-fill_line.ensures.each on in omega (arith, now, each, more, read));
       none = λ ended. absurd (let never : true ≡ false = sym ended ∙ v.open_first goes in cc);
     }
 
-pub returns-in_err-fill-clause-refused : goal.returns-in_err-fill-clause-refused
-returns-in_err-fill-clause-refused g c =
+pub returns-in_err-fill_line-clause-refused : goal.returns-in_err-fill_line-clause-refused
+returns-in_err-fill_line-clause-refused g c =
     let p = err_from_is_err_and c.from_residual.result c.from_residual.ensures.1 in
     let v = c.loop-self.invariant.visiting in
-    rw (p.1, p.2) (stopped_since _ _ _ _ _ _ v c.requires.within _ _ _ (stopped_between c.loop-self.self c.pass.new.self _ _ _ _ _ c.pass.ensures c.in_err-fill.ensures.stopped))
+    rw (p.1, p.2) (stopped_since _ _ _ _ _ _ v c.requires.within _ _ _ (stopped_between c.loop-self.self c.pass.new.self _ _ _ _ _ c.pass.ensures c.in_err-fill_line.ensures.stopped))
 
-pub returns-in_err-fill-clause-read_on : goal.returns-in_err-fill-clause-read_on
-returns-in_err-fill-clause-read_on g c =
-    let on = c.fill.ensures.read_on in
+pub returns-in_err-fill_line-clause-read_on : goal.returns-in_err-fill_line-clause-read_on
+returns-in_err-fill_line-clause-read_on g c =
+    let on = c.fill_line.ensures.read_on in
     (_, both _ _ _ _ _ c.loop-self.invariant.visiting.consumed on.1)
 
 pub finish-requires : goal.finish-requires
