@@ -12,6 +12,8 @@ mod interruptions;
 #[cfg(test)]
 mod lines;
 #[cfg(test)]
+mod pieces;
+#[cfg(test)]
 mod streams;
 #[cfg(test)]
 mod taken;

@@ -13,8 +13,8 @@ use std::test::Fail;
 
 /// A visitor that notes what it is given. It is refused memory once it was called so many times.
 #[derive(Drop)]
-struct Noted {
-    text: Vec<u8>,
+pub(crate) struct Noted {
+    pub(crate) text: Vec<u8>,
     calls: u32,
 }
 
@@ -60,7 +60,7 @@ impl Visitor for Noted {
 }
 
 /// A visitor that is called so many times at most.
-fn visitor_called(alloc: Global, calls: u32) -> Noted {
+pub(crate) fn visitor_called(alloc: Global, calls: u32) -> Noted {
     Noted {
         text: Vec::new(alloc),
         calls,
@@ -81,7 +81,8 @@ const THREE_NOTED: [&[&[u8]]; 7] = [
     &[b"end"],
 ];
 
-fn expect_three(text: &[u8]) -> Result<(), Fail> {
+/// A visitor noted the transactions of the file of three works, in order.
+pub(crate) fn expect_three(text: &[u8]) -> Result<(), Fail> {
     let mut rest = text;
     for pieces in THREE_NOTED {
         for piece in pieces {
