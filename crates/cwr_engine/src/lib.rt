@@ -1,8 +1,9 @@
 //! One job: a submission file is read, its transactions are judged and handed in, and it is acknowledged.
 //!
-//! A [`Job`] is a reader and a writer; each ends in a [`FileOutcome`]. Calls are handed in at a [`Window`]: a book of
-//! one's own, or a place at one that others use too. [`work_file`] works one file at a window, [`acknowledge`] one into
-//! an empty book, [`work_alone`] one at a book of one's own, [`serve_in_turn`] many at one book, one after the other.
+//! [`judge_source`] reads a file through a window of bytes and judges it on the way, [`judge_file`] one in memory. A
+//! [`Job`] is a reader and a writer; each ends in a [`FileOutcome`]. Calls are handed in at a [`Window`]: a book of one's
+//! own, or a place at one that others use too. [`work_file`] works one file at a window, [`acknowledge`] one into an empty
+//! book, [`work_alone`] one at a book of one's own, [`serve_in_turn`] many at one book, one after the other.
 #![tactic(auto)]
 
 mod decision;

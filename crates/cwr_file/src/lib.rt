@@ -6,7 +6,8 @@
 //!
 //! [`parse_file`] reads a submission file: its header and its transactions, or its first fault. Nothing is copied:
 //! a [`RawTransaction`] borrows the file's bytes, and [`Lines`] goes over lines. [`visit_file`] gives a [`Visitor`] the
-//! same transactions line by line, on its way; a [`FileReader`] does so of a file that comes a piece at a time. [`ack_file`] is the text of the acknowledgement file that answers it.
+//! same transactions line by line, on its way; a [`FileReader`] does so of a file that comes a piece at a time.
+//! [`ack_file`] is the text of the acknowledgement file that answers it.
 #![tactic(auto)]
 
 pub mod laws;
