@@ -120,10 +120,11 @@ fn work_judged<H: Window<Call<A>>, G: Gate, W: Sink, A: Allocator + Copy + Drop>
 
 /// Reads a file, hands its transactions in at the window, in file order, and writes their acknowledgement.
 ///
-/// Nothing is handed in before the whole file is read and each of its transactions is judged. /// At most 16,777,216 bytes are taken, in at most two reads more than that; a reader that tells its bytes gave the first
-/// of them and holds the others. A transaction that gets no reply ends the job, and the entries made before it stay. The
-/// window comes back with the outcome, marked where the book was full for the job and else as it was, and can take
-/// 99,999,995 calls, one for each transaction that a file may have.
+/// Nothing is handed in before the whole file is read and each of its transactions is judged. At most 16,777,216 bytes
+/// are taken, in at most two reads more than that; a reader that tells its bytes gave the first of them and holds the
+/// others. A transaction that gets no reply ends the job, and the entries made before it stay. The window comes back with
+/// the outcome, marked where the book was full for the job and else as it was, and can take 99,999,995 calls, one for each
+/// transaction that a file may have.
 pub fn work_file<H: Window<Call<A>>, G: Gate, R: Source, W: Sink, A: Allocator + Copy + Drop>(
     alloc: A,
     window: H,

@@ -2,7 +2,8 @@
 //!
 //! [`parse_file`] reads a submission file: its header and its transactions, or its first fault. Nothing is copied:
 //! a [`RawTransaction`] borrows the file's bytes, and [`Lines`] goes over lines. [`visit_file`] gives the same transactions
-//! to a [`Visitor`] line by line, on its way. [`file_header`] reads the header alone.
+//! to a [`Visitor`] line by line, on its way, and a [`FileReader`] those of a file that comes a piece at a time.
+//! [`file_header`] reads the header alone.
 #![tactic(auto)]
 
 mod control_bytes;
