@@ -19,3 +19,5 @@ mod streams;
 mod taken;
 #[cfg(test)]
 mod visited;
+#[cfg(test)]
+mod windows;

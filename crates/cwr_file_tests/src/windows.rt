@@ -1,0 +1,156 @@
+//! Submission files that come from a source, through windows of many sizes.
+
+ghost use Rattle.std.specs.Prelude.{◌≡◌, ◌<◌};
+
+use crate::lines::{GRH, HDR, NWR, text_of};
+use crate::taken::THREE_WORKS;
+use crate::visited::{Noted, expect_three, visitor_called};
+use cwr_file::{Envelope, Feed};
+use cwr_sheets::same;
+use cwr_source::{SourceFile, SourceRefused};
+use std::alloc::Global;
+use std::test::Fail;
+
+/// How a source gives its bytes, and how they are read.
+#[derive(Clone, Copy)]
+struct Ways {
+    /// How many bytes it gives at a time.
+    piece: usize,
+    /// The read that fails, counted from 1; none for 0.
+    failing: u64,
+    /// The most bytes that a file may have.
+    limit: usize,
+    /// How many bytes the window has.
+    room: usize,
+}
+
+/// The most bytes of the files here.
+const MOST: usize = 4096;
+
+/// Visits a file that comes from a source.
+fn visit(
+    alloc: Global,
+    text: &[u8],
+    ways: Ways,
+    visitor: &mut Noted,
+) -> Result<Envelope, SourceRefused>
+    requires piece { 0 < ways.piece }
+    requires limit { ways.limit < 4611686018427387904 }
+{
+    let mut reader = Feed::new(text, ways.piece, Some(ways.failing));
+    let file = SourceFile::open(alloc, &mut reader, ways.limit, ways.room)?;
+    file.visit(&mut reader, visitor)
+}
+
+/// The file of three works gives a visitor all of them.
+fn expect_three_by(alloc: Global, text: &[u8], ways: Ways) -> Result<(), Fail>
+    requires piece { 0 < ways.piece }
+    requires limit { ways.limit < 4611686018427387904 }
+{
+    let mut visitor = visitor_called(alloc, 7);
+    let envelope = visit(alloc, text, ways, &mut visitor)?;
+    same("the sender", &envelope.header.sender, b"PB000000123")?;
+    same("records", &envelope.records, &10)?;
+    expect_three(&visitor.text)
+}
+
+/// A file is refused so.
+fn expect_refused_by(
+    alloc: Global,
+    text: &[u8],
+    ways: Ways,
+    wanted: SourceRefused,
+) -> Result<(), Fail>
+    requires piece { 0 < ways.piece }
+    requires limit { ways.limit < 4611686018427387904 }
+{
+    let refusal = visit(alloc, text, ways, &mut visitor_called(alloc, 7)).err();
+    same("the refusal", &refusal, &Some(wanted))
+}
+
+/// A source that does not fail, which gives a piece at a time.
+fn by(piece: usize, room: usize) -> Ways
+    ensures piece { result.piece ≡ piece }
+    ensures limit { result.limit ≡ 4096 }
+{
+    Ways {
+        piece,
+        failing: 0,
+        limit: MOST,
+        room,
+    }
+}
+
+#[test]
+fn gives_the_same_through_each_window(rt: HostRuntime) -> Result<(), Fail> {
+    let text = text_of(rt.alloc(), &THREE_WORKS, b"\r\n")?;
+    for room in 0..300 {
+        for piece in [1, 2, 7, 1000] {
+            expect_three_by(rt.alloc(), &text, by(piece, room))?;
+        }
+    }
+    Ok(())
+}
+
+#[test]
+fn answers_a_missing_trailer_through_each_window(rt: HostRuntime) -> Result<(), Fail> {
+    let lines = THREE_WORKS.get(..9).ok_or("lines")?;
+    let text = text_of(rt.alloc(), lines, b"\n")?;
+    let wanted = SourceRefused::Fault {
+        number: 11,
+        line: 10,
+    };
+    for room in 0..300 {
+        expect_refused_by(rt.alloc(), &text, by(7, room), wanted)?;
+    }
+    Ok(())
+}
+
+/// Blanks and bytes 26 may follow the trailer, and nothing else.
+#[test]
+fn answers_a_line_after_the_trailer_through_each_window(rt: HostRuntime) -> Result<(), Fail> {
+    let mut text = text_of(rt.alloc(), &THREE_WORKS, b"\n")?;
+    text.extend_from_slice(b"  \n\x1A\n")?;
+    text.extend_from_slice(NWR)?;
+    let wanted = SourceRefused::Fault {
+        number: 11,
+        line: 13,
+    };
+    for room in 0..300 {
+        expect_refused_by(rt.alloc(), &text, by(7, room), wanted)?;
+    }
+    Ok(())
+}
+
+/// A file may have as many bytes as the limit says, and not one more.
+#[test]
+fn takes_no_byte_past_the_limit(rt: HostRuntime) -> Result<(), Fail> {
+    let text = text_of(rt.alloc(), &THREE_WORKS, b"\n")?;
+    let size = text.len().min(MOST);
+    let ways = Ways {
+        limit: size,
+        ..by(7, 64)
+    };
+    expect_three_by(rt.alloc(), &text, ways)?;
+    let less = Ways {
+        limit: size.saturating_sub(1),
+        ..by(7, 64)
+    };
+    expect_refused_by(rt.alloc(), &text, less, SourceRefused::TooLong)
+}
+
+/// A fault is told only of a file that can be read to its end.
+#[test]
+fn tells_a_failed_read_behind_a_fault(rt: HostRuntime) -> Result<(), Fail> {
+    let text = text_of(rt.alloc(), &[HDR, HDR, GRH, NWR], b"\n")?;
+    let wanted = SourceRefused::Fault { number: 4, line: 2 };
+    expect_refused_by(rt.alloc(), &text, by(7, 64), wanted)?;
+    for failing in 1..=(text.len() as u64) / 7 {
+        let ways = Ways {
+            failing,
+            ..by(7, 64)
+        };
+        expect_refused_by(rt.alloc(), &text, ways, SourceRefused::Read)?;
+    }
+    Ok(())
+}
