@@ -233,7 +233,9 @@ fn make_room<A: Allocator>(bytes: &mut Vec<u8, A>, start: usize, end: usize) -> 
     ensures room { OnOk result (end - start < vec_len bytes.new) }
     ensures size { vec_len bytes.old ≤ vec_len bytes.new }
 {
-    bytes.copy_within(start..end, 0);
+    if start > 0 {
+        bytes.copy_within(start..end, 0);
+    }
     let size = bytes.len();
     if end - start == size {
         bytes.resize(if size == 0 { 1 } else { 2 * size }, 0)?;
