@@ -24,3 +24,4 @@ pub mod Least
 pub mod RoleLaw
 pub mod Visits
 pub mod ReadFurther
+pub mod AwaitedNumbers

@@ -12,3 +12,4 @@ pub mod FaultText
 pub mod Visiting
 pub mod Collected
 pub mod ReadUpTo
+pub mod Awaited

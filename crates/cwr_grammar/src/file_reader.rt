@@ -9,12 +9,13 @@ ghost use Rattle.cwr_grammar.specs.Visiting.{WasGiven};
 ghost use Rattle.cwr_grammar.specs.declared.refusal.FileRefusal.TheVariants.{Fault};
 ghost use Rattle.cwr_grammar.specs.declared.role.Role.TheVariants.{FileHeader};
 
+use crate::awaited::Awaited;
 use crate::envelope::Envelope;
 use crate::fault::{fault_of, is_tail};
 use crate::file_counts::FileCounts;
 use crate::lines::first_line;
 use crate::refusal::FileRefusal;
-use crate::role::{Role, role_at};
+use crate::role::Role;
 use crate::visitor::{Visitor, give};
 use cwr_record::{Header, read_header, type_of};
 use std::marker::Model;
@@ -26,6 +27,8 @@ use std::marker::Model;
 #[derive(Drop)]
 pub struct FileReader {
     counts: FileCounts,
+    /// The sequence numbers of the next detail.
+    awaited: Awaited,
     /// A transaction is open.
     is_open: bool,
     /// The file's head, once its line was read.
@@ -35,11 +38,14 @@ pub struct FileReader {
 }
 
 impl Model for FileReader {
+    ghost use Rattle.cwr_grammar.specs.Awaited.{Awaits};
     ghost use Rattle.cwr_grammar.specs.ReadUpTo.{ReaderState};
 
     ghost Value = { ReaderState };
 
     ghost view = { λ r. record { counts = r.counts; is_open = r.is_open; header = r.header; tail = r.tail } };
+
+    ghost invariant = { λ r. Awaits r.counts r.awaited };
 }
 
 impl FileReader {
@@ -49,6 +55,7 @@ impl FileReader {
     {
         FileReader {
             counts: FileCounts::new(),
+            awaited: Awaited::new(),
             is_open: false,
             header: None,
             tail: 0,
@@ -102,6 +109,7 @@ impl FileReader {
         }
         let FileReader {
             counts,
+            awaited: _,
             is_open: _,
             header,
             tail: _,
@@ -138,7 +146,7 @@ impl FileReader {
             return Ok(());
         }
         let record_type = type_of(line);
-        let role = role_at(record_type, line);
+        let role = self.awaited.role(&self.counts, record_type, line);
         if let Some(number) = fault_of(&self.counts, line, is_clean, &role) {
             return Err(FileRefusal::Fault {
                 number,
@@ -154,6 +162,7 @@ impl FileReader {
             &self.counts,
         )?;
         self.header = head_after(self.header, &role, line);
+        self.awaited.pass(&self.counts, &role);
         self.counts.add(&role);
         Ok(())
     }

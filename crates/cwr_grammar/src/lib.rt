@@ -6,6 +6,7 @@
 //! [`file_header`] reads the header alone.
 #![tactic(auto)]
 
+mod awaited;
 mod control_bytes;
 mod envelope;
 mod fault;

@@ -1,5 +1,7 @@
 use Rattle.std.proofs.Common.{◌∙◌, map, drop, refl, sym, ap, subst, arith}
 use Rattle.std.proofs.lemmas.Result.{err_from_is_err_and}
+use Rattle.cwr_grammar.specs.Awaited.{Awaits}
+use Rattle.cwr_grammar.specs.declared.file_counts.FileCounts.{FileCounts}
 use Rattle.cwr_grammar.specs.FirstFault.{role_fault}
 use Rattle.cwr_grammar.specs.ReadUpTo.{ReaderState, IsReadUpTo}
 use Rattle.cwr_grammar.specs.Roles.{role_of}
@@ -40,7 +42,7 @@ give-requires-clause-fits g c =
     let q = c.requires.next in
     let read = subst (λ (s : ReaderState). IsReadUpTo (g.V.Visitor.keeps q.0 c.args.visitor.now) s q.1 q.2) (sym c.self.view_is) q.4 in
     let r = read.goes c.if-self.false in
-    fits_header r.before c.args.line.now _ _ r.visiting.going.counted (read_type _ _ _ c.role_at-role.ensures c.type_of-record_type.ensures)
+    fits_header r.before c.args.line.now _ _ r.visiting.going.counted (read_type _ _ _ c.role-role.ensures c.type_of-record_type.ensures)
     (clear_role r.before c.args.line.now r.visiting.going.goes (c.in_default.ensures r.before r.visiting.going.counted)) r.visiting.going.few_groups
 
 pub give-requires-clause-printable : goal.give-requires-clause-printable
@@ -55,7 +57,7 @@ give-requires-clause-kept g c =
     let q = c.requires.next in
     let read = subst (λ (s : ReaderState). IsReadUpTo (g.V.Visitor.keeps q.0 c.args.visitor.now) s q.1 q.2) (sym c.self.view_is) q.4 in
     let r = read.goes c.if-self.false in
-    let h = visiting_gives (g.V.Visitor.keeps q.0 c.args.visitor.now) _ _ _ _ _ _ _ c.args.line.now _ r.visiting (read_type _ _ _ c.role_at-role.ensures c.type_of-record_type.ensures)
+    let h = visiting_gives (g.V.Visitor.keeps q.0 c.args.visitor.now) _ _ _ _ _ _ _ c.args.line.now _ r.visiting (read_type _ _ _ c.role-role.ensures c.type_of-record_type.ensures)
     (c.in_default.ensures r.before r.visiting.going.counted) (omega (arith, q.6)) in
     (q.0, h.0, h.1, h.2, h.3, h.4)
 
@@ -64,7 +66,7 @@ head_after-self-inside-requires-clause-valid g c = λ is.
     let q = c.requires.next in
     let read = subst (λ (s : ReaderState). IsReadUpTo (g.V.Visitor.keeps q.0 c.args.visitor.now) s q.1 q.2) (sym c.self.view_is) q.4 in
     let r = read.goes c.if-self.false in
-    valid_header (map role_of r.before) (ap (role_fault (map role_of r.before)) (sym is ∙ read_type _ _ _ c.role_at-role.ensures c.type_of-record_type.ensures)
+    valid_header (map role_of r.before) (ap (role_fault (map role_of r.before)) (sym is ∙ read_type _ _ _ c.role-role.ensures c.type_of-record_type.ensures)
     ∙ clear_role r.before c.args.line.now r.visiting.going.goes (c.in_default.ensures r.before r.visiting.going.counted))
 
 pub add-requires : goal.add-requires
@@ -78,8 +80,23 @@ pub returns-clause-taken : goal.returns-clause-taken
 returns-clause-taken g c = λ first text at n here so_far.
     let read = subst (λ (s : ReaderState). IsReadUpTo (g.V.Visitor.keeps first c.args.visitor.now) s text at) (sym c.self.view_is) so_far in
     let r = read.goes c.if-self.false in
-    let role_is = read_type _ _ _ c.role_at-role.ensures c.type_of-record_type.ensures in
-    let one = one_next text r.before at n c.args.line.now c.role_at-role.result c.add.new.self here role_is (c.in_default.ensures r.before r.visiting.going.counted)
+    let role_is = read_type _ _ _ c.role-role.ensures c.type_of-record_type.ensures in
+    let one = one_next text r.before at n c.args.line.now c.role-role.result c.add.new.self here role_is (c.in_default.ensures r.before r.visiting.going.counted)
     (c.add.ensures (map role_of r.before) r.visiting.going.counted) in
-    line_taken (g.V.Visitor.keeps first c.args.visitor.now) (g.V.Visitor.keeps first c.give.new.visitor) _ text at n c.args.line.now c.role_at-role.result c.add.new.self _ _
+    line_taken (g.V.Visitor.keeps first c.args.visitor.now) (g.V.Visitor.keeps first c.give.new.visitor) _ text at n c.args.line.now c.role-role.result c.add.new.self _ _
     read r one c.in_ok-self-inside.ensures.is_open (c.in_ok-self-inside.ensures.kept first) c.head_after-self-inside.ensures
+
+pub pass-requires-clause-small : goal.pass-requires-clause-small
+pass-requires-clause-small g c =
+    let q = c.requires.next in
+    let read = subst (λ (s : ReaderState). IsReadUpTo (g.V.Visitor.keeps q.0 c.args.visitor.now) s q.1 q.2) (sym c.self.view_is) q.4 in
+    let r = read.goes c.if-self.false in
+    going_small _ _ _ _ r.visiting.going (omega (arith, q.6))
+
+pub invariant_of-self : goal.invariant_of-self
+invariant_of-self g c =
+    let q = c.requires.next in
+    let read = subst (λ (s : ReaderState). IsReadUpTo (g.V.Visitor.keeps q.0 c.args.visitor.now) s q.1 q.2) (sym c.self.view_is) q.4 in
+    let r = read.goes c.if-self.false in
+    subst (λ (s : FileCounts). Awaits s c.pass.new.self) (sym (c.add.ensures (map role_of r.before) r.visiting.going.counted))
+    (c.pass.ensures (map role_of r.before) r.visiting.going.counted)
