@@ -1,10 +1,15 @@
 -- The sequence numbers that the next detail of a file is to have, as their digits.
-use Rattle.std.specs.Prelude.{ℕ, ◌+◌, ◌-◌, ◌≡◌, List}
+use Rattle.std.specs.Prelude.{ℕ, ◌+◌, ◌-◌, ◌≡◌}
+use Rattle.std.specs.Int.{w64, from_be_bytes}
 use Rattle.cwr_field.specs.Number.{number_text}
 use Rattle.cwr_grammar.specs.declared.awaited.Awaited.{Awaited}
 use Rattle.cwr_grammar.specs.declared.file_counts.FileCounts.{FileCounts}
 
+-- the last eight digits of a number, as one number, the first byte highest
+unfoldable pub digits_of : ℕ → ℕ
+digits_of n = from_be_bytes w64 (number_text 8 n)
+
 -- the transaction that began last has this number, and the line after the last one is this record of it
 pub record Awaits (counts : FileCounts) (awaited : Awaited) : Type 0 where
-  pub transaction : awaited.transaction ≡ number_text 8 (counts.transactions - 1)
-  pub detail : awaited.detail ≡ number_text 8 (counts.details + 1)
+  pub transaction : awaited.transaction ≡ digits_of (counts.transactions - 1)
+  pub detail : awaited.detail ≡ digits_of (counts.details + 1)

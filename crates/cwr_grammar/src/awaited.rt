@@ -1,7 +1,9 @@
-ghost use Rattle.std.specs.Prelude.{◌≡◌, ◌+◌, ◌<◌, ◌≤◌, ◌^◌, ◌∷◌, [], ℕ, true, List};
-ghost use Rattle.cwr_field.specs.Number.{number_text};
-ghost use Rattle.cwr_record.specs.Columns.{field_at, prefix_transaction, prefix_detail};
-ghost use Rattle.cwr_grammar.specs.Awaited.{Awaits};
+ghost use Rattle.std.specs.Prelude.{◌≡◌, ◌+◌, ◌<◌, ◌^◌, ◌∷◌, [], ℕ, Some, true, List, IsTrue, get_or};
+ghost use Rattle.std.specs.Int.{w64, from_be_bytes};
+ghost use Rattle.cwr_field.specs.Number.{number_of, number_text};
+ghost use Rattle.cwr_record.specs.Columns.{field_at};
+ghost use Rattle.cwr_record.specs.Ranges.{is_in_line};
+ghost use Rattle.cwr_grammar.specs.Awaited.{Awaits, digits_of};
 ghost use Rattle.cwr_grammar.specs.Counted.{counts_of, AreSmall};
 ghost use Rattle.cwr_grammar.specs.Roles.{role_at, detail};
 ghost use Rattle.cwr_grammar.specs.declared.role.Role.{Role};
@@ -9,15 +11,16 @@ ghost use Rattle.cwr_grammar.specs.declared.role.Role.{Role};
 use crate::file_counts::FileCounts;
 use crate::role::{Role, role_at};
 use cwr_field::{MOST_COUNT, last_digits};
-use cwr_record::{Prefix, RecordType, field_at};
+use cwr_record::{Column, Prefix, RecordType, field_at};
 
-/// The sequence numbers of the next detail, as their eight digits: a line that has just these is not read as numbers.
+/// The sequence numbers of the next detail, each as its eight digits, and these as one number, the first byte highest: a
+/// line that has just these digits is not read as numbers.
 #[derive(Clone, Copy)]
 pub(crate) struct Awaited {
     /// Transaction sequence of the transaction that began last.
-    transaction: [u8; 8],
+    transaction: u64,
     /// Record sequence of the line after the last one.
-    detail: [u8; 8],
+    detail: u64,
 }
 
 impl Awaited {
@@ -26,34 +29,29 @@ impl Awaited {
         ensures { Awaits (counts_of []) result }
     {
         Awaited {
-            transaction: *b"00000000",
-            detail: *b"00000001",
+            transaction: digits_of(0),
+            detail: digits_of(1),
         }
     }
 
     /// The role of a line with a record of this type, as [`role_at`] tells it.
     #[inline(always)]
     pub(crate) fn role(&self, counts: &FileCounts, record_type: RecordType, line: &[u8]) -> Role
-        requires { Awaits counts.now self.now }
+        requires small { AreSmall counts.now }
+        requires awaits { Awaits counts.now self.now }
         ensures { result ≡ role_at record_type line.now }
     {
-        if is_detail(record_type) && are_few(counts) && self.are_in(line) {
+        if is_detail(record_type)
+            && counts.lines < MOST_COUNT as u64
+            && digits_at(line, Prefix::TRANSACTION) == self.transaction
+            && digits_at(line, Prefix::DETAIL) == self.detail
+        {
             return Role::Detail(
                 Some(counts.transactions.saturating_sub(1)),
                 Some(counts.details + 1),
             );
         }
         role_at(record_type, line)
-    }
-
-    /// Whether a line has these sequence numbers.
-    #[inline(always)]
-    fn are_in(&self, line: &[u8]) -> bool
-        ensures transaction { result ≡ true → field_at line.now prefix_transaction ≡ self.now.transaction }
-        ensures detail { result ≡ true → field_at line.now prefix_detail ≡ self.now.detail }
-    {
-        field_at(line, Prefix::TRANSACTION).bytes::<8>() == self.transaction
-            && field_at(line, Prefix::DETAIL).bytes::<8>() == self.detail
     }
 
     /// Goes past a line of a role, which is still to be counted.
@@ -66,8 +64,8 @@ impl Awaited {
         match *role {
             Role::Detail(_, _) => self.detail = next_digits(self.detail, counts.details + 1),
             Role::TransactionHeader(_, _, _) => {
-                self.transaction = last_digits::<8>(counts.transactions);
-                self.detail = *b"00000001";
+                self.transaction = digits_of(counts.transactions);
+                self.detail = digits_of(1);
             }
             Role::GroupHeader(_, _) => *self = Awaited::new(),
             _ => self.detail = next_digits(self.detail, counts.details + 1),
@@ -75,28 +73,44 @@ impl Awaited {
     }
 }
 
-/// The last eight digits of the number after one, whose own they are.
+/// Eight bytes as one number, the first byte highest.
 #[inline(always)]
-fn next_digits(digits: [u8; 8], number: u64) -> [u8; 8]
-    requires digits { digits ≡ number_text 8 number }
-    requires small { number + 1 < 2 ^ 64 }
-    ensures { result ≡ number_text 8 (number + 1) }
+fn packed(bytes: [u8; 8]) -> u64
+    ensures value { result ≡ from_be_bytes w64 bytes }
+    ensures small { (i : ℕ) → get_or bytes i 0 < 256 }
 {
-    if digits[7] == b'9' {
-        return last_digits::<8>(number + 1);
-    }
-    let mut next = digits;
-    next[7] += 1;
-    next
+    u64::from_be_bytes(bytes)
 }
 
-/// Whether the numbers of the next detail have eight digits.
+/// The last eight digits of a number, as one number.
 #[inline(always)]
-fn are_few(counts: &FileCounts) -> bool
-    ensures transactions { result ≡ true → counts.now.transactions ≤ 99999999 }
-    ensures details { result ≡ true → counts.now.details < 99999999 }
+fn digits_of(number: u64) -> u64
+    ensures { result ≡ digits_of number }
 {
-    counts.transactions <= MOST_COUNT as u64 && counts.details < MOST_COUNT as u64
+    packed(last_digits(number))
+}
+
+/// The last eight digits of the number after one, from that one's.
+#[inline(always)]
+fn next_digits(digits: u64, number: u64) -> u64
+    requires digits { digits ≡ digits_of number }
+    requires small { number + 1 < 2 ^ 64 }
+    ensures { result ≡ digits_of (number + 1) }
+{
+    if digits % 256 == b'9' as u64 {
+        return digits_of(number + 1);
+    }
+    digits + 1
+}
+
+/// The eight bytes of a column, as one number. Where that is of a number's digits, they spell it.
+#[inline(always)]
+fn digits_at(line: &[u8], column: Column) -> u64
+    requires column { IsTrue (is_in_line column) }
+    requires width { column.width ≡ 8 }
+    ensures { (n : ℕ) → n < 10 ^ 8 → result ≡ digits_of n → number_of (field_at line.now column) ≡ Some n }
+{
+    packed(field_at(line, column).bytes())
 }
 
 /// Whether a record is a detail of a transaction.

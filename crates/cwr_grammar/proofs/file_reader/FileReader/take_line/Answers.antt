@@ -100,3 +100,10 @@ invariant_of-self g c =
     let r = read.goes c.if-self.false in
     subst (λ (s : FileCounts). Awaits s c.pass.new.self) (sym (c.add.ensures (map role_of r.before) r.visiting.going.counted))
     (c.pass.ensures (map role_of r.before) r.visiting.going.counted)
+
+pub role-role-requires-clause-small : goal.role-role-requires-clause-small
+role-role-requires-clause-small g c =
+    let q = c.requires.next in
+    let read = subst (λ (s : ReaderState). IsReadUpTo (g.V.Visitor.keeps q.0 c.args.visitor.now) s q.1 q.2) (sym c.self.view_is) q.4 in
+    let r = read.goes c.if-self.false in
+    going_small _ _ _ _ r.visiting.going (omega (arith, q.6))
