@@ -1,4 +1,4 @@
-ghost use Rattle.std.specs.Prelude.{◌≡◌, ◌+◌, ◌<◌, ◌^◌, ◌∷◌, [], ℕ, Some, true, List, IsTrue, get_or};
+ghost use Rattle.std.specs.Prelude.{◌≡◌, ◌+◌, ◌<◌, ◌^◌, ◌∷◌, [], ℕ, Some, true, List, IfSome, IsTrue, get_or};
 ghost use Rattle.std.specs.Int.{w64, from_be_bytes};
 ghost use Rattle.cwr_field.specs.Number.{number_of, number_text};
 ghost use Rattle.cwr_record.specs.Columns.{field_at};
@@ -9,7 +9,7 @@ ghost use Rattle.cwr_grammar.specs.Roles.{role_at, detail};
 ghost use Rattle.cwr_grammar.specs.declared.role.Role.{Role};
 
 use crate::file_counts::FileCounts;
-use crate::role::{Role, role_at};
+use crate::role::Role;
 use cwr_field::{MOST_COUNT, last_digits};
 use cwr_record::{Column, Prefix, RecordType, field_at};
 
@@ -34,24 +34,27 @@ impl Awaited {
         }
     }
 
-    /// The role of a line with a record of this type, as [`role_at`] tells it.
+    /// The role of a line with a record of this type, where it is the next detail.
     #[inline(always)]
-    pub(crate) fn role(&self, counts: &FileCounts, record_type: RecordType, line: &[u8]) -> Role
+    pub(crate) fn role(
+        &self,
+        counts: &FileCounts,
+        record_type: RecordType,
+        line: &[u8],
+    ) -> Option<Role>
         requires small { AreSmall counts.now }
         requires awaits { Awaits counts.now self.now }
-        ensures { result ≡ role_at record_type line.now }
+        ensures { IfSome result (λ role. role ≡ role_at record_type line.now) }
     {
-        if is_detail(record_type)
+        let is_next = is_detail(record_type)
             && counts.lines < MOST_COUNT as u64
             && digits_at(line, Prefix::TRANSACTION) == self.transaction
-            && digits_at(line, Prefix::DETAIL) == self.detail
-        {
-            return Role::Detail(
-                Some(counts.transactions.saturating_sub(1)),
-                Some(counts.details + 1),
-            );
+            && digits_at(line, Prefix::DETAIL) == self.detail;
+        if !is_next {
+            return None;
         }
-        role_at(record_type, line)
+        let transaction = counts.transactions.saturating_sub(1);
+        Some(Role::Detail(Some(transaction), Some(counts.details + 1)))
     }
 
     /// Goes past a line of a role, which is still to be counted.

@@ -3,6 +3,7 @@ ghost use Rattle.std.specs.List.{position};
 ghost use Rattle.std.specs.Str.Lines.{lines};
 ghost use Rattle.cwr_grammar.specs.FaultTests.{has_control, is_tail};
 ghost use Rattle.cwr_grammar.specs.ReadUpTo.{IsNextLine, IsReadUpTo, StandsAt, HeadAfter, at_start};
+ghost use Rattle.cwr_record.specs.RecordTypes.{type_of};
 ghost use Rattle.cwr_grammar.specs.Roles.{role_of};
 ghost use Rattle.cwr_grammar.specs.Submitted.{IsRefusal};
 ghost use Rattle.cwr_grammar.specs.Visiting.{WasGiven};
@@ -15,9 +16,9 @@ use crate::fault::{fault_of, is_tail};
 use crate::file_counts::FileCounts;
 use crate::lines::first_line;
 use crate::refusal::FileRefusal;
-use crate::role::Role;
+use crate::role::{Role, role_at};
 use crate::visitor::{Visitor, give};
-use cwr_record::{Header, read_header, type_of};
+use cwr_record::{Header, RecordType, read_header, type_of};
 use std::marker::Model;
 
 /// Reads a file whose bytes come a piece at a time, and gives its transactions to a visitor on its way.
@@ -146,7 +147,34 @@ impl FileReader {
             return Ok(());
         }
         let record_type = type_of(line);
-        let role = self.awaited.role(&self.counts, record_type, line);
+        // The next detail, which most lines are, has its own code.
+        match self.awaited.role(&self.counts, record_type, line) {
+            Some(role) => self.take_as(visitor, line, is_clean, record_type, role),
+            None => {
+                let role = role_at(record_type, line);
+                self.take_as(visitor, line, is_clean, record_type, role)
+            }
+        }
+    }
+
+    /// Goes past the next line, of this role, before the file's end.
+    #[inline(always)]
+    fn take_as<V: Visitor>(
+        &mut self,
+        visitor: &mut V,
+        line: &[u8],
+        is_clean: bool,
+        record_type: RecordType,
+        role: Role,
+    ) -> Result<(), FileRefusal>
+        requires clean { is_clean ≡ true → has_control line.now ≡ false }
+        requires goes { self.old.counts.is_ended ≡ false }
+        requires read { record_type ≡ type_of line.now }
+        requires role { role ≡ role_of line.now }
+        requires next { (first : V) × (text : List ℕ) × (at : ℕ) × (n : ℕ) × IsReadUpTo (V.keeps first visitor.old) self.old text at × IsNextLine line.now text at n × (at + n < 2 ^ 63) }
+        ensures taken { OnOk result ((first : V) (text : List ℕ) (at n : ℕ) → IsNextLine line.now text at n → IsReadUpTo (V.keeps first visitor.old) self.old text at → IsReadUpTo (V.keeps first visitor.new) self.new text (at + n)) }
+        ensures fault { IfErr result (λ refusal. (first : V) (text : List ℕ) (at n : ℕ) → IsNextLine line.now text at n → IsReadUpTo (V.keeps first visitor.old) self.old text at → IsRefusal (lines text) refusal) }
+    {
         if let Some(number) = fault_of(&self.counts, line, is_clean, &role) {
             return Err(FileRefusal::Fault {
                 number,

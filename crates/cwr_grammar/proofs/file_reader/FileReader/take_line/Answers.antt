@@ -24,85 +24,8 @@ returns-then-self-clause-taken g c = λ first text at n here so_far.
     let ended = ap (λ (s : ReaderState). s.counts.is_ended) (sym c.self.view_is) ∙ c.if-self.true in
     rw c.in_ok-take_tail.ensures.new (tail_taken _ _ _ text at n c.args.line.now so_far ended here c.in_ok-take_tail.ensures.taken (λ whole kept. kept))
 
-pub fault_of-requires-clause-small : goal.fault_of-requires-clause-small
-fault_of-requires-clause-small g c =
-    let q = c.requires.next in
-    let read = subst (λ (s : ReaderState). IsReadUpTo (g.V.Visitor.keeps q.0 c.args.visitor.now) s q.1 q.2) (sym c.self.view_is) q.4 in
-    let r = read.goes c.if-self.false in
-    going_small _ _ _ _ r.visiting.going (omega (arith, q.6))
-
-pub returns-in-Some-clause-fault : goal.returns-in-Some-clause-fault
-returns-in-Some-clause-fault g c = λ first text at n here so_far.
-    let read = subst (λ (s : ReaderState). IsReadUpTo (g.V.Visitor.keeps first c.args.visitor.now) s text at) (sym c.self.view_is) so_far in
-    let r = read.goes c.if-self.false in
-    line_faulty text _ at r.before (drop at text) c.args.line.now _ _ r.visiting.going refl here.split (c.in-Some.ensures r.before r.visiting.going.counted)
-
-pub give-requires-clause-fits : goal.give-requires-clause-fits
-give-requires-clause-fits g c =
-    let q = c.requires.next in
-    let read = subst (λ (s : ReaderState). IsReadUpTo (g.V.Visitor.keeps q.0 c.args.visitor.now) s q.1 q.2) (sym c.self.view_is) q.4 in
-    let r = read.goes c.if-self.false in
-    fits_header r.before c.args.line.now _ _ r.visiting.going.counted (read_type _ _ _ c.role-role.ensures c.type_of-record_type.ensures)
-    (clear_role r.before c.args.line.now r.visiting.going.goes (c.in_default.ensures r.before r.visiting.going.counted)) r.visiting.going.few_groups
-
-pub give-requires-clause-printable : goal.give-requires-clause-printable
-give-requires-clause-printable g c =
-    let q = c.requires.next in
-    let read = subst (λ (s : ReaderState). IsReadUpTo (g.V.Visitor.keeps q.0 c.args.visitor.now) s q.1 q.2) (sym c.self.view_is) q.4 in
-    let r = read.goes c.if-self.false in
-    printable c.args.line.now (clear_control r.before c.args.line.now r.visiting.going.goes (c.in_default.ensures r.before r.visiting.going.counted))
-
-pub give-requires-clause-kept : goal.give-requires-clause-kept
-give-requires-clause-kept g c =
-    let q = c.requires.next in
-    let read = subst (λ (s : ReaderState). IsReadUpTo (g.V.Visitor.keeps q.0 c.args.visitor.now) s q.1 q.2) (sym c.self.view_is) q.4 in
-    let r = read.goes c.if-self.false in
-    let h = visiting_gives (g.V.Visitor.keeps q.0 c.args.visitor.now) _ _ _ _ _ _ _ c.args.line.now _ r.visiting (read_type _ _ _ c.role-role.ensures c.type_of-record_type.ensures)
-    (c.in_default.ensures r.before r.visiting.going.counted) (omega (arith, q.6)) in
-    (q.0, h.0, h.1, h.2, h.3, h.4)
-
-pub head_after-self-inside-requires-clause-valid : goal.head_after-self-inside-requires-clause-valid
-head_after-self-inside-requires-clause-valid g c = λ is.
-    let q = c.requires.next in
-    let read = subst (λ (s : ReaderState). IsReadUpTo (g.V.Visitor.keeps q.0 c.args.visitor.now) s q.1 q.2) (sym c.self.view_is) q.4 in
-    let r = read.goes c.if-self.false in
-    valid_header (map role_of r.before) (ap (role_fault (map role_of r.before)) (sym is ∙ read_type _ _ _ c.role-role.ensures c.type_of-record_type.ensures)
-    ∙ clear_role r.before c.args.line.now r.visiting.going.goes (c.in_default.ensures r.before r.visiting.going.counted))
-
-pub add-requires : goal.add-requires
-add-requires g c =
-    let q = c.requires.next in
-    let read = subst (λ (s : ReaderState). IsReadUpTo (g.V.Visitor.keeps q.0 c.args.visitor.now) s q.1 q.2) (sym c.self.view_is) q.4 in
-    let r = read.goes c.if-self.false in
-    record { small = going_small _ _ _ _ r.visiting.going (omega (arith, q.6)) }
-
-pub returns-clause-taken : goal.returns-clause-taken
-returns-clause-taken g c = λ first text at n here so_far.
-    let read = subst (λ (s : ReaderState). IsReadUpTo (g.V.Visitor.keeps first c.args.visitor.now) s text at) (sym c.self.view_is) so_far in
-    let r = read.goes c.if-self.false in
-    let role_is = read_type _ _ _ c.role-role.ensures c.type_of-record_type.ensures in
-    let one = one_next text r.before at n c.args.line.now c.role-role.result c.add.new.self here role_is (c.in_default.ensures r.before r.visiting.going.counted)
-    (c.add.ensures (map role_of r.before) r.visiting.going.counted) in
-    line_taken (g.V.Visitor.keeps first c.args.visitor.now) (g.V.Visitor.keeps first c.give.new.visitor) _ text at n c.args.line.now c.role-role.result c.add.new.self _ _
-    read r one c.in_ok-self-inside.ensures.is_open (c.in_ok-self-inside.ensures.kept first) c.head_after-self-inside.ensures
-
-pub pass-requires-clause-small : goal.pass-requires-clause-small
-pass-requires-clause-small g c =
-    let q = c.requires.next in
-    let read = subst (λ (s : ReaderState). IsReadUpTo (g.V.Visitor.keeps q.0 c.args.visitor.now) s q.1 q.2) (sym c.self.view_is) q.4 in
-    let r = read.goes c.if-self.false in
-    going_small _ _ _ _ r.visiting.going (omega (arith, q.6))
-
-pub invariant_of-self : goal.invariant_of-self
-invariant_of-self g c =
-    let q = c.requires.next in
-    let read = subst (λ (s : ReaderState). IsReadUpTo (g.V.Visitor.keeps q.0 c.args.visitor.now) s q.1 q.2) (sym c.self.view_is) q.4 in
-    let r = read.goes c.if-self.false in
-    subst (λ (s : FileCounts). Awaits s c.pass.new.self) (sym (c.add.ensures (map role_of r.before) r.visiting.going.counted))
-    (c.pass.ensures (map role_of r.before) r.visiting.going.counted)
-
-pub role-role-requires-clause-small : goal.role-role-requires-clause-small
-role-role-requires-clause-small g c =
+pub role-requires-clause-small : goal.role-requires-clause-small
+role-requires-clause-small g c =
     let q = c.requires.next in
     let read = subst (λ (s : ReaderState). IsReadUpTo (g.V.Visitor.keeps q.0 c.args.visitor.now) s q.1 q.2) (sym c.self.view_is) q.4 in
     let r = read.goes c.if-self.false in
