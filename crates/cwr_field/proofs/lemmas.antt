@@ -1,5 +1,6 @@
 pub mod SameFronts
 pub mod DigitSteps
+pub mod DigitPairs
 pub mod DigitText
 pub mod CodeText
 pub mod Spelling

@@ -16,3 +16,7 @@ most_count = 99999999
 abbrev pub number_text : ℕ → ℕ → List ℕ
 number_text zero n = []
 number_text (suc width) n = number_text width (n / 10) ++ (48 + n % 10) ∷ []
+
+-- the two digits of a number below 100
+abbrev pub digit_pair : ℕ → List ℕ
+digit_pair n = (48 + n / 10) ∷ (48 + n % 10) ∷ []

@@ -3,7 +3,7 @@
 //!
 //! A line is read by [`cut`], which gives a [`Field`], and each kind of value has one reader of a field:
 //! [`digits`], [`share`], [`date`], [`time`], [`iswc`], [`party`]. [`put_digits`] and [`put_text`] write fields,
-//! [`put_decimal`] numbers between words; [`last_digits`] gives them as an array, [`filled`] fills a text with blanks, and [`is_printable`] tells whether it has no control byte.
+//! [`put_decimal`] numbers between words; [`last_digits`] gives them as an array, [`filled`] fills a text with blanks, and [`fill_digits`] and [`fill_text`] write them over bytes that are there; [`is_printable`] tells whether it has no control byte.
 //! Positions are counted from 1, as in the CWR manual.
 #![tactic(auto)]
 
@@ -22,7 +22,8 @@ pub use day::{Day, date};
 pub use field::{Field, cut, is_blank, party};
 pub use memory::Memory;
 pub use number::{
-    LEAST_WHOLE, MOST_COUNT, MOST_WHOLE, WHOLE, digits, last_digits, put_decimal, put_digits, share,
+    LEAST_WHOLE, MOST_COUNT, MOST_WHOLE, WHOLE, digits, fill_digits, last_digits, put_decimal,
+    put_digits, share,
 };
-pub use text::{LEAST_PRINTABLE, filled, is_printable, put_text};
+pub use text::{LEAST_PRINTABLE, fill_text, filled, is_printable, put_text};
 pub use work_code::{MOST_CODE, check_digit, iswc};

@@ -1,6 +1,6 @@
 ghost use Rattle.std.specs.Prelude.{◌≡◌, ◌≤◌, ◌<◌, ◌^◌, ◌+◌, ◌++◌, IfSome, OnOk, OnErr, length, vec_len, vec_capacity};
 ghost use Rattle.std.specs.Fmt.{decimal};
-ghost use Rattle.cwr_field.specs.Number.{number_of, number_text};
+ghost use Rattle.cwr_field.specs.Number.{number_of, number_text, digit_pair};
 ghost use Rattle.cwr_field.specs.Share.{share_of, whole};
 
 use crate::field::{Field, are_blank};
@@ -84,23 +84,44 @@ pub fn share(text: Field) -> Option<u16>
     }
 }
 
+/// The two digits of each number below 100, one pair after another.
+static PAIRS: [u8; 200] =
+    *b"00010203040506070809101112131415161718192021222324252627282930313233343536373839404142434445464748495051525354555657585960616263646566676869707172737475767778798081828384858687888990919293949596979899";
+
+/// The two digits of a number below 100.
+#[inline(always)]
+fn pair_of(number: u64) -> [u8; 2]
+    requires { number < 100 }
+    ensures { result ≡ digit_pair number }
+{
+    let at = number as usize * 2;
+    [PAIRS[at], PAIRS[at + 1]]
+}
+
 /// Writes the last digits of a number over the bytes, as many as there are, with leading zeros.
-fn fill(room: &mut [u8], value: u64)
+#[inline(always)]
+pub fn fill_digits(room: &mut [u8], value: u64)
     ensures { room.new ≡ number_text (length room.old) value }
 {
     let mut rest = value;
-    for index in (0..room.len()).rev() {
-        room[index] = b'0' + (rest % 10) as u8;
-        rest /= 10;
+    let mut end = room.len();
+    while 2 <= end {
+        end -= 2;
+        room[end..end + 2].copy_from_slice(&pair_of(rest % 100));
+        rest /= 100;
+    }
+    if end == 1 {
+        room[0] = b'0' + (rest % 10) as u8;
     }
 }
 
 /// The last digits of a number, as many as the array has, with leading zeros.
+#[inline]
 pub fn last_digits<const N: usize>(value: u64) -> [u8; N]
     ensures { result ≡ number_text N value }
 {
     let mut digits = [b'0'; N];
-    fill(&mut digits, value);
+    fill_digits(&mut digits, value);
     digits
 }
 
@@ -122,7 +143,7 @@ pub fn put_digits<A: Allocator>(
     ensures full { OnErr result (vec_capacity out.old < vec_len out.old + width) }
 {
     let mut digits = [b'0'; 18];
-    fill(&mut digits[..width], value);
+    fill_digits(&mut digits[..width], value);
     out.extend_from_slice(&digits[..width])?;
     Ok(())
 }

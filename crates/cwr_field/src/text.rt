@@ -14,7 +14,18 @@ pub fn is_printable(text: &[u8]) -> bool
     text.iter().all(|byte| LEAST_PRINTABLE <= *byte)
 }
 
+/// Writes a text, which is no longer than the bytes, over them, and blanks over the rest of them.
+#[inline(always)]
+pub fn fill_text(room: &mut [u8], text: &[u8])
+    requires { length text.now ≤ length room.old }
+    ensures { room.new ≡ padded (length room.old) text.now }
+{
+    room[..text.len()].copy_from_slice(text);
+    room[text.len()..].fill(b' ');
+}
+
 /// A text, which is no longer than the width, and blanks up to the width.
+#[inline]
 pub fn filled<const N: usize>(text: &[u8]) -> [u8; N]
     requires { length text.now ≤ N }
     ensures { result ≡ padded N text.now }

@@ -1,5 +1,6 @@
 mod LeastFault
 mod Fronts
+mod LineTexts
 mod SameRecords
 mod TrailingBlanks
 pub mod lemmas

@@ -8,7 +8,8 @@ ghost use Rattle.cwr_record.specs.Acknowledgement as table;
 ghost use Rattle.cwr_record.specs.declared.acknowledgement.Ack.{Ack};
 ghost use Rattle.cwr_record.specs.declared.acknowledgement.Message.{Message};
 
-use crate::pieces::{Piece, put_line};
+use crate::line_room::LineRoom;
+use crate::pieces::Piece;
 use crate::prefix::Prefix;
 use crate::record_type::RecordType;
 use crate::slot::{Content, FieldFault, Slot, check, slots};
@@ -102,24 +103,22 @@ pub fn write_ack<A: Allocator>(out: &mut Vec<u8, A>, ack: &Ack) -> Result<(), Me
     // Memory is answered only where there was no room for the line.
     ensures full { OnErr result (vec_capacity out.old < vec_len out.old + 159) }
 {
-    put_line(
-        out,
-        &[
-            Piece::Text(b"ACK", RecordType::COLUMN),
-            Piece::Digits(ack.prefix.transaction as u64, Prefix::TRANSACTION),
-            Piece::Digits(ack.prefix.detail as u64, Prefix::DETAIL),
-            Piece::Day(ack.creation_date),
-            Piece::Time(ack.creation_time),
-            Piece::Digits(ack.original_group as u64, Ack::ORIGINAL_GROUP),
-            Piece::Digits(ack.original_transaction as u64, Ack::ORIGINAL_TRANSACTION),
-            Piece::Text(&ack.original_type, Ack::ORIGINAL_TYPE),
-            Piece::Text(&ack.title, Ack::TITLE),
-            Piece::Text(&ack.submitter_number, Ack::SUBMITTER_NUMBER),
-            Piece::Text(&ack.recipient_number, Ack::RECIPIENT_NUMBER),
-            Piece::Day(ack.processing_date),
-            Piece::Text(&ack.status, Ack::STATUS),
-        ],
-    )
+    let mut line = LineRoom::<159>::new();
+    line.put(&Piece::Text(b"ACK", RecordType::COLUMN));
+    line.put(&Piece::Digits(ack.prefix.transaction as u64, Prefix::TRANSACTION));
+    line.put(&Piece::Digits(ack.prefix.detail as u64, Prefix::DETAIL));
+    line.put(&Piece::Day(ack.creation_date));
+    line.put(&Piece::Time(ack.creation_time));
+    line.put(&Piece::Digits(ack.original_group as u64, Ack::ORIGINAL_GROUP));
+    line.put(&Piece::Digits(ack.original_transaction as u64, Ack::ORIGINAL_TRANSACTION));
+    line.put(&Piece::Text(&ack.original_type, Ack::ORIGINAL_TYPE));
+    line.put(&Piece::Text(&ack.title, Ack::TITLE));
+    line.put(&Piece::Text(&ack.submitter_number, Ack::SUBMITTER_NUMBER));
+    line.put(&Piece::Text(&ack.recipient_number, Ack::RECIPIENT_NUMBER));
+    line.put(&Piece::Day(ack.processing_date));
+    line.put(&Piece::Text(&ack.status, Ack::STATUS));
+    out.extend_from_slice(line.bytes())?;
+    Ok(())
 }
 
 /// A message of an acknowledgement: MSG, Message. It says what is wrong with a record of the acknowledged transaction.
@@ -193,21 +192,19 @@ pub fn write_message<A: Allocator>(out: &mut Vec<u8, A>, message: &Message) -> R
     // Memory is answered only where there was no room for the line.
     ensures full { OnErr result (vec_capacity out.old < vec_len out.old + 185) }
 {
-    put_line(
-        out,
-        &[
-            Piece::Text(b"MSG", RecordType::COLUMN),
-            Piece::Digits(message.prefix.transaction as u64, Prefix::TRANSACTION),
-            Piece::Digits(message.prefix.detail as u64, Prefix::DETAIL),
-            Piece::Text(&message.message_type, Message::MESSAGE_TYPE),
-            Piece::Digits(message.original_record as u64, Message::ORIGINAL_RECORD),
-            Piece::Text(&message.record_type, Message::RECORD_TYPE),
-            Piece::Text(&message.message_level, Message::MESSAGE_LEVEL),
-            Piece::Digits(
-                message.validation_number as u32 as u64,
-                Message::VALIDATION_NUMBER,
-            ),
-            Piece::Text(&message.text, Message::TEXT),
-        ],
-    )
+    let mut line = LineRoom::<185>::new();
+    line.put(&Piece::Text(b"MSG", RecordType::COLUMN));
+    line.put(&Piece::Digits(message.prefix.transaction as u64, Prefix::TRANSACTION));
+    line.put(&Piece::Digits(message.prefix.detail as u64, Prefix::DETAIL));
+    line.put(&Piece::Text(&message.message_type, Message::MESSAGE_TYPE));
+    line.put(&Piece::Digits(message.original_record as u64, Message::ORIGINAL_RECORD));
+    line.put(&Piece::Text(&message.record_type, Message::RECORD_TYPE));
+    line.put(&Piece::Text(&message.message_level, Message::MESSAGE_LEVEL));
+    line.put(&Piece::Digits(
+        message.validation_number as u32 as u64,
+        Message::VALIDATION_NUMBER,
+    ));
+    line.put(&Piece::Text(&message.text, Message::TEXT));
+    out.extend_from_slice(line.bytes())?;
+    Ok(())
 }

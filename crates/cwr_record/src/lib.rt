@@ -33,6 +33,7 @@ mod acknowledgement;
 mod columns;
 mod control;
 pub mod laws;
+mod line_room;
 mod parties;
 mod pieces;
 mod prefix;
@@ -53,6 +54,7 @@ pub use control::{
     write_header,
 };
 pub use cwr_field::{Clock, Day, Field, Memory};
+pub use line_room::LineRoom;
 pub use parties::{
     collection_of, indicator_of, ownership_of, party_of, publisher_of, territory_of,
 };

@@ -1,12 +1,12 @@
-//! A line that is written field by field, of a record or of any other layout.
+//! The fields of a line that is written, of a record or of any other layout, and a line of them.
 
-ghost use Rattle.std.specs.Prelude.{◌≡◌, ◌++◌, OnOk, OnErr, take, vec_len, vec_capacity, sum_by, ◌<◌, ◌≤◌, ◌+◌, ◌^◌};
+ghost use Rattle.std.specs.Prelude.{◌≡◌, ◌++◌, OnOk, OnErr, length, take, vec_len, vec_capacity, sum_by, ◌<◌, ◌≤◌, ◌+◌, ◌^◌};
 ghost use Rattle.std.specs.List.{flat_map, AllByRecursion};
 ghost use Rattle.cwr_field.specs.Iswc.{iswc_text};
 ghost use Rattle.cwr_record.specs.Pieces.{piece_text, piece_width, FitsPiece, IsDated};
 
 use crate::columns::Column;
-use cwr_field::{Clock, Day, Memory, check_digit, put_digits, put_text};
+use cwr_field::{Clock, Day, Memory, check_digit, fill_digits, fill_text};
 use std::alloc::Allocator;
 
 /// A field that is written.
@@ -30,21 +30,55 @@ pub enum Piece<'a> {
     Code(Option<u64>),
 }
 
-/// Appends a work's code. A refusal may leave a part of it.
-fn put_code<A: Allocator>(out: &mut Vec<u8, A>, number: u64) -> Result<(), Memory>
-    requires { number < 10 ^ 9 }
-    ensures ok { OnOk result (out.new.items ≡ out.old.items ++ iswc_text number) }
-    ensures err { OnErr result (take (vec_len out.old) out.new.items ≡ out.old.items) }
-    ensures len { OnOk result (vec_len out.new ≡ vec_len out.old + 11) }
-    ensures capacity { vec_capacity out.old ≤ vec_capacity out.new }
-    ensures full { OnErr result (vec_capacity out.old < vec_len out.old + 11) }
+/// How many bytes a field has.
+#[inline(always)]
+pub(crate) fn width_of(piece: &Piece) -> usize
+    ensures { result ≡ piece_width piece.now }
 {
-    put_text(out, b"T", 1)?;
-    put_digits(out, number, 9)?;
-    put_text(out, &[b'0' + check_digit(number)], 1)
+    match *piece {
+        Piece::Text(_, column) | Piece::Digits(_, column) => column.width,
+        Piece::Share(_) => 5,
+        Piece::Day(_) | Piece::OptionalDay(_) => 8,
+        Piece::Time(_) | Piece::OptionalTime(_) => 6,
+        Piece::Code(_) => 11,
+    }
 }
 
-/// Appends a field. A refusal may leave a part of it.
+/// Writes a field over as many bytes as it has.
+#[inline(always)]
+pub(crate) fn fill_piece(room: &mut [u8], piece: &Piece)
+    requires fits { FitsPiece piece.now }
+    requires width { length room.old ≡ piece_width piece.now }
+    ensures text { room.new ≡ piece_text piece.now }
+    ensures dated { IsDated piece.now }
+{
+    match *piece {
+        Piece::Text(text, _) => fill_text(room, text),
+        Piece::Digits(value, _) => fill_digits(room, value),
+        Piece::Share(share) => fill_digits(room, share as u64),
+        Piece::Day(day) => fill_digits(room, day.number() as u64),
+        Piece::Time(time) => fill_digits(room, time.number() as u64),
+        Piece::OptionalDay(None) => fill_text(room, b""),
+        Piece::OptionalDay(Some(day)) => fill_digits(room, day.number() as u64),
+        Piece::OptionalTime(None) => fill_text(room, b""),
+        Piece::OptionalTime(Some(time)) => fill_digits(room, time.number() as u64),
+        Piece::Code(None) => fill_text(room, b""),
+        Piece::Code(Some(number)) => fill_code(room, number),
+    }
+}
+
+/// Writes a work's code over eleven bytes.
+fn fill_code(room: &mut [u8], number: u64)
+    requires code { number < 10 ^ 9 }
+    requires width { length room.old ≡ 11 }
+    ensures { room.new ≡ iswc_text number }
+{
+    fill_text(&mut room[..1], b"T");
+    fill_digits(&mut room[1..10], number);
+    fill_text(&mut room[10..], &[b'0' + check_digit(number)]);
+}
+
+/// Appends a field. A refusal leaves the vector as it was.
 fn put_piece<A: Allocator>(out: &mut Vec<u8, A>, piece: &Piece) -> Result<(), Memory>
     requires { FitsPiece piece.now }
     ensures ok { OnOk result (out.new.items ≡ out.old.items ++ piece_text piece.now) }
@@ -52,21 +86,14 @@ fn put_piece<A: Allocator>(out: &mut Vec<u8, A>, piece: &Piece) -> Result<(), Me
     ensures len { OnOk result (vec_len out.new ≡ vec_len out.old + piece_width piece.now) }
     ensures capacity { vec_capacity out.old ≤ vec_capacity out.new }
     ensures full { OnErr result (vec_capacity out.old < vec_len out.old + piece_width piece.now) }
-    ensures dated { IsDated piece.now }
+    ensures dated { OnOk result (IsDated piece.now) }
 {
-    match *piece {
-        Piece::Text(text, column) => put_text(out, text, column.width),
-        Piece::Digits(value, column) => put_digits(out, value, column.width),
-        Piece::Share(share) => put_digits(out, share as u64, 5),
-        Piece::Day(day) => put_digits(out, day.number() as u64, 8),
-        Piece::Time(time) => put_digits(out, time.number() as u64, 6),
-        Piece::OptionalDay(None) => put_text(out, b"", 8),
-        Piece::OptionalDay(Some(day)) => put_digits(out, day.number() as u64, 8),
-        Piece::OptionalTime(None) => put_text(out, b"", 6),
-        Piece::OptionalTime(Some(time)) => put_digits(out, time.number() as u64, 6),
-        Piece::Code(None) => put_text(out, b"", 11),
-        Piece::Code(Some(number)) => put_code(out, number),
-    }
+    let width = width_of(piece);
+    out.reserve(width)?;
+    let start = out.len();
+    out.resize(start + width, b' ').unwrap();
+    fill_piece(&mut out[start..], piece);
+    Ok(())
 }
 
 /// Appends a line of these fields, one after another and without a line end: all of it, or nothing.
