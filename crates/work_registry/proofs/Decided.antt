@@ -3,7 +3,7 @@ use Rattle.std.proofs.Common.{◌≡◌, ◌≤◌, ◌<◌, ℕ, ◌+◌, ◌==
 use Rattle.cwr_record.specs.declared.works.WorkKind.TheVariants.{Rev}
 use Rattle.cwr_call.specs.CallValue.{CallValue}
 use Rattle.work_registry.specs.declared.key.Key.{Key}
-use Rattle.work_registry.specs.declared.claim.Claim.{Claim}
+use Rattle.work_registry.specs.declared.indexes.KeptClaim.{KeptClaim}
 use Rattle.work_registry.specs.declared.reply.Reply.{Reply}
 use Rattle.work_registry.specs.declared.reply.Reply.TheVariants.{Accepted, Conflict}
 use Rattle.work_registry.specs.declared.indexes.KeptWork.{KeptWork}
@@ -11,8 +11,7 @@ use Rattle.work_registry.specs.declared.indexes.Change.{Change}
 use Rattle.work_registry.specs.declared.indexes.Decision.{Decision}
 use Rattle.work_registry.specs.Rows.{Row, key_of}
 use Rattle.work_registry.specs.Works.{others_of}
-use Rattle.work_registry.specs.Indexes.{kept_work, change_of, decision_on, newer}
-use Rattle.work_registry.specs.Claims.{claim_of}
+use Rattle.work_registry.specs.Indexes.{change_of, decision_on, kept_claim, kept_work, newer}
 use Rattle.work_registry.specs.Reply.{reply_to, reply_for_work, is_over, work_for, clashes, most_control}
 use Rattle.work_registry.proofs.SoundRows.{IsSound}
 use Rattle.work_registry.proofs.KeptRows.{versions_some, versions_none}
@@ -25,18 +24,18 @@ over-is rows call w k control b v own same is e = ap (λ x. is_over w x call.con
 pub reply-over : (rows : List Row) (call : CallValue) (w : ℕ) → is_over w (key_of call) call.control rows ≡ true → Conflict w ≡ reply_for_work rows call w
 reply-over rows call w e = rw e refl
 
-pub reply-first : (rows : List Row) (call : CallValue) (w : ℕ) → is_over w (key_of call) call.control rows ≡ false → None ≡ claim_of (key_of call) rows → Accepted w 1 ≡ reply_for_work rows call w
+pub reply-first : (rows : List Row) (call : CallValue) (w : ℕ) → is_over w (key_of call) call.control rows ≡ false → None ≡ kept_claim (key_of call) rows → Accepted w 1 ≡ reply_for_work rows call w
 reply-first rows call w p e = rw (p, versions_none (key_of call) rows e) refl
 
-pub reply-again : (rows : List Row) (call : CallValue) (w : ℕ) (c : Claim) → is_over w (key_of call) call.control rows ≡ false → Some c ≡ claim_of (key_of call) rows → Accepted w (c.version + 1) ≡ reply_for_work rows call w
+pub reply-again : (rows : List Row) (call : CallValue) (w : ℕ) (c : KeptClaim) → is_over w (key_of call) call.control rows ≡ false → Some c ≡ kept_claim (key_of call) rows → Accepted w (c.version + 1) ≡ reply_for_work rows call w
 reply-again rows call w c p e = rw (p, versions_some (key_of call) rows c e) refl
 
-pub decided-new : (rows : List Row) (call : CallValue) (r : Reply) (w : ℕ) (i : Option ℕ) → (length call.faults == 0) ≡ true → None ≡ claim_of (key_of call) rows →
+pub decided-new : (rows : List Row) (call : CallValue) (r : Reply) (w : ℕ) (i : Option ℕ) → (length call.faults == 0) ≡ true → None ≡ kept_claim (key_of call) rows →
     r ≡ reply_for_work rows call w → w ≡ work_for i rows → i ≡ call.iswc → r ≡ reply_to rows call
 decided-new rows call r w i f e is at same =
     is ∙ ap (λ n. reply_for_work rows call n) (at ∙ ap (λ o. work_for o rows) same) ∙ sym (reply-new rows call (nil-from _ f) e)
 
-pub decided-old : (rows : List Row) (call : CallValue) (r : Reply) (c : Claim) (i : Option ℕ) (b : Bool) → (length call.faults == 0) ≡ true → Some c ≡ claim_of (key_of call) rows → call.kind ≡ Rev →
+pub decided-old : (rows : List Row) (call : CallValue) (r : Reply) (c : KeptClaim) (i : Option ℕ) (b : Bool) → (length call.faults == 0) ≡ true → Some c ≡ kept_claim (key_of call) rows → call.kind ≡ Rev →
     b ≡ clashes i c.work rows → i ≡ call.iswc → b ≡ false → r ≡ reply_for_work rows call c.work → r ≡ reply_to rows call
 decided-old rows call r c i b f e k clash same none is =
     let apart : clashes call.iswc c.work rows ≡ false = ap (λ o. clashes o c.work rows) (sym same) ∙ sym clash ∙ none in

@@ -6,7 +6,7 @@ use Rattle.std.proofs.lemmas.List.Folds.{list_all-append}
 use Rattle.std.specs.HashMap.{HashMap, get}
 use Rattle.cwr_call.specs.CallValue.{CallValue}
 use Rattle.work_registry.specs.declared.key.Key.{Key}
-use Rattle.work_registry.specs.declared.claim.Claim.{Claim}
+use Rattle.work_registry.specs.declared.indexes.KeptClaim.{KeptClaim}
 use Rattle.work_registry.specs.declared.indexes.KeptWork.{KeptWork}
 use Rattle.work_registry.specs.EntryValue.{EntryValue}
 use Rattle.work_registry.specs.Rows.{Row, rows_of, rows_of_entry, same_key}
@@ -26,9 +26,9 @@ book-push h e limit b lt is = record { lawful = history-push h e b.lawful is; fi
 pub opening-push : (h : List EntryValue) (e : EntryValue) → is_opening (h ++ e ∷ []) ≡ (is_opening h && (e.session == 0))
 opening-push h e = list_all-append (λ (x : EntryValue). x.session == 0) h (e ∷ []) ∙ ap (λ b. is_opening h && b) (and-true (e.session == 0))
 
-pub indexes-none : {S T : Type 0} (claims : HashMap Key Claim S) (iswcs : HashMap ℕ ℕ T) (works : List KeptWork) → claims.entries ≡ [] → iswcs.entries ≡ [] → works ≡ [] →
+pub indexes-none : {S T : Type 0} (claims : HashMap Key KeptClaim S) (iswcs : HashMap ℕ ℕ T) (works : List KeptWork) → claims.entries ≡ [] → iswcs.entries ≡ [] → works ≡ [] →
     AreIndexes [] (get same_key claims) (get nat_eq iswcs) works
-indexes-none claims iswcs works a b c = rw (a, b, c) (record { claim = (λ k. refl); named = (λ i. refl); count = refl; work = (λ w d lt. absurd (omega (arith, lt))) })
+indexes-none claims iswcs works a b c = rw (a, b, c) (record { claim = (λ k. refl); named = (λ i. refl); nine_digits = (λ i lt. refl); count = refl; work = (λ w d lt. absurd (omega (arith, lt))) })
 
 pub history-replay : (h : List EntryValue) (session : ℕ) (calls : List CallValue) → IsHistory h → IsHistory (h ++ replay session h calls)
 history-replay h session [] is = rw (append-nil h) is

@@ -1,19 +1,21 @@
 -- what is kept beside the history, after one more entry
-use Rattle.std.proofs.Common.{◌≡◌, ◌≤◌, ◌<◌, IfSome, MatchOption, ℕ, ◌+◌, ◌-◌, ◌==◌, Bool, true, false, List, refl, sym, ap, ◌∙◌, arith, Option, Some, None, if◌then◌else◌, ◌++◌, ◌∷◌, [], count_by, add-zero, zero-add, eqb-true, eq-eqb, nat_eq, nat_lt, cond, length, slice_index_or, slice_set, slice_index, true≢false, ◌&&◌, append-nil}
+use Rattle.std.proofs.Common.{◌≡◌, ◌≤◌, ◌<◌, IfSome, IsTrue, nat_le, MatchOption, ℕ, ◌+◌, ◌-◌, ◌==◌, Bool, true, false, List, refl, sym, ap, ◌∙◌, arith, Option, Some, None, if◌then◌else◌, ◌++◌, ◌∷◌, [], count_by, add-zero, zero-add, eqb-true, eq-eqb, nat_eq, nat_lt, cond, length, slice_index_or, slice_set, slice_index, true≢false, ◌&&◌, append-nil}
 use Rattle.std.specs.Option.{option_map, option_map_or, is_some}
 use Rattle.std.specs.HashMap.{HashMap, get, Updates, IsUnchanged}
 use Rattle.std.proofs.lemmas.Grind.{common_steps}
 use Rattle.std.proofs.lemmas.List.{get_or-set_same, get_or-set_other}
 use Rattle.std.proofs.lemmas.List.Sums.{sum_by-append, sum_by-cons}
 use Rattle.work_registry.specs.declared.key.Key.{Key}
+use Rattle.cwr_field.specs.Iswc.{most_code}
 use Rattle.cwr_call.specs.CallValue.{CallValue}
-use Rattle.work_registry.specs.declared.claim.Claim.{Claim}
+use Rattle.cwr_call.specs.Lawful as lawful
+use Rattle.work_registry.specs.declared.indexes.KeptClaim.{KeptClaim}
 use Rattle.work_registry.specs.declared.indexes.KeptWork.{KeptWork}
 use Rattle.work_registry.specs.declared.reply.Reply.{Reply}
 use Rattle.work_registry.specs.declared.reply.Reply.TheVariants.{Accepted, Duplicate, Conflict, Rejected}
 use Rattle.work_registry.specs.declared.indexes.Change.{Change}
-use Rattle.work_registry.specs.Claims.{claim_from, claim_of, versions_of}
-use Rattle.work_registry.specs.Indexes.{AreIndexes, change_of, kept_work, written}
+use Rattle.work_registry.specs.Claims.{versions_of}
+use Rattle.work_registry.specs.Indexes.{AreIndexes, change_of, kept_claim, kept_from, kept_work, written}
 use Rattle.work_registry.specs.Reply.{reply_to}
 use Rattle.work_registry.specs.Rows.{Row, key_of, last_of_key, last_such, or_else, row_of, rows_of_entry, same_key}
 use Rattle.work_registry.specs.Works.{control_in, has_work, is_iswc, iswc_of, others_in, share_in, work_count, work_of_iswc}
@@ -22,16 +24,16 @@ use Rattle.work_registry.proofs.OneMoreRow.{eq-sym, sum-current-split, sum-curre
 use Rattle.work_registry.proofs.SoundRows.{IsSound, Takes, takes-from}
 
 -- one more row, at a key
-pub claim_of-push : (k : Key) (rows : List Row) (r : Row) →
-    claim_of k (rows ++ r ∷ []) ≡ (if same_key r.key k then Some (claim_from (versions_of k rows + 1) r) else claim_of k rows)
-claim_of-push k rows r = by (same_key r.key k) (last_such-push (λ x. same_key x.key k) rows r) more
+pub kept_claim-push : (k : Key) (rows : List Row) (r : Row) →
+    kept_claim k (rows ++ r ∷ []) ≡ (if same_key r.key k then Some (kept_from (versions_of k rows + 1) r) else kept_claim k rows)
+kept_claim-push k rows r = by (same_key r.key k) (last_such-push (λ x. same_key x.key k) rows r) more
   where
     more : versions_of k (rows ++ r ∷ []) ≡ versions_of k rows + (if same_key r.key k then 1 else 0)
     more = sum_by-append (λ x. if same_key x.key k then 1 else 0) rows (r ∷ []) ∙ ap (λ n. versions_of k rows + n) (zero-add (if same_key r.key k then 1 else 0))
 
     by : (b : Bool) → last_of_key k (rows ++ r ∷ []) ≡ (if b then Some r else last_of_key k rows) →
         versions_of k (rows ++ r ∷ []) ≡ versions_of k rows + (if b then 1 else 0) →
-        claim_of k (rows ++ r ∷ []) ≡ (if b then Some (claim_from (versions_of k rows + 1) r) else claim_of k rows)
+        kept_claim k (rows ++ r ∷ []) ≡ (if b then Some (kept_from (versions_of k rows + 1) r) else kept_claim k rows)
     by true p q = rw (p, q) refl
     by false p q = rw (p, q, add-zero) refl
 
@@ -157,27 +159,39 @@ named-push rows r old new kept step i = by r.iswc step ∙ sym (work_of_iswc-pus
     by None h = h i ∙ kept i
     by (Some j) h = h i ∙ ap (λ b. cond b (Some r.work) (old i)) (eq-sym j i) ∙ ap (λ o. if i == j then Some r.work else o) (kept i)
 
-pub claims-push : (rows : List Row) (r : Row) (old new : Key → Option Claim) → ((k : Key) → old k ≡ claim_of k rows) →
-    ((k : Key) → new k ≡ cond (same_key r.key k) (Some (claim_from (versions_of r.key rows + 1) r)) (old k)) →
-    (k : Key) → new k ≡ claim_of k (rows ++ r ∷ [])
-claims-push rows r old new kept step k = step k ∙ by (same_key r.key k) refl ∙ sym (claim_of-push k rows r)
+-- a row of a call has an ISWC of nine digits, or none
+pub nine_digits-push : (rows : List Row) (r : Row) → IsTrue (lawful.is_iswc r.iswc) → ((i : ℕ) → most_code < i → work_of_iswc i rows ≡ None) →
+    (i : ℕ) → most_code < i → work_of_iswc i (rows ++ r ∷ []) ≡ None
+nine_digits-push rows r few old i lt = work_of_iswc-push i rows r ∙ by r.iswc few
+  where
+    by : (o : Option ℕ) → IsTrue (lawful.is_iswc o) → (if is_iswc i o then Some r.work else work_of_iswc i rows) ≡ None
+    by None h = old i lt
+    by (Some j) h =
+        let le : j ≤ most_code = grind (arith, common_steps) in
+        let apart : (i == j) ≡ false = grind (arith, common_steps) in
+        ap (λ b. if b then Some r.work else work_of_iswc i rows) apart ∙ old i lt
+
+pub claims-push : (rows : List Row) (r : Row) (old new : Key → Option KeptClaim) → ((k : Key) → old k ≡ kept_claim k rows) →
+    ((k : Key) → new k ≡ cond (same_key r.key k) (Some (kept_from (versions_of r.key rows + 1) r)) (old k)) →
+    (k : Key) → new k ≡ kept_claim k (rows ++ r ∷ [])
+claims-push rows r old new kept step k = step k ∙ by (same_key r.key k) refl ∙ sym (kept_claim-push k rows r)
   where
     by : (b : Bool) → same_key r.key k ≡ b →
-        cond b (Some (claim_from (versions_of r.key rows + 1) r)) (old k)
-        ≡ (if b then Some (claim_from (versions_of k rows + 1) r) else claim_of k rows)
-    by true e = ap (λ n. Some (claim_from (versions_of n rows + 1) r)) (same_key-true _ _ e)
+        cond b (Some (kept_from (versions_of r.key rows + 1) r)) (old k)
+        ≡ (if b then Some (kept_from (versions_of k rows + 1) r) else kept_claim k rows)
+    by true e = ap (λ n. Some (kept_from (versions_of n rows + 1) r)) (same_key-true _ _ e)
     by false e = kept k
 
 -- what is kept after one more entry, from what the maps and the list say of the write
 pub indexes-step : {S T : Type 0} (rows : List Row) (call : CallValue) (reply : Reply) (step : Option Change)
-    (old_claims new_claims : HashMap Key Claim S) (old_iswcs new_iswcs : HashMap ℕ ℕ T) (old_works new_works : List KeptWork) →
-    IsSound rows → reply ≡ reply_to rows call → step ≡ change_of rows call reply →
+    (old_claims new_claims : HashMap Key KeptClaim S) (old_iswcs new_iswcs : HashMap ℕ ℕ T) (old_works new_works : List KeptWork) →
+    IsSound rows → IsTrue (lawful.is_iswc call.iswc) → reply ≡ reply_to rows call → step ≡ change_of rows call reply →
     AreIndexes rows (get same_key old_claims) (get nat_eq old_iswcs) old_works →
     MatchOption step (IsUnchanged old_claims new_claims) (λ s. Updates same_key old_claims new_claims (key_of call) (Some s.claim)) →
     MatchOption step (IsUnchanged old_iswcs new_iswcs) (λ s. MatchOption call.iswc (IsUnchanged old_iswcs new_iswcs) (λ i. Updates nat_eq old_iswcs new_iswcs i (Some s.claim.work))) →
     MatchOption step (new_works ≡ old_works) (λ s. new_works ≡ written s.claim.work s.work old_works) →
     AreIndexes (rows ++ rows_of_entry call reply) (get same_key new_claims) (get nat_eq new_iswcs) new_works
-indexes-step {S} {T} rows call reply step oc nc oi ni ow nw sound is e kept claims iswcs works = by reply is e
+indexes-step {S} {T} rows call reply step oc nc oi ni ow nw sound few is e kept claims iswcs works = by reply is e
   where
     same : (nc.entries ≡ oc.entries) → (ni.entries ≡ oi.entries) → nw ≡ ow → AreIndexes (rows ++ []) (get same_key nc) (get nat_eq ni) nw
     same p q r = rw (append-nil rows, p, q, r) kept
@@ -198,6 +212,7 @@ indexes-step {S} {T} rows call reply step oc nc oi ni ow nw sound is e kept clai
         record {
           claim = claims-push rows (row_of call w) (get same_key oc) (get same_key nc) kept.claim (rw (← t.1) c.0);
           named = named-push rows (row_of call w) (get nat_eq oi) (get nat_eq ni) kept.named (iswcs' w call.iswc i);
+          nine_digits = nine_digits-push rows (row_of call w) few kept.nine_digits;
           count = rw k both.0;
           work = rw k both.1;
         }
@@ -209,30 +224,30 @@ indexes-step {S} {T} rows call reply step oc nc oi ni ow nw sound is e kept clai
     by Rejected is e = same (rw e at claims) (rw e at iswcs) (rw e at works)
 
 -- the control of the other keys of a work, from that of the work and what is kept of the key
-pub control-none_of_key : (i w : ℕ) (k : Key) (rows : List Row) → None ≡ claim_of k rows → control_in i w rows ≡ others_in i w k rows
+pub control-none_of_key : (i w : ℕ) (k : Key) (rows : List Row) → None ≡ kept_claim k rows → control_in i w rows ≡ others_in i w k rows
 control-none_of_key i w k rows e = by (last_of_key k rows) refl e
   where
-    by : (o : Option Row) → last_of_key k rows ≡ o → (let n : Option Claim = None in n ≡ option_map (claim_from (versions_of k rows)) o) → control_in i w rows ≡ others_in i w k rows
+    by : (o : Option Row) → last_of_key k rows ≡ o → (let n : Option KeptClaim = None in n ≡ option_map (kept_from (versions_of k rows)) o) → control_in i w rows ≡ others_in i w k rows
     by None p e = omega (arith, sum-current-split (share_in i w) k rows, ap (λ o. option_map_or (share_in i w) o 0) p)
     by (Some r) p e = absurd (cc)
 
-pub control-some_of_key : (i w : ℕ) (k : Key) (rows : List Row) (c : Claim) → Some c ≡ claim_of k rows →
+pub control-some_of_key : (i w : ℕ) (k : Key) (rows : List Row) (c : KeptClaim) → Some c ≡ kept_claim k rows →
     control_in i w rows ≡ others_in i w k rows + (if c.work == w then slice_index c.control i else 0)
 control-some_of_key i w k rows c e = by (last_of_key k rows) refl e
   where
-    by : (o : Option Row) → last_of_key k rows ≡ o → Some c ≡ option_map (claim_from (versions_of k rows)) o →
+    by : (o : Option Row) → last_of_key k rows ≡ o → Some c ≡ option_map (kept_from (versions_of k rows)) o →
         control_in i w rows ≡ others_in i w k rows + (if c.work == w then slice_index c.control i else 0)
     by None p e = absurd (cc)
     by (Some r) p e =
-        let same : c ≡ claim_from (versions_of k rows) r = cc in
+        let same : c ≡ kept_from (versions_of k rows) r = cc in
         rw same (sum-current-split (share_in i w) k rows ∙ ap (λ o. others_in i w k rows + option_map_or (share_in i w) o 0) p)
 
-pub versions_some : (k : Key) (rows : List Row) (c : Claim) → Some c ≡ claim_of k rows → c.version ≡ versions_of k rows
+pub versions_some : (k : Key) (rows : List Row) (c : KeptClaim) → Some c ≡ kept_claim k rows → c.version ≡ versions_of k rows
 versions_some k rows c e = by (last_of_key k rows) e
   where
-    by : (o : Option Row) → Some c ≡ option_map (claim_from (versions_of k rows)) o → c.version ≡ versions_of k rows
+    by : (o : Option Row) → Some c ≡ option_map (kept_from (versions_of k rows)) o → c.version ≡ versions_of k rows
     by None e = absurd (cc)
-    by (Some r) e = let same : c ≡ claim_from (versions_of k rows) r = cc in ap (λ x. x.version) same
+    by (Some r) e = let same : c ≡ kept_from (versions_of k rows) r = cc in ap (λ x. x.version) same
 
 pub count_none : (p : Row → Bool) (xs : List Row) → last_such p xs ≡ None → count_by p xs ≡ 0
 count_none p [] e = refl
@@ -245,15 +260,15 @@ count_none p (x ∷ xs) e = by (count_none p xs) (last_such p xs) refl (p x) ref
         let own : (let n : ℕ = if p x then 1 else 0 in n ≡ 0) = ap (λ b. if b then 1 else 0) f in
         omega (arith, own, sum_by-cons (λ x. if p x then 1 else 0) x xs, rest q)
 
-pub versions_none : (k : Key) (rows : List Row) → None ≡ claim_of k rows → versions_of k rows ≡ 0
+pub versions_none : (k : Key) (rows : List Row) → None ≡ kept_claim k rows → versions_of k rows ≡ 0
 versions_none k rows e = by (last_of_key k rows) refl e
   where
-    by : (o : Option Row) → last_of_key k rows ≡ o → (let n : Option Claim = None in n ≡ option_map (claim_from (versions_of k rows)) o) → versions_of k rows ≡ 0
+    by : (o : Option Row) → last_of_key k rows ≡ o → (let n : Option KeptClaim = None in n ≡ option_map (kept_from (versions_of k rows)) o) → versions_of k rows ≡ 0
     by None q e = count_none (λ r. same_key r.key k) rows q
     by (Some r) q e = absurd (cc)
 
 -- making room changes nothing
-pub indexes-room : {S T : Type 0} (rows : List Row) (a a' : HashMap Key Claim S) (b b' : HashMap ℕ ℕ T) (w w' : List KeptWork) →
+pub indexes-room : {S T : Type 0} (rows : List Row) (a a' : HashMap Key KeptClaim S) (b b' : HashMap ℕ ℕ T) (w w' : List KeptWork) →
     AreIndexes rows (get same_key a) (get nat_eq b) w → IsUnchanged a a' → IsUnchanged b b' → w' ≡ w → AreIndexes rows (get same_key a') (get nat_eq b') w'
 indexes-room rows a a' b b' w w' kept p q r = rw (p, q, r) kept
 

@@ -5,7 +5,7 @@ use Rattle.std.proofs.lemmas.List.Sums.{sum_by-cons, count_by-le-length}
 use Rattle.std.specs.Option.{option_map, is_some}
 use Rattle.work_registry.specs.declared.key.Key.{Key}
 use Rattle.cwr_call.specs.declared.transaction_fault.Fault.{Fault}
-use Rattle.work_registry.specs.declared.claim.Claim.{Claim}
+use Rattle.work_registry.specs.declared.indexes.KeptClaim.{KeptClaim}
 use Rattle.work_registry.specs.declared.indexes.KeptWork.{KeptWork}
 use Rattle.work_registry.specs.declared.indexes.Change.{Change}
 use Rattle.cwr_record.specs.declared.works.WorkKind.{WorkKind}
@@ -14,9 +14,9 @@ use Rattle.cwr_call.specs.CallValue.{CallValue}
 use Rattle.work_registry.specs.EntryValue.{EntryValue}
 use Rattle.work_registry.specs.declared.reply.Reply.{Reply}
 use Rattle.work_registry.specs.declared.reply.Reply.TheVariants.{Accepted, Duplicate, Conflict, Rejected}
-use Rattle.work_registry.specs.Claims.{claim_from, claim_of, versions_of}
+use Rattle.work_registry.specs.Claims.{versions_of}
 use Rattle.work_registry.specs.History.{IsHistory, IsNamedOnce, KeepsNames}
-use Rattle.work_registry.specs.Indexes.{change_of, kept_work, newer}
+use Rattle.work_registry.specs.Indexes.{change_of, kept_claim, kept_from, kept_work, newer}
 use Rattle.work_registry.specs.Numbers.{IsNumbered, most_entries}
 use Rattle.work_registry.specs.Reply.{clashes, is_over, most_control, reply_after, reply_after_row, reply_for_work, reply_to, reply_unless, work_for}
 use Rattle.work_registry.specs.Rows.{Row, current, key_of, last_of_key, row_of, rows_of, rows_of_entry, same_key}
@@ -208,25 +208,25 @@ step-iswc rows call w = iswc_of-push w rows (row_of call w) ∙ ap (λ b. if b &
     by None = refl
     by (Some i) = refl
 
-pub last_none : (k : Key) (rows : List Row) → None ≡ claim_of k rows → last_of_key k rows ≡ None
+pub last_none : (k : Key) (rows : List Row) → None ≡ kept_claim k rows → last_of_key k rows ≡ None
 last_none k rows e = by (last_of_key k rows) e
   where
-    by : (o : Option Row) → (let n : Option Claim = None in n ≡ option_map (claim_from (versions_of k rows)) o) → o ≡ None
+    by : (o : Option Row) → (let n : Option KeptClaim = None in n ≡ option_map (kept_from (versions_of k rows)) o) → o ≡ None
     by None e = refl
     by (Some r) e = absurd (cc)
 
-pub reply-new : (rows : List Row) (call : CallValue) → call.faults ≡ [] → None ≡ claim_of (key_of call) rows → reply_to rows call ≡ reply_for_work rows call (work_for call.iswc rows)
+pub reply-new : (rows : List Row) (call : CallValue) → call.faults ≡ [] → None ≡ kept_claim (key_of call) rows → reply_to rows call ≡ reply_for_work rows call (work_for call.iswc rows)
 reply-new rows call f e =
     ap (λ fs. reply_unless fs rows call) f ∙ ap (λ o. reply_after o rows call) (last_none (key_of call) rows e)
 
-pub reply-old : (rows : List Row) (call : CallValue) (c : Claim) → call.faults ≡ [] → Some c ≡ claim_of (key_of call) rows → call.kind ≡ Rev →
+pub reply-old : (rows : List Row) (call : CallValue) (c : KeptClaim) → call.faults ≡ [] → Some c ≡ kept_claim (key_of call) rows → call.kind ≡ Rev →
     reply_to rows call ≡ (if clashes call.iswc c.work rows then Conflict c.work else reply_for_work rows call c.work)
 reply-old rows call c f e k = ap (λ fs. reply_unless fs rows call) f ∙ by (last_of_key (key_of call) rows) e
   where
-    by : (o : Option Row) → Some c ≡ option_map (claim_from (versions_of (key_of call) rows)) o → reply_after o rows call ≡ (if clashes call.iswc c.work rows then Conflict c.work else reply_for_work rows call c.work)
+    by : (o : Option Row) → Some c ≡ option_map (kept_from (versions_of (key_of call) rows)) o → reply_after o rows call ≡ (if clashes call.iswc c.work rows then Conflict c.work else reply_for_work rows call c.work)
     by None e = absurd (cc)
     by (Some r) e =
-        let same : c ≡ claim_from (versions_of (key_of call) rows) r = cc in
+        let same : c ≡ kept_from (versions_of (key_of call) rows) r = cc in
         let w : r.work ≡ c.work = ap (λ x. x.work) (sym same) in
         ap (λ d. reply_after_row d r rows call) k ∙ ap (λ n. if clashes call.iswc n rows then Conflict n else reply_for_work rows call n) w
 

@@ -10,12 +10,12 @@ ghost use Rattle.work_registry.specs.History.{IsHistory, IsShared, IsNamedOnce};
 ghost use Rattle.work_registry.specs.Replay.{is_opening};
 ghost use Rattle.work_registry.specs.Register.{opened};
 ghost use Rattle.work_registry.specs.Refusals.{is_full};
-ghost use Rattle.work_registry.specs.Indexes.{decision_on};
+ghost use Rattle.work_registry.specs.Indexes.{decision_on, kept_claim};
 ghost use Rattle.work_registry.specs.declared.refused.WhyRefused.TheVariants.{Memory};
 
 use crate::claim::Claim;
 use crate::entry::Entry;
-use crate::indexes::{Decision, Indexes};
+use crate::indexes::{Decision, Indexes, KeptClaim};
 use crate::key::Key;
 use crate::refused::{Refused, WhyRefused};
 use crate::reply::Reply;
@@ -122,8 +122,7 @@ impl<A: Allocator + Copy + Drop> Book<A> {
                 why: WhyRefused::Memory,
             });
         }
-        self.kept
-            .store(deciding::key(&call), call.iswc(), decision.change);
+        self.kept.store(deciding::key(&call), deciding::iswc(&call), decision.change);
         self.opening = is_still_opening(self.opening, session);
         store_entry(
             &mut self.history,
@@ -192,15 +191,16 @@ impl<A: Allocator + Copy + Drop> Book<A> {
     pub fn claim(&self, submitter: &[u8; 11], number: &[u8; 14]) -> Option<Claim>
         ensures { result ≡ claim_of (record { submitter = submitter.now; number = number.now }) (rows_of self.now.history) }
     {
-        self.claim_under(&Key {
+        let kept = self.claim_under(&Key {
             submitter: *submitter,
             number: *number,
-        })
+        })?;
+        Some(kept.told())
     }
 
-    /// The claim under a key.
-    fn claim_under(&self, key: &Key) -> Option<Claim>
-        ensures { result ≡ claim_of key.now (rows_of self.now.history) }
+    /// What is kept of the claim under a key.
+    fn claim_under(&self, key: &Key) -> Option<KeptClaim>
+        ensures { result ≡ kept_claim key.now (rows_of self.now.history) }
     {
         self.kept.claims.get(key).copied()
     }
@@ -209,6 +209,9 @@ impl<A: Allocator + Copy + Drop> Book<A> {
     pub fn work_of_iswc(&self, iswc: u64) -> Option<u32>
         ensures { result ≡ work_of_iswc iswc (rows_of self.now.history) }
     {
+        // Looking at it tells the check what holds in every book.
+        let _ = &self.history;
+        let iswc = u32::try_from(iswc).ok()?;
         self.kept.iswcs.get(&iswc).copied()
     }
 
@@ -217,7 +220,7 @@ impl<A: Allocator + Copy + Drop> Book<A> {
     pub fn control_of(&self, work: u32) -> [u64; 3]
         ensures { result ≡ control_of work (rows_of self.now.history) }
     {
-        self.work(work).control
+        self.work(work).control()
     }
 }
 

@@ -1,6 +1,7 @@
-ghost use Rattle.std.specs.Prelude.{◌≡◌, ◌≤◌, ◌<◌, ◌+◌, ◌-◌, OnOk, vec_len, vec_capacity, nat_eq, Some, MatchOption, IfSome};
+ghost use Rattle.std.specs.Prelude.{◌≡◌, ◌≤◌, ◌<◌, ◌+◌, ◌-◌, OnOk, vec_len, vec_capacity, nat_eq, slice_index, Some, MatchOption, IfSome};
 ghost use Rattle.indexmap.specs.IndexMap.{get, IsUnchanged, Updates, spare};
 ghost use Rattle.work_registry.specs.Rows.{same_key};
+ghost use Rattle.work_registry.specs.Reply.{most_control};
 ghost use Rattle.work_registry.specs.Indexes.{written};
 
 use crate::claim::Claim;
@@ -10,17 +11,25 @@ use indexmap::IndexMap;
 use std::alloc::{AllocError, Allocator};
 use std::hash::{BuildHasherDefault, FoldHasher};
 
-/// What a book keeps of a work: its ISWC and its control of each right.
+/// What a book keeps of a claim. No control that it keeps is above 10,006.
+#[derive(Clone, Copy, Debug, PartialEq, Eq)]
+pub(crate) struct KeptClaim {
+    pub(crate) work: u32,
+    pub(crate) version: u32,
+    pub(crate) control: [u16; 3],
+}
+
+/// What a book keeps of a work: the nine digits of its ISWC as a number, and its control of each right, at most 10,006.
 #[derive(Clone, Copy, Debug, PartialEq, Eq)]
 pub(crate) struct KeptWork {
-    pub(crate) iswc: Option<u64>,
-    pub(crate) control: [u64; 3],
+    pub(crate) iswc: Option<u32>,
+    pub(crate) control: [u16; 3],
 }
 
 /// What an accepted call leaves: the claim of its key, and what is kept of its work.
 #[derive(Clone, Copy)]
 pub(crate) struct Change {
-    pub(crate) claim: Claim,
+    pub(crate) claim: KeptClaim,
     pub(crate) work: KeptWork,
 }
 
@@ -35,11 +44,52 @@ pub(crate) struct Decision {
 #[derive(Drop)]
 pub(crate) struct Indexes<A: Allocator + Copy + Drop> {
     /// The claim in force under each key.
-    pub(crate) claims: IndexMap<Key, Claim, BuildHasherDefault<FoldHasher>, A>,
+    pub(crate) claims: IndexMap<Key, KeptClaim, BuildHasherDefault<FoldHasher>, A>,
     /// The work that has each ISWC.
-    pub(crate) iswcs: IndexMap<u64, u32, BuildHasherDefault<FoldHasher>, A>,
+    pub(crate) iswcs: IndexMap<u32, u32, BuildHasherDefault<FoldHasher>, A>,
     /// The works, work 1 first.
     pub(crate) works: Vec<KeptWork, A>,
+}
+
+impl KeptClaim {
+    /// The claim as it is told.
+    pub(crate) fn told(self) -> Claim
+        ensures { result ≡ record { work = self.work; version = self.version; control = self.control } }
+    {
+        Claim {
+            work: self.work,
+            version: self.version,
+            control: wide(self.control),
+        }
+    }
+}
+
+impl KeptWork {
+    /// Its control of each right as it is told.
+    pub(crate) fn control(self) -> [u64; 3]
+        ensures { result ≡ self.control }
+    {
+        wide(self.control)
+    }
+}
+
+/// The same controls, as they are told.
+fn wide(control: [u16; 3]) -> [u64; 3]
+    ensures { result ≡ control }
+{
+    let [performing, mechanical, synchronization] = control;
+    [performing as u64, mechanical as u64, synchronization as u64]
+}
+
+/// The same controls, as they are kept.
+pub(crate) fn narrow(control: [u64; 3]) -> [u16; 3]
+    requires performing { slice_index control 0 ≤ most_control }
+    requires mechanical { slice_index control 1 ≤ most_control }
+    requires synchronization { slice_index control 2 ≤ most_control }
+    ensures { result ≡ control }
+{
+    let [performing, mechanical, synchronization] = control;
+    [performing as u16, mechanical as u16, synchronization as u16]
 }
 
 impl<A: Allocator + Copy + Drop> Indexes<A> {
@@ -59,7 +109,7 @@ impl<A: Allocator + Copy + Drop> Indexes<A> {
     }
 
     /// Writes what a call leaves, if it leaves anything. No memory is asked for.
-    pub(crate) fn store(&mut self, key: Key, iswc: Option<u64>, change: Option<Change>)
+    pub(crate) fn store(&mut self, key: Key, iswc: Option<u32>, change: Option<Change>)
         requires claims_room { 0 < spare self.old.claims }
         requires iswcs_room { 0 < spare self.old.iswcs }
         requires works_room { vec_len self.old.works < vec_capacity self.old.works }
@@ -77,7 +127,7 @@ impl<A: Allocator + Copy + Drop> Indexes<A> {
         }
     }
 
-    fn store_change(&mut self, key: Key, iswc: Option<u64>, change: Change)
+    fn store_change(&mut self, key: Key, iswc: Option<u32>, change: Change)
         requires claims_room { 0 < spare self.old.claims }
         requires iswcs_room { 0 < spare self.old.iswcs }
         requires works_room { vec_len self.old.works < vec_capacity self.old.works }
@@ -97,8 +147,8 @@ impl<A: Allocator + Copy + Drop> Indexes<A> {
 
 /// Writes that a work has the ISWC, if there is one.
 fn store_iswc<A: Allocator + Copy + Drop>(
-    iswcs: &mut IndexMap<u64, u32, BuildHasherDefault<FoldHasher>, A>,
-    iswc: Option<u64>,
+    iswcs: &mut IndexMap<u32, u32, BuildHasherDefault<FoldHasher>, A>,
+    iswc: Option<u32>,
     work: u32,
 )
     requires { 0 < spare iswcs.old }

@@ -1,14 +1,13 @@
-ghost use Rattle.std.specs.Prelude.{◌≡◌, ◌≤◌, ◌||◌, ◌+◌, slice_index, nat_lt};
+ghost use Rattle.std.specs.Prelude.{◌≡◌, ◌≤◌, ◌||◌, ◌+◌, slice_index, nat_lt, IsTrue};
+ghost use Rattle.cwr_call.specs.Lawful.{is_iswc};
 ghost use Rattle.work_registry.specs.Rows.{rows_of, key_of};
 ghost use Rattle.work_registry.specs.Works.{others_of, work_count};
-ghost use Rattle.work_registry.specs.Claims.{claim_of};
 ghost use Rattle.work_registry.specs.Reply.{reply_to, reply_for_work, is_over, work_for, clashes, differs, most_control};
 ghost use Rattle.work_registry.specs.Numbers.{most_entries};
-ghost use Rattle.work_registry.specs.Indexes.{kept_work, change_of, decision_on, newer};
+ghost use Rattle.work_registry.specs.Indexes.{kept_claim, kept_work, change_of, decision_on, newer};
 
 use super::Book;
-use crate::claim::Claim;
-use crate::indexes::{Change, Decision, KeptWork};
+use crate::indexes::{Change, Decision, KeptClaim, KeptWork, narrow};
 use crate::key::Key;
 use crate::reply::Reply;
 use cwr_call::{Call, WorkKind};
@@ -28,9 +27,9 @@ impl<A: Allocator + Copy + Drop> Book<A> {
     }
 
     /// The reply to a call, from the claim under its key.
-    fn reply(&self, call: &Call<A>, key: &Key, claim: Option<Claim>) -> Reply
+    fn reply(&self, call: &Call<A>, key: &Key, claim: Option<KeptClaim>) -> Reply
         requires own { key.now ≡ key_of call.now }
-        requires known { claim ≡ claim_of (key_of call.now) (rows_of self.now.history) }
+        requires known { claim ≡ kept_claim (key_of call.now) (rows_of self.now.history) }
         ensures { result ≡ reply_to (rows_of self.now.history) call.now }
     {
         if !call.faults().is_empty() {
@@ -52,9 +51,15 @@ impl<A: Allocator + Copy + Drop> Book<A> {
     }
 
     /// The reply to a call for a work: it is accepted, unless a right would be owned beyond the whole.
-    fn reply_for_work(&self, call: &Call<A>, key: &Key, claim: Option<Claim>, work: u32) -> Reply
+    fn reply_for_work(
+        &self,
+        call: &Call<A>,
+        key: &Key,
+        claim: Option<KeptClaim>,
+        work: u32,
+    ) -> Reply
         requires own { key.now ≡ key_of call.now }
-        requires known { claim ≡ claim_of (key_of call.now) (rows_of self.now.history) }
+        requires known { claim ≡ kept_claim (key_of call.now) (rows_of self.now.history) }
         ensures { result ≡ reply_for_work (rows_of self.now.history) call.now work }
     {
         // Looking at it tells the check what holds in every book.
@@ -72,8 +77,8 @@ impl<A: Allocator + Copy + Drop> Book<A> {
     }
 
     /// Whether some right of a work would be owned beyond the whole, by a call under a key, whose claim is given.
-    fn is_over(&self, key: &Key, claim: Option<Claim>, work: u32, control: [u64; 3]) -> bool
-        requires { claim ≡ claim_of key.now (rows_of self.now.history) }
+    fn is_over(&self, key: &Key, claim: Option<KeptClaim>, work: u32, control: [u64; 3]) -> bool
+        requires { claim ≡ kept_claim key.now (rows_of self.now.history) }
         ensures { result ≡ is_over work key.now control (rows_of self.now.history) }
     {
         // Looking at it tells the check what holds in every book.
@@ -82,11 +87,11 @@ impl<A: Allocator + Copy + Drop> Book<A> {
     }
 
     /// The control of a work under other keys than one, whose claim is given.
-    fn others(&self, key: &Key, claim: Option<Claim>, work: u32) -> [u64; 3]
-        requires { claim ≡ claim_of key.now (rows_of self.now.history) }
+    fn others(&self, key: &Key, claim: Option<KeptClaim>, work: u32) -> [u16; 3]
+        requires { claim ≡ kept_claim key.now (rows_of self.now.history) }
         ensures { result ≡ others_of work key.now (rows_of self.now.history) }
     {
-        let all = self.control_of(work);
+        let all = self.work(work).control;
         match claim {
             Some(kept) => {
                 if kept.work == work {
@@ -163,11 +168,11 @@ impl<A: Allocator + Copy + Drop> Book<A> {
         &self,
         call: &Call<A>,
         key: &Key,
-        claim: Option<Claim>,
+        claim: Option<KeptClaim>,
         reply: Reply,
     ) -> Option<Change>
         requires own { key.now ≡ key_of call.now }
-        requires known { claim ≡ claim_of (key_of call.now) (rows_of self.now.history) }
+        requires known { claim ≡ kept_claim (key_of call.now) (rows_of self.now.history) }
         requires decided { reply ≡ reply_to (rows_of self.now.history) call.now }
         ensures { result ≡ change_of (rows_of self.now.history) call.now reply }
     {
@@ -176,11 +181,11 @@ impl<A: Allocator + Copy + Drop> Book<A> {
         let Reply::Accepted { work, version } = reply else {
             return None;
         };
-        let control = call.control();
+        let control = narrow(call.control());
         let others = self.others(key, claim, work);
-        let iswc = newer(call.iswc(), self.work(work).iswc);
+        let iswc = newer(iswc(call), self.work(work).iswc);
         Some(Change {
-            claim: Claim {
+            claim: KeptClaim {
                 work,
                 version,
                 control,
@@ -207,20 +212,31 @@ pub(super) fn key<A: Allocator>(call: &Call<A>) -> Key
     }
 }
 
+/// The ISWC of a call, as it is kept.
+pub(super) fn iswc<A: Allocator>(call: &Call<A>) -> Option<u32>
+    ensures value { result ≡ call.now.iswc }
+    ensures nine_digits { IsTrue (is_iswc result) }
+{
+    match call.iswc() {
+        None => None,
+        Some(iswc) => Some(iswc as u32),
+    }
+}
+
 /// Whether the controls of some right are together beyond the whole.
-fn are_over_whole(others: [u64; 3], control: [u64; 3]) -> bool
+fn are_over_whole(others: [u16; 3], control: [u64; 3]) -> bool
     requires performing { slice_index others 0 ≤ most_control }
     requires mechanical { slice_index others 1 ≤ most_control }
     requires synchronization { slice_index others 2 ≤ most_control }
     ensures { result ≡ (nat_lt most_control (slice_index others 0 + slice_index control 0) || (nat_lt most_control (slice_index others 1 + slice_index control 1) || nat_lt most_control (slice_index others 2 + slice_index control 2))) }
 {
-    control[0] > MOST_WHOLE - others[0]
-        || control[1] > MOST_WHOLE - others[1]
-        || control[2] > MOST_WHOLE - others[2]
+    control[0] > MOST_WHOLE - others[0] as u64
+        || control[1] > MOST_WHOLE - others[1] as u64
+        || control[2] > MOST_WHOLE - others[2] as u64
 }
 
 /// The ISWC of a call, else the one that its work had.
-fn newer(iswc: Option<u64>, kept: Option<u64>) -> Option<u64>
+fn newer(iswc: Option<u32>, kept: Option<u32>) -> Option<u32>
     ensures { result ≡ newer iswc kept }
 {
     match iswc {
@@ -240,11 +256,11 @@ fn is_other_work(work: u32, found: Option<u32>) -> bool
 }
 
 /// Whether there is an ISWC and it is another.
-fn is_other_iswc(iswc: u64, found: Option<u64>) -> bool
+fn is_other_iswc(iswc: u64, found: Option<u32>) -> bool
     ensures { result ≡ differs iswc found }
 {
     match found {
         None => false,
-        Some(found) => found != iswc,
+        Some(found) => found as u64 != iswc,
     }
 }

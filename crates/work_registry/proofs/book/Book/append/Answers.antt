@@ -37,11 +37,12 @@ invariant_of-self-2 g c =
     let is : reply ≡ reply_to (rows_of h) c.args.call = ap (λ d. d.reply) decided in
     let room = indexes-room (rows_of h) c.self.inside.kept.claims c.make_room.new.self.claims c.self.inside.kept.iswcs c.make_room.new.self.iswcs c.self.inside.kept.works.items c.make_room.new.self.works.items
     c.self.invariant.1 c.make_room.ensures.claims c.make_room.ensures.iswcs c.make_room.ensures.works in
+    let nine_digits = rw c.iswc.ensures.value at c.iswc.ensures.nine_digits in
     let claims = rw c.key.ensures at c.store.ensures.claims in
     let iswcs = rw c.iswc.ensures.value at c.store.ensures.iswcs in
     let kept : AreIndexes (rows_of h ++ rows_of_entry c.args.call reply) (get same_key c.store.new.self.claims) (get nat_eq c.store.new.self.iswcs) c.store.new.self.works.items =
     indexes-step (rows_of h) c.args.call reply c.args.decision.change c.make_room.new.self.claims c.store.new.self.claims c.make_room.new.self.iswcs c.store.new.self.iswcs c.make_room.new.self.works.items c.store.new.self.works.items
-    (sound h c.self.invariant.0.lawful) is (decided-change (rows_of h) c.args.call c.args.decision decided) room claims iswcs c.store.ensures.works in
+    (sound h c.self.invariant.0.lawful) nine_digits is (decided-change (rows_of h) c.args.call c.args.decision decided) room claims iswcs c.store.ensures.works in
     let kept' : AreIndexes (rows_of (h ++ e ∷ [])) (get same_key c.store.new.self.claims) (get nat_eq c.store.new.self.iswcs) c.store.new.self.works.items = rw (rows_of-push h e) kept in
     let opening = c.is_still_opening-self-inside.ensures ∙ ap (λ b. b && (c.args.session == 0)) c.self.invariant.2 ∙ sym (opening-push h e) in
     rw grown (book-push h e c.self.inside.limit c.self.invariant.0 room_left is, kept', opening)

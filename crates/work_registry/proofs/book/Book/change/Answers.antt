@@ -8,19 +8,19 @@ use Rattle.work_registry.proofs.book.Book.change.Goals as goal
 pub overflow_add-result : goal.overflow_add-result
 overflow_add-result g c =
     let s : IsSound (rows_of c.args.self.now.history) = rw (← c.self.view_is) (sound c.self.inside.history.items c.self.invariant.0.lawful) in
-    omega (arith, control-fits 0 (rows_of c.args.self.now.history) c.args.call.now c.in-Accepted.work c.in-Accepted.version c.args.key.now c.others-others.result c.control-control.result s (omega arith) (sym c.requires.decided ∙ c.in-Accepted.is) c.requires.own c.others-others.ensures c.control-control.ensures.value)
+    omega (arith, control-fits 0 (rows_of c.args.self.now.history) c.args.call.now c.in-Accepted.work c.in-Accepted.version c.args.key.now c.others-others.result c.narrow-control.result s (omega arith) (sym c.requires.decided ∙ c.in-Accepted.is) c.requires.own c.others-others.ensures (c.narrow-control.ensures ∙ c.control.ensures.value))
 
 pub overflow_add-result-2 : goal.overflow_add-result-2
 overflow_add-result-2 g c =
     let s : IsSound (rows_of c.args.self.now.history) = rw (← c.self.view_is) (sound c.self.inside.history.items c.self.invariant.0.lawful) in
-    omega (arith, control-fits 1 (rows_of c.args.self.now.history) c.args.call.now c.in-Accepted.work c.in-Accepted.version c.args.key.now c.others-others.result c.control-control.result s (omega arith) (sym c.requires.decided ∙ c.in-Accepted.is) c.requires.own c.others-others.ensures c.control-control.ensures.value)
+    omega (arith, control-fits 1 (rows_of c.args.self.now.history) c.args.call.now c.in-Accepted.work c.in-Accepted.version c.args.key.now c.others-others.result c.narrow-control.result s (omega arith) (sym c.requires.decided ∙ c.in-Accepted.is) c.requires.own c.others-others.ensures (c.narrow-control.ensures ∙ c.control.ensures.value))
 
 pub overflow_add-result-3 : goal.overflow_add-result-3
 overflow_add-result-3 g c =
     let s : IsSound (rows_of c.args.self.now.history) = rw (← c.self.view_is) (sound c.self.inside.history.items c.self.invariant.0.lawful) in
-    omega (arith, control-fits 2 (rows_of c.args.self.now.history) c.args.call.now c.in-Accepted.work c.in-Accepted.version c.args.key.now c.others-others.result c.control-control.result s (omega arith) (sym c.requires.decided ∙ c.in-Accepted.is) c.requires.own c.others-others.ensures c.control-control.ensures.value)
+    omega (arith, control-fits 2 (rows_of c.args.self.now.history) c.args.call.now c.in-Accepted.work c.in-Accepted.version c.args.key.now c.others-others.result c.narrow-control.result s (omega arith) (sym c.requires.decided ∙ c.in-Accepted.is) c.requires.own c.others-others.ensures (c.narrow-control.ensures ∙ c.control.ensures.value))
 
 pub returns : goal.returns
 returns g c =
-    rw c.in-Accepted.is (change-is (rows_of c.args.self.now.history) c.args.call.now c.in-Accepted.work c.in-Accepted.version c.args.key.now c.others-others.result c.control-control.result c.newer-iswc.result c.iswc.result c.work.result
-    c.requires.own c.others-others.ensures c.control-control.ensures.value c.newer-iswc.ensures c.iswc.ensures.value c.work.ensures)
+    rw c.in-Accepted.is (change-is (rows_of c.args.self.now.history) c.args.call.now c.in-Accepted.work c.in-Accepted.version c.args.key.now c.others-others.result c.narrow-control.result c.newer-iswc.result c.iswc.result c.work.result
+    c.requires.own c.others-others.ensures (c.narrow-control.ensures ∙ c.control.ensures.value) c.newer-iswc.ensures c.iswc.ensures.value c.work.ensures)
