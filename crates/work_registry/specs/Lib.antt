@@ -2,6 +2,7 @@ pub mod EntryValue
 pub mod BookValue
 pub mod Refusals
 pub mod Rows
+pub mod KeyWrites
 pub mod Works
 pub mod Claims
 pub mod Reply
