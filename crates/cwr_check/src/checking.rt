@@ -1,13 +1,17 @@
-ghost use Rattle.std.specs.Prelude.{◌≡◌, IfOk, IsTrue};
+ghost use Rattle.std.specs.Prelude.{◌≡◌, ◌+◌, ◌≤◌, ◌<◌, ℕ, List, true, false, length, IfOk, IfErr, IfSome, IsErrOf, IsTrue};
 ghost use Rattle.std.specs.Str.Lines.{lines};
+ghost use Rattle.byte_streams.specs.GivenBytes.{HasGiven};
 ghost use Rattle.cwr_call.specs.Lawful.{is_clean};
 ghost use Rattle.cwr_grammar.specs.Faults.{IsLeastFault};
-ghost use Rattle.cwr_grammar.specs.File.{File, IsFile};
-ghost use Rattle.cwr_check.specs.CheckText.{IsCheck, IsCheckOfFault, submitter_of};
+ghost use Rattle.cwr_source.specs.Input.{IsInput, IsUnjudged};
+ghost use Rattle.cwr_check.specs.CheckText.{IsCheck, IsCheckOfFault, IsCheckOfFile};
 
 use crate::lines_so_far::LinesSoFar;
+use byte_streams::{ReadRefused, Source};
 use cwr_field::Memory;
 use cwr_grammar::{FileRefusal, file_header, visit_file};
+use cwr_record::Header;
+use cwr_source::{SourceFile, SourceRefused};
 use std::alloc::{Allocator, Global};
 
 /// What a check found in a file.
@@ -30,20 +34,75 @@ pub struct Checked<A: Allocator = Global> {
 pub fn check_text<A: Allocator + Copy>(alloc: A, bytes: &[u8]) -> Result<Checked<A>, Memory>
     ensures { IfOk result (λ checked. IsCheck (lines bytes.now) checked.text.items checked.clean) }
 {
-    let mut told = LinesSoFar::new(alloc, submitter_of(bytes));
+    let mut told = LinesSoFar::new(alloc, submitter_of(&file_header(bytes)));
     match visit_file(bytes, &mut told) {
         Ok(_) => Ok(told.finish()?),
-        Err(FileRefusal::Fault { number, line }) => check_of_fault(alloc, bytes, number, line),
+        Err(FileRefusal::Fault { number, line }) => check_of_fault(alloc, number, line),
         Err(FileRefusal::Memory) => Err(Memory),
     }
 }
 
-/// The submitter of a file, or blanks where the text is none.
-fn submitter_of(bytes: &[u8]) -> [u8; 11]
-    ensures clean { IsTrue (is_clean result) }
-    ensures submitter { (f : File) → IsFile (lines bytes.now) f → result ≡ submitter_of f }
+/// Checks the file of a source as [`check_text`] does, and holds no more of it than a window of `room` bytes, which grows
+/// only for a longer line.
+///
+/// At most `limit` bytes are taken, in at most two reads more than that; a reader that tells its bytes gave the first of
+/// them and holds the others. A fault is told once the file was read to its end.
+pub fn check_source<R: Source, A: Allocator + Copy>(
+    alloc: A,
+    reader: &mut R,
+    limit: usize,
+    room: usize,
+) -> Result<Checked<A>, ReadRefused>
+    requires going { R.has_failed reader.old ≡ false }
+    requires limit { limit < 4611686018427387904 }
+    ensures told { IfOk result (λ checked. (input : List ℕ) × IsInput limit (R.left reader.old) input × IsCheck (lines input) checked.text.items checked.clean) }
+    ensures too_long { IsErrOf result ReadRefused.TooLong → IfSome (R.left reader.old) (λ bytes. limit < length bytes) }
+    ensures failed { IsErrOf result ReadRefused.Read → R.has_failed reader.new ≡ true }
+    ensures read_on { HasGiven (R.left reader.old) (R.left reader.new) }
+    ensures few_reads { R.reads reader.new ≤ R.reads reader.old + limit + 2 }
 {
-    match file_header(bytes) {
+    match check_of_file(alloc, reader, limit, room) {
+        Ok(checked) => Ok(checked),
+        Err(SourceRefused::Fault { number, line }) => match check_of_fault(alloc, number, line) {
+            Ok(checked) => Ok(checked),
+            Err(_) => Err(ReadRefused::Memory),
+        },
+        Err(SourceRefused::Memory) => Err(ReadRefused::Memory),
+        Err(SourceRefused::Read) => Err(ReadRefused::Read),
+        Err(SourceRefused::TooLong) => Err(ReadRefused::TooLong),
+    }
+}
+
+/// What is told of the file of a source that is well-formed.
+fn check_of_file<R: Source, A: Allocator + Copy>(
+    alloc: A,
+    reader: &mut R,
+    limit: usize,
+    room: usize,
+) -> Result<Checked<A>, SourceRefused>
+    requires going { R.has_failed reader.old ≡ false }
+    requires limit { limit < 4611686018427387904 }
+    ensures told { IfOk result (λ checked. (input : List ℕ) × IsInput limit (R.left reader.old) input × IsCheckOfFile (lines input) checked.text.items checked.clean) }
+    ensures refused { IfErr result (IsUnjudged limit (R.left reader.old) (R.has_failed reader.new)) }
+    ensures read_on { HasGiven (R.left reader.old) (R.left reader.new) }
+    ensures few_reads { R.reads reader.new ≤ R.reads reader.old + limit + 2 }
+{
+    let file = SourceFile::open(alloc, reader, limit, room)?;
+    let mut told = LinesSoFar::new(alloc, submitter_of(&file.header()));
+    file.visit(reader, &mut told)?;
+    match told.finish() {
+        Ok(checked) => Ok(checked),
+        Err(_) => Err(SourceRefused::Memory),
+    }
+}
+
+/// The submitter that a header tells, or blanks where there is none.
+fn submitter_of(header: &Option<Header>) -> [u8; 11]
+    requires { IfSome header.now (λ h. IsTrue (is_clean h.sender)) }
+    ensures clean { IsTrue (is_clean result) }
+    ensures submitter { IfSome header.now (λ h. result ≡ h.sender) }
+{
+    match header {
         Some(header) => header.sender,
         None => [b' '; 11],
     }
@@ -52,12 +111,10 @@ fn submitter_of(bytes: &[u8]) -> [u8; 11]
 /// What is told of a file that has a fault.
 fn check_of_fault<A: Allocator + Copy>(
     alloc: A,
-    bytes: &[u8],
     number: u8,
     line: u64,
 ) -> Result<Checked<A>, Memory>
-    requires { IsLeastFault (lines bytes.now) line number }
-    ensures { IfOk result (λ checked. IsCheckOfFault (lines bytes.now) checked.text.items checked.clean) }
+    ensures { IfOk result (λ checked. (text : List (List ℕ)) → IsLeastFault text line number → IsCheckOfFault text checked.text.items checked.clean) }
 {
     let text = format!(in alloc; "refused F{number} at line {line}\n")?;
     Ok(Checked {

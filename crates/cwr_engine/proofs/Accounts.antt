@@ -19,12 +19,13 @@ use Rattle.work_registry.specs.EntryValue.{EntryValue}
 use Rattle.work_registry.specs.Replay.{calls_of}
 use Rattle.work_registry.specs.Told.{status_in}
 use Rattle.cwr_engine.specs.Account.{most, Ends, Account, IsRead, IsMadeOf, IsMadeOfAll, Gives}
+use Rattle.cwr_source.specs.Input.{IsUnjudged}
 use Rattle.cwr_source.specs.declared.refused.SourceRefused.{SourceRefused}
 use Rattle.cwr_source.specs.declared.refused.SourceRefused.TheVariants as unjudged
 use Rattle.cwr_engine.specs.Causes.{IsCause, outcome_of}
 use Rattle.cwr_engine.specs.Handing.{Entries, AreAnswered, IsWorked}
 use Rattle.cwr_engine.specs.Items.{item_of, items_of, calls_in}
-use Rattle.cwr_engine.specs.Judged.{JudgedValue, judged_of, AreJudged, IsUnjudged, WasJudged}
+use Rattle.cwr_engine.specs.Judged.{JudgedValue, judged_of, AreJudged, WasJudged}
 use Rattle.cwr_engine.specs.declared.outcome.FileOutcome.{FileOutcome}
 use Rattle.cwr_engine.specs.declared.outcome.FileOutcome.TheVariants.{Acked, Refused, Stopped}
 use Rattle.cwr_engine.specs.declared.outcome.Why.{Why}

@@ -1,7 +1,6 @@
 pub mod CallSizes
 pub mod Answering
 pub mod JudgedMore
-pub mod Sourced
 pub mod Accounts
 pub mod Turns
 pub mod FullBooks

@@ -12,13 +12,13 @@ ghost use Rattle.cwr_engine.specs.Judged.{AreJudged, judged_of};
 use crate::decision::{InHand, decide};
 use crate::gates::Gate;
 use crate::judged::{Judged, JudgedFile, judge_source};
-use crate::limits::{MOST_BYTES, WINDOW};
+use crate::limits::MOST_BYTES;
 use crate::outcome::{FileOutcome, Why};
 use crate::window::Window;
 use byte_streams::{Sink, Source, write_out};
 use cwr_acknowledgement::{AckItem, ack_file};
 use cwr_record::Stamp;
-use cwr_source::SourceRefused;
+use cwr_source::{SourceRefused, WINDOW};
 use std::alloc::Allocator;
 use work_registry::Call;
 

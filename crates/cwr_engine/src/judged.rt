@@ -4,7 +4,8 @@ ghost use Rattle.cwr_grammar.specs.File.{File, IsFile};
 ghost use Rattle.cwr_grammar.specs.Submitted.{IsRefusal};
 ghost use Rattle.byte_streams.specs.GivenBytes.{HasGiven};
 ghost use Rattle.cwr_call.specs.Lawful.{is_clean};
-ghost use Rattle.cwr_engine.specs.Judged.{IsInput, IsUnjudged, WasJudged};
+ghost use Rattle.cwr_source.specs.Input.{IsInput, IsUnjudged};
+ghost use Rattle.cwr_engine.specs.Judged.{WasJudged};
 
 use crate::judged_so_far::JudgedSoFar;
 use byte_streams::Source;

@@ -5,6 +5,3 @@ pub const MOST_BYTES: usize = 16_777_216;
 
 /// The most entries of a book: as many as the eight digits of a register can number.
 pub const MOST_ENTRIES: u32 = MOST_COUNT;
-
-/// How many bytes of a submission file are held while it is read, unless a line is longer.
-pub(crate) const WINDOW: usize = 65_536;

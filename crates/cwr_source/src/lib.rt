@@ -9,4 +9,4 @@ mod refused;
 mod source_file;
 
 pub use refused::SourceRefused;
-pub use source_file::SourceFile;
+pub use source_file::{SourceFile, WINDOW};

@@ -18,6 +18,9 @@ use cwr_record::Header;
 use std::alloc::{Allocator, Global};
 use std::marker::Model;
 
+/// How many bytes of a submission file the program holds while it is read, unless a line is longer.
+pub const WINDOW: usize = 65_536;
+
 /// A submission file that is read from a source, through a window.
 ///
 /// A contract sees the bytes that are held, how many were read, how many may be, and whether the source has ended.

@@ -3,7 +3,7 @@ use Rattle.std.proofs.lemmas.Result.{err_from_is_err_and}
 use Rattle.cwr_source.specs.Source.{MayFollow}
 use Rattle.cwr_source.proofs.lemmas.Given.{both}
 use Rattle.cwr_engine.specs.Judged.{judged_of}
-use Rattle.cwr_engine.proofs.Sourced.{input_of, unjudged}
+use Rattle.cwr_source.proofs.lemmas.Input.{input_of, unjudged}
 use Rattle.cwr_engine.proofs.judged.judge_source.Goals as goal
 
 pub returns-in_err-visit-clause-refused : goal.returns-in_err-visit-clause-refused

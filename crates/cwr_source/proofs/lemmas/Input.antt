@@ -1,11 +1,11 @@
 -- What was read of a source, and why it was not judged.
-use Rattle.std.proofs.Common.{◌≡◌, ◌∙◌, ℕ, ◌<◌, Bool, false, List, [], ◌++◌, length, Option, Some, None, IfSome, sym, ap, arith, length-append, append-nil}
+use Rattle.std.proofs.Common.{◌≡◌, ◌∙◌, ℕ, ◌<◌, Bool, List, ◌++◌, length, Option, Some, None, IfSome, sym, ap, arith, length-append, append-nil}
 use Rattle.std.specs.Io.KnownBytes.{Consumes, IsAtEnd}
-use Rattle.cwr_source.specs.Source.{SourceState, IsOpened, IsRefused, IsRest, IsStopped}
+use Rattle.cwr_source.specs.Input.{IsInput, IsUnjudged}
+use Rattle.cwr_source.specs.Source.{SourceState, IsOpened, IsRefused, IsRest}
 use Rattle.cwr_source.specs.declared.refused.SourceRefused.{SourceRefused}
 use Rattle.cwr_source.specs.declared.refused.SourceRefused.TheVariants.{Memory, Read, TooLong, Fault}
 use Rattle.cwr_source.proofs.lemmas.Given.{both}
-use Rattle.cwr_engine.specs.Judged.{IsInput, IsUnjudged}
 
 all_given : (a c : Option (List ℕ)) (xs : List ℕ) → Consumes a c xs → IsAtEnd c → IfSome a (λ bytes. xs ≡ bytes)
 all_given None c xs p e = tt
@@ -17,6 +17,7 @@ more_given None c xs n p lt = tt
 more_given (Some l) None xs n p lt = absurd p
 more_given (Some l) (Some m) xs n p lt = let long = ap length p in let sum = length-append xs m in omega (arith, lt, long, sum)
 
+-- what was held and the rest is the file
 pub input_of : (limit : ℕ) (file : SourceState) (a b c : Option (List ℕ)) (rest : List ℕ) → IsOpened file limit a b → IsRest file b c rest → IsInput limit a (file.held ++ rest)
 input_of limit file a b c rest opened r =
     let sum = length-append file.held rest in
@@ -25,12 +26,7 @@ input_of limit file a b c rest opened r =
     let limit_is = opened.limit_is in
     (omega (arith, sum, read, fits, limit_is), all_given a c (file.held ++ rest) (both a b c file.held rest opened.consumed r.consumed) r.at_end)
 
-pub unopened : (limit : ℕ) (a b : Option (List ℕ)) (failed : Bool) (why : SourceRefused) → IsStopped (record { held = []; read = 0; limit = limit; is_ended = false }) a b failed why → IsUnjudged limit a failed why
-unopened limit a b failed Memory h = h
-unopened limit a b failed Read h = h
-unopened limit a b failed TooLong h = more_given a b h.0 limit h.1 (let long = h.2 in omega (arith, long))
-unopened limit a b failed (Fault number line) h = absurd h
-
+-- why a file was refused, told of all that was left when it was opened
 pub unjudged : (limit : ℕ) (file : SourceState) (a b c : Option (List ℕ)) (failed : Bool) (why : SourceRefused) → IsOpened file limit a b → IsRefused file b c failed why → IsUnjudged limit a failed why
 unjudged limit file a b c failed Memory opened h = h
 unjudged limit file a b c failed Read opened h = h
