@@ -1,3 +1,4 @@
 pub mod AckItem
 pub mod Messages
 pub mod Acknowledgement
+pub mod Outgoing

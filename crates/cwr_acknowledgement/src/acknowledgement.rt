@@ -1,4 +1,6 @@
-ghost use Rattle.std.specs.Prelude.{◌≡◌, ◌≤◌, ◌<◌, ◌^◌, ◌+◌, ◌++◌, [], ◌∷◌, length, IfOk, OnOk};
+ghost use Rattle.std.specs.Prelude.{◌≡◌, ◌≤◌, ◌<◌, ◌^◌, ◌+◌, ◌*◌, ℕ, [], true, false, length, take, IfOk, OnOk, Err};
+ghost use Rattle.std.specs.Result.{is_err};
+ghost use Rattle.std.specs.Io.KnownBytes.{Appends};
 ghost use Rattle.std.specs.List.{flat_map, AllByRecursion};
 ghost use Rattle.cwr_record.specs.Lines.{line_of};
 ghost use Rattle.cwr_record.specs.Control as control;
@@ -6,18 +8,23 @@ ghost use Rattle.cwr_record.specs.Acknowledgement as table;
 ghost use Rattle.cwr_acknowledgement.specs.AckItem.{told_faults};
 ghost use Rattle.cwr_acknowledgement.specs.Acknowledgement.{file_start, group_start, group_end, file_end, ack_record, message_record};
 ghost use Rattle.cwr_acknowledgement.specs.Acknowledgement.{message_lines, item_lines, all_item_lines, told_count, most_told, ended, ack_text, FitsItem, FitsFault};
+ghost use Rattle.cwr_acknowledgement.specs.Outgoing.{IsPut, size_of};
 
 use crate::ack_item::AckItem;
 use crate::ack_records::{
     ack_record, file_end, file_start, group_end, group_start, message_record,
 };
+use crate::nowhere::Nowhere;
+use crate::outgoing::Outgoing;
+use crate::stopped::AckStopped;
+use byte_streams::{Sink, WriteStopped};
 use cwr_call::Fault;
 use cwr_field::Memory;
-use cwr_record::{
-    Header, Stamp, write_ack, write_file_trailer, write_group_head, write_group_trailer,
-    write_header, write_message,
-};
+use cwr_record::{Header, Stamp};
 use std::alloc::Allocator;
+
+/// How many bytes of an acknowledgement are held while it is written.
+const PIECE: usize = 65_536;
 
 /// The acknowledgement of the transactions of a file, in the order of the file, whose header is
 /// `header`.
@@ -25,7 +32,7 @@ use std::alloc::Allocator;
 /// Its lines, each with CR LF at its end, are HDR, GRH, for each transaction an ACK and after that of
 /// a rejected one a MSG for each of its faults, GRT and TRL. Titles and numbers of submitters are
 /// written as they stand. Transactions and told faults are at most 99,999,995 together, so that the
-/// counts fit. All memory is asked for at once; where it is refused nothing is left.
+/// counts fit. All memory is asked for before the first line; where it is refused nothing is left.
 pub fn ack_file<A: Allocator + Copy>(
     alloc: A,
     stamp: &Stamp,
@@ -36,15 +43,91 @@ pub fn ack_file<A: Allocator + Copy>(
     requires fit { AllByRecursion FitsItem items.now }
     ensures { IfOk result (λ text. text.items ≡ ack_text stamp.now header.now items.now) }
 {
+    let mut out = Outgoing::new(alloc, text_len(items.len() as u32, told_count(items)))?;
+    let mut nowhere = Nowhere { failed: false };
+    match put_all(&mut out, &mut nowhere, stamp, header, items) {
+        Ok(()) => Ok(out.into_held()),
+        Err(_) => Err(Memory),
+    }
+}
+
+/// Writes the acknowledgement that [`ack_file`] makes, in pieces of up to 65,536 bytes.
+///
+/// No more of it is in memory. All memory is asked for before the first write.
+pub fn send_ack<W: Sink, A: Allocator + Copy>(
+    alloc: A,
+    writer: &mut W,
+    stamp: &Stamp,
+    header: &Header,
+    items: &[AckItem<A>],
+) -> Result<(), AckStopped>
+    requires works { W.has_failed writer.old ≡ false }
+    requires few { length items.now + told_count items.now ≤ most_told }
+    requires fit { AllByRecursion FitsItem items.now }
+    ensures all { OnOk result (Appends (W.taken writer.old) (W.taken writer.new) (ack_text stamp.now header.now items.now)) }
+    ensures went_on { OnOk result (W.has_failed writer.new ≡ false) }
+
+    // A stopped write left the first `sent` bytes, and a write of this call failed or took none of some bytes.
+    ensures first { (sent : ℕ) → result ≡ Err (AckStopped.Write sent)
+        → Appends (W.taken writer.old) (W.taken writer.new) (take sent (ack_text stamp.now header.now items.now)) }
+    ensures fewer { (sent : ℕ) → result ≡ Err (AckStopped.Write sent)
+        → sent < length (ack_text stamp.now header.now items.now) }
+    ensures failed { (sent : ℕ) → result ≡ Err (AckStopped.Write sent) → W.has_failed writer.new ≡ true }
+
+    // Where memory was refused, nothing was written.
+    ensures unwritten { result ≡ Err AckStopped.Memory → writer.new ≡ writer.old }
+{
+    let Ok(mut out) = Outgoing::new(alloc, PIECE) else {
+        return Err(AckStopped::Memory);
+    };
+    match send_all(&mut out, writer, stamp, header, items) {
+        Ok(()) => Ok(()),
+        Err(cut) => Err(AckStopped::Write { sent: cut.sent }),
+    }
+}
+
+/// Puts all lines, and writes out what is still held of them.
+fn send_all<W: Sink, A: Allocator>(
+    out: &mut Outgoing<A>,
+    writer: &mut W,
+    stamp: &Stamp,
+    header: &Header,
+    items: &[AckItem<A>],
+) -> Result<(), WriteStopped>
+    requires works { W.has_failed writer.old ≡ false }
+    requires size { size_of out.old ≤ 187 }
+    requires few { length items.now + told_count items.now ≤ most_told }
+    requires fit { AllByRecursion FitsItem items.now }
+    ensures put { IsPut result (W.taken writer.old) (W.taken writer.new) out.old out.new (4 + (length items.now + told_count items.now)) (ack_text stamp.now header.now items.now) }
+    ensures none_left { OnOk result (out.new.held ≡ []) }
+    ensures fails { W.has_failed writer.new ≡ is_err result }
+{
+    put_all(out, writer, stamp, header, items)?;
+    out.write_held(writer)
+}
+
+/// Puts all lines.
+fn put_all<W: Sink, A: Allocator>(
+    out: &mut Outgoing<A>,
+    writer: &mut W,
+    stamp: &Stamp,
+    header: &Header,
+    items: &[AckItem<A>],
+) -> Result<(), WriteStopped>
+    requires works { W.has_failed writer.old ≡ false }
+    requires size { size_of out.old ≤ 187 }
+    requires few { length items.now + told_count items.now ≤ most_told }
+    requires fit { AllByRecursion FitsItem items.now }
+    ensures put { IsPut result (W.taken writer.old) (W.taken writer.new) out.old out.new (4 + (length items.now + told_count items.now)) (ack_text stamp.now header.now items.now) }
+    ensures fails { W.has_failed writer.new ≡ is_err result }
+{
     let transactions = items.len() as u32;
     let told = told_count(items);
-    let mut out = Vec::with_capacity(alloc, text_len(transactions, told))?;
-    put_file_start(&mut out, stamp)?;
-    put_group_start(&mut out)?;
-    put_items(&mut out, stamp, header, items)?;
-    put_group_end(&mut out, transactions, told)?;
-    put_file_end(&mut out, transactions, told)?;
-    Ok(out)
+    put_file_start(out, writer, stamp)?;
+    put_group_start(out, writer)?;
+    put_items(out, writer, stamp, header, items)?;
+    put_group_end(out, writer, transactions, told)?;
+    put_file_end(out, writer, transactions, told)
 }
 
 /// How many faults the items tell.
@@ -57,139 +140,173 @@ fn told_count<A: Allocator>(items: &[AckItem<A>]) -> u32
 }
 
 /// The length of the text. Without its end an ACK line has 159 bytes, and a MSG line 185.
-fn text_len(transactions: u32, told: u32) -> usize {
+fn text_len(transactions: u32, told: u32) -> usize
+    ensures { 187 ≤ result }
+{
     const STARTS_AND_ENDS: usize = 167 + 28 + 37 + 24 + 4 * 2;
     STARTS_AND_ENDS + transactions as usize * (159 + 2) + told as usize * (185 + 2)
 }
 
-fn end_line<A: Allocator>(out: &mut Vec<u8, A>) -> Result<(), Memory>
-    ensures { OnOk result (out.new.items ≡ out.old.items ++ 13 ∷ 10 ∷ []) }
+fn put_file_start<W: Sink, A: Allocator>(
+    out: &mut Outgoing<A>,
+    writer: &mut W,
+    stamp: &Stamp,
+) -> Result<(), WriteStopped>
+    requires works { W.has_failed writer.old ≡ false }
+    requires size { size_of out.old + 187 < 2 ^ 63 }
+    ensures put { IsPut result (W.taken writer.old) (W.taken writer.new) out.old out.new 1 (ended (line_of control.header (file_start stamp.now))) }
+    ensures fails { W.has_failed writer.new ≡ is_err result }
 {
-    out.extend_from_slice(b"\r\n")?;
-    Ok(())
+    out.line.make_header(&file_start(stamp));
+    out.put_line(writer)
 }
 
-fn put_file_start<A: Allocator>(out: &mut Vec<u8, A>, stamp: &Stamp) -> Result<(), Memory>
-    ensures { OnOk result (out.new.items
-        ≡ out.old.items ++ ended (line_of control.header (file_start stamp.now))) }
+fn put_group_start<W: Sink, A: Allocator>(
+    out: &mut Outgoing<A>,
+    writer: &mut W,
+) -> Result<(), WriteStopped>
+    requires works { W.has_failed writer.old ≡ false }
+    requires size { size_of out.old + 187 < 2 ^ 63 }
+    ensures put { IsPut result (W.taken writer.old) (W.taken writer.new) out.old out.new 1 (ended (line_of control.group_head group_start)) }
+    ensures fails { W.has_failed writer.new ≡ is_err result }
 {
-    write_header(out, &file_start(stamp))?;
-    end_line(out)
+    out.line.make_group_head(&group_start());
+    out.put_line(writer)
 }
 
-fn put_group_start<A: Allocator>(out: &mut Vec<u8, A>) -> Result<(), Memory>
-    ensures { OnOk result (out.new.items
-        ≡ out.old.items ++ ended (line_of control.group_head group_start)) }
-{
-    write_group_head(out, &group_start())?;
-    end_line(out)
-}
-
-fn put_items<A: Allocator>(
-    out: &mut Vec<u8, A>,
+fn put_items<W: Sink, A: Allocator>(
+    out: &mut Outgoing<A>,
+    writer: &mut W,
     stamp: &Stamp,
     header: &Header,
     items: &[AckItem<A>],
-) -> Result<(), Memory>
+) -> Result<(), WriteStopped>
+    requires works { W.has_failed writer.old ≡ false }
+    requires size { size_of out.old + 187 * (length items.now + told_count items.now) < 2 ^ 63 }
     requires few { length items.now + told_count items.now ≤ most_told }
     requires fit { AllByRecursion FitsItem items.now }
-    ensures { OnOk result (out.new.items
-        ≡ out.old.items ++ flat_map ended (all_item_lines stamp.now header.now 0 items.now)) }
+    ensures put { IsPut result (W.taken writer.old) (W.taken writer.new) out.old out.new (length items.now + told_count items.now)
+        (flat_map ended (all_item_lines stamp.now header.now 0 items.now)) }
+    ensures fails { W.has_failed writer.new ≡ is_err result }
 {
     for (index, item) in items.iter().enumerate() {
-        put_item(out, stamp, header, index as u32, item)?;
+        put_item(out, writer, stamp, header, index as u32, item)?;
     }
     Ok(())
 }
 
-fn put_item<A: Allocator>(
-    out: &mut Vec<u8, A>,
+fn put_item<W: Sink, A: Allocator>(
+    out: &mut Outgoing<A>,
+    writer: &mut W,
     stamp: &Stamp,
     header: &Header,
     index: u32,
     item: &AckItem<A>,
-) -> Result<(), Memory>
+) -> Result<(), WriteStopped>
+    requires works { W.has_failed writer.old ≡ false }
+    requires size { size_of out.old + 187 * (1 + length (told_faults item.now)) < 2 ^ 63 }
     requires index { index < 10 ^ 8 }
     requires few { length (told_faults item.now) ≤ most_told }
     requires fits { FitsItem item.now }
-    ensures { OnOk result (out.new.items
-        ≡ out.old.items ++ flat_map ended (item_lines stamp.now header.now index item.now)) }
+    ensures put { IsPut result (W.taken writer.old) (W.taken writer.new) out.old out.new (1 + length (told_faults item.now))
+        (flat_map ended (item_lines stamp.now header.now index item.now)) }
+    ensures fails { W.has_failed writer.new ≡ is_err result }
 {
-    put_ack(out, stamp, header, index, item)?;
-    put_messages(out, index, item.told_faults())
+    put_ack(out, writer, stamp, header, index, item)?;
+    put_messages(out, writer, index, item.told_faults())
 }
 
-fn put_ack<A: Allocator>(
-    out: &mut Vec<u8, A>,
+fn put_ack<W: Sink, A: Allocator>(
+    out: &mut Outgoing<A>,
+    writer: &mut W,
     stamp: &Stamp,
     header: &Header,
     index: u32,
     item: &AckItem<A>,
-) -> Result<(), Memory>
+) -> Result<(), WriteStopped>
+    requires works { W.has_failed writer.old ≡ false }
+    requires size { size_of out.old + 187 < 2 ^ 63 }
     requires index { index < 10 ^ 8 }
     requires fits { FitsItem item.now }
-    ensures { OnOk result (out.new.items
-        ≡ out.old.items ++ ended (line_of table.ack (ack_record stamp.now header.now index item.now))) }
+    ensures put { IsPut result (W.taken writer.old) (W.taken writer.new) out.old out.new 1
+        (ended (line_of table.ack (ack_record stamp.now header.now index item.now))) }
+    ensures fails { W.has_failed writer.new ≡ is_err result }
 {
-    write_ack(out, &ack_record(stamp, header, index, item))?;
-    end_line(out)
+    out.line.make_ack(&ack_record(stamp, header, index, item));
+    out.put_line(writer)
 }
 
-fn put_messages<A: Allocator>(
-    out: &mut Vec<u8, A>,
+fn put_messages<W: Sink, A: Allocator>(
+    out: &mut Outgoing<A>,
+    writer: &mut W,
     index: u32,
     faults: &[Fault],
-) -> Result<(), Memory>
+) -> Result<(), WriteStopped>
+    requires works { W.has_failed writer.old ≡ false }
+    requires size { size_of out.old + 187 * length faults.now < 2 ^ 63 }
     requires index { index < 10 ^ 8 }
     requires few { length faults.now ≤ most_told }
     requires fit { AllByRecursion FitsFault faults.now }
-    ensures { OnOk result (out.new.items
-        ≡ out.old.items ++ flat_map ended (message_lines index 1 faults.now)) }
+    ensures put { IsPut result (W.taken writer.old) (W.taken writer.new) out.old out.new (length faults.now)
+        (flat_map ended (message_lines index 1 faults.now)) }
+    ensures fails { W.has_failed writer.new ≡ is_err result }
 {
     for (before, fault) in faults.iter().enumerate() {
-        put_message(out, index, before as u32 + 1, fault)?;
+        put_message(out, writer, index, before as u32 + 1, fault)?;
     }
     Ok(())
 }
 
-fn put_message<A: Allocator>(
-    out: &mut Vec<u8, A>,
+fn put_message<W: Sink, A: Allocator>(
+    out: &mut Outgoing<A>,
+    writer: &mut W,
     index: u32,
     detail: u32,
     fault: &Fault,
-) -> Result<(), Memory>
+) -> Result<(), WriteStopped>
+    requires works { W.has_failed writer.old ≡ false }
+    requires size { size_of out.old + 187 < 2 ^ 63 }
     requires index { index < 10 ^ 8 }
     requires detail { detail < 10 ^ 8 }
     requires fits { FitsFault fault.now }
-    ensures { OnOk result (out.new.items
-        ≡ out.old.items ++ ended (line_of table.message (message_record index detail fault.now))) }
+    ensures put { IsPut result (W.taken writer.old) (W.taken writer.new) out.old out.new 1
+        (ended (line_of table.message (message_record index detail fault.now))) }
+    ensures fails { W.has_failed writer.new ≡ is_err result }
 {
-    write_message(out, &message_record(index, detail, fault))?;
-    end_line(out)
+    out.line.make_message(&message_record(index, detail, fault));
+    out.put_line(writer)
 }
 
-fn put_group_end<A: Allocator>(
-    out: &mut Vec<u8, A>,
+fn put_group_end<W: Sink, A: Allocator>(
+    out: &mut Outgoing<A>,
+    writer: &mut W,
     transactions: u32,
     told: u32,
-) -> Result<(), Memory>
-    requires { transactions + told ≤ most_told }
-    ensures { OnOk result (out.new.items
-        ≡ out.old.items ++ ended (line_of control.group_trailer (group_end transactions told))) }
+) -> Result<(), WriteStopped>
+    requires works { W.has_failed writer.old ≡ false }
+    requires size { size_of out.old + 187 < 2 ^ 63 }
+    requires few { transactions + told ≤ most_told }
+    ensures put { IsPut result (W.taken writer.old) (W.taken writer.new) out.old out.new 1
+        (ended (line_of control.group_trailer (group_end transactions told))) }
+    ensures fails { W.has_failed writer.new ≡ is_err result }
 {
-    write_group_trailer(out, &group_end(transactions, told))?;
-    end_line(out)
+    out.line.make_group_trailer(&group_end(transactions, told));
+    out.put_line(writer)
 }
 
-fn put_file_end<A: Allocator>(
-    out: &mut Vec<u8, A>,
+fn put_file_end<W: Sink, A: Allocator>(
+    out: &mut Outgoing<A>,
+    writer: &mut W,
     transactions: u32,
     told: u32,
-) -> Result<(), Memory>
-    requires { transactions + told ≤ most_told }
-    ensures { OnOk result (out.new.items
-        ≡ out.old.items ++ ended (line_of control.file_trailer (file_end transactions told))) }
+) -> Result<(), WriteStopped>
+    requires works { W.has_failed writer.old ≡ false }
+    requires size { size_of out.old + 187 < 2 ^ 63 }
+    requires few { transactions + told ≤ most_told }
+    ensures put { IsPut result (W.taken writer.old) (W.taken writer.new) out.old out.new 1
+        (ended (line_of control.file_trailer (file_end transactions told))) }
+    ensures fails { W.has_failed writer.new ≡ is_err result }
 {
-    write_file_trailer(out, &file_end(transactions, told))?;
-    end_line(out)
+    out.line.make_file_trailer(&file_end(transactions, told));
+    out.put_line(writer)
 }

@@ -1,14 +1,11 @@
-use Rattle.std.proofs.Common.{◌≡◌, ℕ, List, subst}
-use Rattle.std.specs.Prelude.{OnOk}
+use Rattle.std.proofs.Common.{◌∙◌, ap, rules}
+use Rattle.cwr_record.specs.Lines.{line_of}
 use Rattle.cwr_record.specs.Acknowledgement as table
-use Rattle.cwr_acknowledgement.specs.Acknowledgement.{ack_record}
-use Rattle.cwr_acknowledgement.proofs.AckSteps.{then_ended}
+use Rattle.cwr_acknowledgement.specs.Acknowledgement.{ended}
+use Rattle.cwr_acknowledgement.proofs.Puts.{put_from}
 use Rattle.cwr_acknowledgement.proofs.acknowledgement.put_ack.Goals as goal
 
-pub returns : goal.returns
-returns g c =
-    let P : List ℕ → Type 0 = λ text. OnOk c.end_line.result (c.end_line.new.out.items ≡ text) in
-    subst P
-    (then_ended table.ack c.ack_record.result (ack_record c.args.stamp.now c.args.header.now c.args.index c.args.item.now)
-    c.args.out.now.items c.write_ack.new.out.items c.ack_record.ensures c.in_ok-write_ack.ensures.ok)
-    c.end_line.ensures
+pub returns-clause-put : goal.returns-clause-put
+returns-clause-put g c =
+    put_from c.put_line.result _ _ _ c.args.out.now _ 1 _ _ c.put_line.ensures.put (search rules) (search rules)
+    (ap ended (c.make_ack.ensures ∙ ap (line_of table.ack) c.ack_record.ensures))
