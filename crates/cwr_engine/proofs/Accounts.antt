@@ -22,7 +22,7 @@ use Rattle.cwr_engine.specs.Account.{most, Ends, Account, IsRead, IsMadeOf, IsMa
 use Rattle.cwr_source.specs.Input.{IsUnjudged}
 use Rattle.cwr_source.specs.declared.refused.SourceRefused.{SourceRefused}
 use Rattle.cwr_source.specs.declared.refused.SourceRefused.TheVariants as unjudged
-use Rattle.cwr_engine.specs.Causes.{IsCause, outcome_of}
+use Rattle.cwr_engine.specs.Causes.{IsCause, marked_by, outcome_of}
 use Rattle.cwr_engine.specs.Handing.{Entries, AreAnswered, IsWorked}
 use Rattle.cwr_engine.specs.Items.{item_of, items_of, calls_in}
 use Rattle.cwr_engine.specs.Judged.{JudgedValue, judged_of, AreJudged, WasJudged}
@@ -113,6 +113,11 @@ few_told session head ts items before after bounds so_far =
 pub Appends-nil : (taken : Option (List ℕ)) → Appends taken taken []
 Appends-nil None = tt
 Appends-nil (Some bytes) = sym (append-nil bytes)
+
+-- a job that ends for another cause than a full book leaves the mark as it was
+pub unmarked : (before after : Option Bool) → after ≡ before → after ≡ marked_by false before
+unmarked None after same = same
+unmarked (Some mark) after same = same
 
 -- bytes that the reader gave whole
 pub given_whole : (left : Option (List ℕ)) (input : List ℕ) → IfSome left (λ bytes. input ≡ bytes) → Gives left input

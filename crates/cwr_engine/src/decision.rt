@@ -24,6 +24,7 @@ pub(crate) struct InHand {
 }
 
 /// Hands the call of a transaction in, and makes the item that tells its reply.
+#[inline(always)]
 pub(crate) fn decide<H: Window<Call<A>>, G: Gate, A: Allocator + Copy + Drop>(
     alloc: A,
     window: H,
@@ -78,6 +79,7 @@ pub(crate) fn decide<H: Window<Call<A>>, G: Gate, A: Allocator + Copy + Drop>(
 }
 
 /// A call's faults once more, for its item: the call itself goes into the book.
+#[inline]
 fn copied<A: Allocator>(alloc: A, faults: &[Fault]) -> Result<Faults<A>, AllocError>
     ensures { IfOk result (λ f. f ≡ faults.now) }
 {

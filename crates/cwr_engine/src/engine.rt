@@ -15,8 +15,8 @@ use crate::judged::{Judged, JudgedFile, judge_source};
 use crate::limits::MOST_BYTES;
 use crate::outcome::{FileOutcome, Why};
 use crate::window::Window;
-use byte_streams::{Sink, Source, write_out};
-use cwr_acknowledgement::{AckItem, ack_file};
+use byte_streams::{Sink, Source};
+use cwr_acknowledgement::{AckItem, AckStopped, send_ack};
 use cwr_record::Stamp;
 use cwr_source::{SourceRefused, WINDOW};
 use std::alloc::Allocator;
@@ -109,12 +109,10 @@ fn work_judged<H: Window<Call<A>>, G: Gate, W: Sink, A: Allocator + Copy + Drop>
     if let Err(why) = done {
         return (window, stopped(handed, why));
     }
-    let Ok(answer) = ack_file(alloc, stamp, &header, &items) else {
-        return (window, stopped(handed, Why::Memory));
-    };
-    match write_out(writer, &answer) {
+    match send_ack(alloc, writer, stamp, &header, &items) {
         Ok(()) => (window, acked(handed)),
-        Err(cut) => (window, stopped(handed, Why::Write { sent: cut.sent })),
+        Err(AckStopped::Memory) => (window, stopped(handed, Why::Memory)),
+        Err(AckStopped::Write { sent }) => (window, stopped(handed, Why::Write { sent })),
     }
 }
 

@@ -44,6 +44,7 @@ impl<A: Allocator + Copy> JudgedSoFar<A> {
 impl<A: Allocator + Copy> Visitor for JudgedSoFar<A> {
     ghost keeps = { λ first s whole current. (s.submitter ≡ first.submitter) × IsJudgedSoFar s.submitter s.judged.items whole × IsOpenAt s.group s.sequence s.judge current };
 
+    #[inline]
     fn begin(
         &mut self,
         group: u32,
@@ -57,6 +58,7 @@ impl<A: Allocator + Copy> Visitor for JudgedSoFar<A> {
         Ok(())
     }
 
+    #[inline]
     fn detail(&mut self, line: &[u8], record_type: RecordType) -> Result<(), Memory> {
         let Some(judge) = &mut self.judge else {
             unreachable!()
@@ -65,6 +67,7 @@ impl<A: Allocator + Copy> Visitor for JudgedSoFar<A> {
         Ok(())
     }
 
+    #[inline]
     fn end(&mut self) -> Result<(), Memory> {
         let Some(judge) = &self.judge else {
             unreachable!()

@@ -89,6 +89,7 @@ impl<A: Allocator + Copy + Drop> Window<Call<A>> for Own<A> {
 
     ghost home = { λ _. tt };
 
+    #[inline]
     fn hand_in(mut self, call: Call<A>) -> (Own<A>, Result<Reply, WhyRefused>) {
         let session = self.session;
         // Looking at it tells the check what holds in every book.

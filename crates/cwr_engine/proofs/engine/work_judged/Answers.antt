@@ -1,5 +1,5 @@
-use Rattle.std.proofs.Common.{◌≡◌, ◌∙◌, arith, length}
-use Rattle.cwr_engine.proofs.Accounts.{few_judged, length_judged, few_items, few_told, few_transactions, not_begun, handed_some, no_text, acked, cut_off, Appends-nil}
+use Rattle.std.proofs.Common.{◌≡◌, ◌∙◌, arith, rules, length, refl}
+use Rattle.cwr_engine.proofs.Accounts.{few_judged, length_judged, few_items, few_told, few_transactions, not_begun, handed_some, no_text, acked, cut_off, unmarked, Appends-nil}
 use Rattle.cwr_engine.proofs.engine.work_judged.Goals as goal
 
 pub returns-in_default-clause-worked : goal.returns-in_default-clause-worked
@@ -31,35 +31,46 @@ returns-in-Err-clause-worked g c =
     (c.hand_in_all-window.ensures.answered _ ts judged.judged_are judged.bounds.placed) c.len-handed.result count c.in-Err.why (Appends-nil _)
     (let some = rw c.in-Err.is at c.hand_in_all-window.ensures.some in let l = length_judged _ ts _ judged in omega (arith, some, l)) (rw c.in-Err.is at c.hand_in_all-window.ensures.why))
 
-pub ack_file-requires-clause-few : goal.ack_file-requires-clause-few
-ack_file-requires-clause-few g c =
+pub send_ack-requires-clause-few : goal.send_ack-requires-clause-few
+send_ack-requires-clause-few g c =
     let judged = c.requires.judged in
     rw c.deref.ensures.value (few_told _ _ _ _ _ _ judged.1.bounds (c.hand_in_all-window.ensures.answered _ judged.0 judged.1.judged_are judged.1.bounds.placed))
 
-pub returns-in_default-ack_file-clause-worked : goal.returns-in_default-ack_file-clause-worked
-returns-in_default-ack_file-clause-worked g c =
-    let items = c.hand_in_all-window.new.items in
-    let count : c.len-handed.result ≡ length items.items = omega (arith, items.ok.0, c.len-handed.ensures) in
-    λ ts ends input judged given read_on few_reads read. rw c.stopped-in_default-ack_file.ensures (no_text _ _ _ _ _ input _ ts items.items given read_on few_reads read
-    (c.hand_in_all-window.ensures.answered _ ts judged.judged_are judged.bounds.placed) c.len-handed.result count (Appends-nil _))
-
-pub returns-in-Ok-write_out-clause-worked : goal.returns-in-Ok-write_out-clause-worked
-returns-in-Ok-write_out-clause-worked g c =
+pub returns-in-Ok-send_ack-clause-worked : goal.returns-in-Ok-send_ack-clause-worked
+returns-in-Ok-send_ack-clause-worked g c =
     let items = c.hand_in_all-window.new.items in
     let count : c.len-handed.result ≡ length items.items = omega (arith, items.ok.0, c.len-handed.ensures) in
     let all = rw c.in_default-done.is at c.hand_in_all-window.ensures.all in
     λ ts ends input judged given read_on few_reads read. rw c.acked.ensures (acked _ _ _ _ _ input _ ts items.items given read_on few_reads read
-    (c.hand_in_all-window.ensures.answered _ ts judged.judged_are judged.bounds.placed) c.len-handed.result count c.in-Ok-ack_file.answer.items
-    (all ∙ length_judged _ ts _ judged) (rw c.deref.ensures.value at c.in-Ok-ack_file.ensures)
-    (rw c.deref-2.ensures.value at c.in-Ok-write_out.ensures.all))
+    (c.hand_in_all-window.ensures.answered _ ts judged.judged_are judged.bounds.placed) c.len-handed.result count _
+    (all ∙ length_judged _ ts _ judged) refl (rw c.deref.ensures.value at c.in-Ok-send_ack.ensures.all))
+
+pub returns-in-Err-Memory-clause-worked : goal.returns-in-Err-Memory-clause-worked
+returns-in-Err-Memory-clause-worked g c =
+    let items = c.hand_in_all-window.new.items in
+    let count : c.len-handed.result ≡ length items.items = omega (arith, items.ok.0, c.len-handed.ensures) in
+    let same = c.send_ack.ensures.unwritten (search rules) in
+    λ ts ends input judged given read_on few_reads read. rw c.stopped-in-Err-Memory.ensures (no_text _ _ _ _ _ input _ ts items.items given read_on few_reads read
+    (c.hand_in_all-window.ensures.answered _ ts judged.judged_are judged.bounds.placed) c.len-handed.result count
+    (rw same (Appends-nil _)))
 
 pub returns-clause-worked : goal.returns-clause-worked
 returns-clause-worked g c =
     let items = c.hand_in_all-window.new.items in
     let count : c.len-handed.result ≡ length items.items = omega (arith, items.ok.0, c.len-handed.ensures) in
-    let cut = c.in-Err-write_out.ensures in
     let all = rw c.in_default-done.is at c.hand_in_all-window.ensures.all in
-    λ ts ends input judged given read_on few_reads read. rw c.stopped-in-Err-write_out.ensures (cut_off _ _ _ _ _ input _ ts items.items given read_on few_reads read
-    (c.hand_in_all-window.ensures.answered _ ts judged.judged_are judged.bounds.placed) c.len-handed.result count c.in-Ok-ack_file.answer.items
-    (all ∙ length_judged _ ts _ judged) (rw c.deref.ensures.value at c.in-Ok-ack_file.ensures)
-    c.in-Err-write_out.cut.sent (rw c.deref-2.ensures.value at cut.first) (rw c.deref-2.ensures.value at cut.fewer) cut.failed)
+    let cut = c.send_ack.ensures in
+    let first = cut.first c.in-Err-Write.sent (search rules) in
+    let fewer = cut.fewer c.in-Err-Write.sent (search rules) in
+    λ ts ends input judged given read_on few_reads read. rw c.stopped-in-Err-Write.ensures (cut_off _ _ _ _ _ input _ ts items.items given read_on few_reads read
+    (c.hand_in_all-window.ensures.answered _ ts judged.judged_are judged.bounds.placed) c.len-handed.result count _
+    (all ∙ length_judged _ ts _ judged) refl c.in-Err-Write.sent (rw c.deref.ensures.value at first) (rw c.deref.ensures.value at fewer)
+    (cut.failed c.in-Err-Write.sent (search rules)))
+
+pub returns-in-Err-Memory-clause-marked : goal.returns-in-Err-Memory-clause-marked
+returns-in-Err-Memory-clause-marked g c =
+    rw c.stopped-in-Err-Memory.ensures (unmarked (g.H.Window.mark c.args.window) _ (rw c.in_default-done.is at c.hand_in_all-window.ensures.unmarked))
+
+pub returns-clause-marked : goal.returns-clause-marked
+returns-clause-marked g c =
+    rw c.stopped-in-Err-Write.ensures (unmarked (g.H.Window.mark c.args.window) _ (rw c.in_default-done.is at c.hand_in_all-window.ensures.unmarked))
