@@ -1,6 +1,6 @@
 mod LeastFault
 mod Fronts
-mod LineTexts
+pub mod LineTexts
 mod SameRecords
 mod TrailingBlanks
 pub mod lemmas
