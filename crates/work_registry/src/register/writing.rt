@@ -13,7 +13,7 @@ use super::head::Head;
 use crate::entry::Entry;
 use cwr_call::Fault;
 use cwr_field::Memory;
-use cwr_record::{Piece, put_line};
+use cwr_record::{LineRoom, Piece, put_line};
 use std::alloc::Allocator;
 
 fn head_for<A: Allocator>(index: u32, entry: &Entry<A>) -> Head
@@ -45,25 +45,23 @@ fn put_head<A: Allocator>(out: &mut Vec<u8, A>, x: &Head) -> Result<(), Memory>
     requires { Fits head x.now }
     ensures { OnOk result (out.new.items ≡ out.old.items ++ line_of head x.now) }
 {
-    put_line(
-        out,
-        &[
-            Piece::Text(b"ENT", columns::MARK),
-            Piece::Digits(x.index as u64, columns::INDEX),
-            Piece::Text(&x.submitter, columns::SUBMITTER),
-            Piece::Text(x.kind.code(), columns::KIND),
-            Piece::Text(&x.title, columns::TITLE),
-            Piece::Text(&x.number, columns::NUMBER),
-            Piece::Code(x.iswc),
-            Piece::Digits(x.control[0], columns::PERFORMING_CONTROL),
-            Piece::Digits(x.control[1], columns::MECHANICAL_CONTROL),
-            Piece::Digits(x.control[2], columns::SYNCHRONIZATION_CONTROL),
-            Piece::Text(x.status.code(), columns::STATUS),
-            Piece::Digits(x.work as u64, columns::WORK),
-            Piece::Digits(x.version as u64, columns::VERSION),
-            Piece::Digits(x.faults as u64, columns::FAULTS),
-        ],
-    )
+    let mut line = LineRoom::<HEAD_WIDTH>::new();
+    line.put(&Piece::Text(b"ENT", columns::MARK));
+    line.put(&Piece::Digits(x.index as u64, columns::INDEX));
+    line.put(&Piece::Text(&x.submitter, columns::SUBMITTER));
+    line.put(&Piece::Text(x.kind.code(), columns::KIND));
+    line.put(&Piece::Text(&x.title, columns::TITLE));
+    line.put(&Piece::Text(&x.number, columns::NUMBER));
+    line.put(&Piece::Code(x.iswc));
+    line.put(&Piece::Digits(x.control[0], columns::PERFORMING_CONTROL));
+    line.put(&Piece::Digits(x.control[1], columns::MECHANICAL_CONTROL));
+    line.put(&Piece::Digits(x.control[2], columns::SYNCHRONIZATION_CONTROL));
+    line.put(&Piece::Text(x.status.code(), columns::STATUS));
+    line.put(&Piece::Digits(x.work as u64, columns::WORK));
+    line.put(&Piece::Digits(x.version as u64, columns::VERSION));
+    line.put(&Piece::Digits(x.faults as u64, columns::FAULTS));
+    out.extend_from_slice(line.bytes())?;
+    Ok(())
 }
 
 fn put_fault<A: Allocator>(out: &mut Vec<u8, A>, x: &Fault) -> Result<(), Memory>
@@ -71,14 +69,12 @@ fn put_fault<A: Allocator>(out: &mut Vec<u8, A>, x: &Fault) -> Result<(), Memory
     ensures text { OnOk result (out.new.items ≡ out.old.items ++ line_of fault x.now) }
     ensures typed { IsTyped x.now }
 {
-    put_line(
-        out,
-        &[
-            Piece::Digits(x.sequence as u64, columns::FAULT_SEQUENCE),
-            Piece::Digits(x.number as u64, columns::FAULT_NUMBER),
-            Piece::Text(&x.rtype, columns::FAULT_RECORD_TYPE),
-        ],
-    )
+    let mut line = LineRoom::<FAULT_WIDTH>::new();
+    line.put(&Piece::Digits(x.sequence as u64, columns::FAULT_SEQUENCE));
+    line.put(&Piece::Digits(x.number as u64, columns::FAULT_NUMBER));
+    line.put(&Piece::Text(&x.rtype, columns::FAULT_RECORD_TYPE));
+    out.extend_from_slice(line.bytes())?;
+    Ok(())
 }
 
 fn put_faults<A: Allocator>(out: &mut Vec<u8, A>, faults: &[Fault]) -> Result<(), Memory>
