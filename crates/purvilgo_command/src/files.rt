@@ -4,12 +4,42 @@ ghost use Rattle.std.specs.Prelude.{◌≡◌, ◌≤◌, false, None, length, I
 
 use crate::telling::tell_reason;
 use byte_streams::{Failed, ReadCount, ReadRefused, Source, Through, read_file};
+use std::alloc::Global;
 use std::io::Read;
 use std::rt::Files;
 use std::{fs, io};
 
 /// The name of standard input.
 const STANDARD_INPUT: &str = "-";
+
+/// What is done with a file, or with standard input, as it is read.
+pub(crate) trait Reading {
+    /// What comes of it.
+    type Made;
+
+    /// Reads the file from its source.
+    fn read<S: Source>(self, reader: &mut S) -> Result<Self::Made, ReadRefused>
+        requires { S.has_failed reader.old ≡ false };
+}
+
+/// Reads a file, or standard input where the name is `-`.
+pub(crate) fn read_named<R: AllocGlobal + Input + Eprint + Files, T: Reading>(
+    rt: &R,
+    name: &str,
+    verbose: bool,
+    reading: T,
+) -> Result<T::Made, ReadRefused> {
+    if name == STANDARD_INPUT {
+        let reader = StandardInput {
+            rt,
+            reader: rt.reader(),
+            verbose,
+        };
+        reading.read(&mut Through::new(reader))
+    } else {
+        reading.read(&mut InputFile::new(rt, name, verbose))
+    }
+}
 
 /// The bytes of a file, or of standard input where the name is `-`: at most `limit`.
 pub(crate) fn bytes_of<R: AllocGlobal + Input + Eprint + Files>(
@@ -18,15 +48,25 @@ pub(crate) fn bytes_of<R: AllocGlobal + Input + Eprint + Files>(
     limit: usize,
     verbose: bool,
 ) -> Result<Vec<u8>, ReadRefused> {
-    if name == STANDARD_INPUT {
-        let reader = StandardInput {
-            rt,
-            reader: rt.reader(),
-            verbose,
-        };
-        read_file(rt.alloc(), &mut Through::new(reader), limit)
-    } else {
-        read_file(rt.alloc(), &mut InputFile::new(rt, name, verbose), limit)
+    let whole = Whole {
+        alloc: rt.alloc(),
+        limit,
+    };
+    read_named(rt, name, verbose, whole)
+}
+
+/// A file's bytes are kept, all of them.
+#[derive(Clone, Copy)]
+struct Whole {
+    alloc: Global,
+    limit: usize,
+}
+
+impl Reading for Whole {
+    type Made = Vec<u8>;
+
+    fn read<S: Source>(self, reader: &mut S) -> Result<Vec<u8>, ReadRefused> {
+        read_file(self.alloc, reader, self.limit)
     }
 }
 

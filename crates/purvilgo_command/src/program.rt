@@ -1,20 +1,22 @@
 use crate::command_line::command_line;
-use crate::files::bytes_of;
+use crate::files::{Reading, bytes_of, read_named};
 use crate::further_commands::{further_line, names_further, run_further};
 use crate::help::page_asked_for;
 use crate::registers::audit_file;
 use crate::running::run_files;
 use crate::status::{BAD_WORDS, bad_words, no_memory};
 use crate::version::VERSION;
-use byte_streams::Through;
+use byte_streams::{ReadRefused, Source, Through};
 use clap::ArgMatches;
 use clap::error::ErrorKind;
-use cwr_check::{Checked, check_text};
+use cwr_check::{Checked, check_source};
 use cwr_desk::{FileOutcome, MOST_BYTES, acknowledge, outcome_line};
 use cwr_field::{Clock, Day, cut, date, time};
 use cwr_record::Stamp;
 use cwr_remarks::{remarked_json, remarked_long};
+use cwr_source::WINDOW;
 use kept_file::Exclusive;
+use std::alloc::Global;
 use std::process::ExitCode;
 use std::rt::{Env, Files};
 use std::sync::Wait;
@@ -162,21 +164,45 @@ fn check_file<R: AllocGlobal + Input + Print + Eprint + Files>(
     form: CheckForm,
     verbose: bool,
 ) -> ExitCode {
-    let text = match bytes_of(rt, path, MOST_BYTES, verbose) {
-        Ok(text) => text,
+    match checked_file(rt, path, form, verbose) {
+        Ok(checked) => tell_check(rt, &checked),
         Err(unread) => {
             let _ = eprintln!(rt; "stopped: {unread}");
-            return ExitCode::FAILURE;
+            ExitCode::FAILURE
         }
-    };
+    }
+}
+
+/// What is found in a file. For the short form it goes through a window, for the others it is in memory whole.
+fn checked_file<R: AllocGlobal + Input + Eprint + Files>(
+    rt: &R,
+    path: &str,
+    form: CheckForm,
+    verbose: bool,
+) -> Result<Checked, ReadRefused> {
+    let alloc = rt.alloc();
     let checked = match form {
-        CheckForm::Short => check_text(rt.alloc(), &text),
-        CheckForm::Long => remarked_long(rt.alloc(), &text),
-        CheckForm::Json => remarked_json(rt.alloc(), &text),
+        CheckForm::Short => return read_named(rt, path, verbose, ShortCheck { alloc }),
+        CheckForm::Long => remarked_long(alloc, &bytes_of(rt, path, MOST_BYTES, verbose)?),
+        CheckForm::Json => remarked_json(alloc, &bytes_of(rt, path, MOST_BYTES, verbose)?),
     };
     match checked {
-        Ok(checked) => tell_check(rt, &checked),
-        Err(_) => no_memory(rt),
+        Ok(checked) => Ok(checked),
+        Err(_) => Err(ReadRefused::Memory),
+    }
+}
+
+/// A file is checked as it is read.
+#[derive(Clone, Copy)]
+struct ShortCheck {
+    alloc: Global,
+}
+
+impl Reading for ShortCheck {
+    type Made = Checked;
+
+    fn read<S: Source>(self, reader: &mut S) -> Result<Checked, ReadRefused> {
+        check_source(self.alloc, reader, MOST_BYTES, WINDOW)
     }
 }
 
