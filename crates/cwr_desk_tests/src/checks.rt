@@ -1,6 +1,9 @@
-//! What a check tells of files of the profile.
+//! What a check tells of files of the profile, in memory and through windows of many sizes.
 
-use cwr_check::check_text;
+ghost use Rattle.std.specs.Prelude.{◌<◌};
+
+use byte_streams::{Feed, ReadRefused};
+use cwr_check::{Checked, check_source, check_text};
 use cwr_sheets::{
     ALL, file_of_lines, miscounted, one_writer, plain_file, same, same_bytes, work, writer,
 };
@@ -9,9 +12,21 @@ use std::test::Fail;
 
 const GROUP: &str = "GRHNWR0000102.200000000001";
 
-/// What must be told of a file, and whether it must be clean.
+/// The most bytes of the files here.
+const MOST: usize = 4096;
+
+/// What must be told of a file, and whether it must be clean: in memory, and a byte at a time through each window.
 fn expect(alloc: Global, bytes: &[u8], wanted: &str, clean: bool) -> Result<(), Fail> {
-    let checked = check_text(alloc, bytes)?;
+    expect_checked(&check_text(alloc, bytes)?, wanted, clean)?;
+    for room in 0..300 {
+        let mut reader = Feed::new(bytes, 1, None);
+        let checked = check_source(alloc, &mut reader, MOST, room)?;
+        expect_checked(&checked, wanted, clean)?;
+    }
+    Ok(())
+}
+
+fn expect_checked(checked: &Checked, wanted: &str, clean: bool) -> Result<(), Fail> {
     same_bytes(wanted, &checked.text, wanted.as_bytes())?;
     same(wanted, &checked.clean, &clean)
 }
@@ -149,4 +164,50 @@ fn tells_the_first_fault_of_a_file(rt: HostRuntime) -> Result<(), Fail> {
     expect(alloc, &cut_off, "refused F11 at line 6\n", false)?;
     let wrong = miscounted(alloc)?;
     expect(alloc, &wrong, "refused F9 at line 5\n", false)
+}
+
+/// A check of a file must be refused so: of at most so many bytes, which come one at a time, until the read fails that is
+/// counted so from 1; none fails for 0.
+fn expect_refused(
+    alloc: Global,
+    bytes: &[u8],
+    limit: usize,
+    failing: u64,
+    wanted: ReadRefused,
+) -> Result<(), Fail>
+    requires { limit < 4611686018427387904 }
+{
+    let mut reader = Feed::new(bytes, 1, Some(failing));
+    let refused = check_source(alloc, &mut reader, limit, 64).err();
+    same("the refusal", &refused, &Some(wanted))
+}
+
+/// A fault is told only of a file that can be read to its end.
+#[test]
+fn tells_each_failed_read(rt: HostRuntime) -> Result<(), Fail> {
+    let alloc = rt.alloc();
+    let clean = plain_file(alloc)?;
+    let wrong = miscounted(alloc)?;
+    for read in 0..=clean.len() {
+        expect_refused(alloc, &clean, MOST, read as u64 + 1, ReadRefused::Read)?;
+    }
+    for read in 0..=wrong.len() {
+        expect_refused(alloc, &wrong, MOST, read as u64 + 1, ReadRefused::Read)?;
+    }
+    Ok(())
+}
+
+/// Whatever the file, it may have as many bytes as the limit says, and not one more.
+#[test]
+fn takes_no_byte_past_the_limit(rt: HostRuntime) -> Result<(), Fail> {
+    let alloc = rt.alloc();
+    let clean = plain_file(alloc)?;
+    let wrong = miscounted(alloc)?;
+    let size = clean.len().min(MOST);
+    let checked = check_source(alloc, &mut Feed::new(&clean, 7, None), size, 64)?;
+    same("whether it is clean", &checked.clean, &true)?;
+    let less = size.saturating_sub(1);
+    expect_refused(alloc, &clean, less, 0, ReadRefused::TooLong)?;
+    let less = wrong.len().min(MOST).saturating_sub(1);
+    expect_refused(alloc, &wrong, less, 0, ReadRefused::TooLong)
 }

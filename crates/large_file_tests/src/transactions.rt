@@ -1,11 +1,14 @@
 //! Many transactions in a file, and many records in a transaction, read and judged.
 
-use cwr_check::check_text;
+use byte_streams::Feed;
+use cwr_check::{Checked, check_source, check_text};
+use cwr_desk::MOST_BYTES;
 use cwr_grammar::{RawTransaction, Submission, WorkKind, parse_file};
 use cwr_rules::{Call, judge};
 use cwr_sheets::{
     SENDER, Told, crowded_faults, crowded_work, many_checked, many_works, same, same_bytes,
 };
+use cwr_source::WINDOW;
 use std::alloc::Global;
 use std::test::Fail;
 
@@ -36,8 +39,7 @@ fn reads_70_000_transactions(rt: HostRuntime) -> Result<(), Fail> {
 }
 
 /// What a check must tell of a file.
-fn expect_checked(alloc: Global, text: &[u8], wanted: &[u8]) -> Result<(), Fail> {
-    let checked = check_text(alloc, text)?;
+fn expect_checked(checked: &Checked, wanted: &[u8]) -> Result<(), Fail> {
     same("whether it is clean", &checked.clean, &false)?;
     same_bytes("what was told", &checked.text, wanted)
 }
@@ -46,7 +48,19 @@ fn expect_checked(alloc: Global, text: &[u8], wanted: &[u8]) -> Result<(), Fail>
 fn checks_70_000_transactions(rt: HostRuntime) -> Result<(), Fail> {
     let text = many_works(rt.alloc(), SENDER, 70_000)?;
     let wanted = many_checked(rt.alloc(), 70_000)?;
-    expect_checked(rt.alloc(), &text, &wanted)
+    expect_checked(&check_text(rt.alloc(), &text)?, &wanted)
+}
+
+#[test]
+fn checks_70_000_transactions_through_a_window(rt: HostRuntime) -> Result<(), Fail> {
+    let text = many_works(rt.alloc(), SENDER, 70_000)?;
+    let wanted = many_checked(rt.alloc(), 70_000)?;
+    for piece in [1000, 1_000_000] {
+        let mut reader = Feed::new(&text, piece, None);
+        let checked = check_source(rt.alloc(), &mut reader, MOST_BYTES, WINDOW)?;
+        expect_checked(&checked, &wanted)?;
+    }
+    Ok(())
 }
 
 /// A call has these faults.
@@ -96,5 +110,5 @@ fn checks_30_000_records(rt: HostRuntime) -> Result<(), Fail> {
     let alloc = rt.alloc();
     let text = crowded_work(alloc, SENDER, 30_000)?;
     let wanted = told(alloc, &crowded_faults(alloc, 30_000)?)?;
-    expect_checked(alloc, &text, wanted.as_bytes())
+    expect_checked(&check_text(alloc, &text)?, wanted.as_bytes())
 }

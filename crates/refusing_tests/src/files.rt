@@ -2,7 +2,7 @@
 
 use byte_streams::{Feed, ReadRefused, read_file};
 use cwr_call::{Call, Fault, Faults};
-use cwr_check::check_text;
+use cwr_check::{Checked, check_source, check_text};
 use cwr_grammar::{FileRefusal, Submission, parse_file};
 use cwr_record::WorkKind;
 use cwr_rules::judge;
@@ -151,11 +151,28 @@ struct CheckText<'a>(&'a [u8]);
 impl Sweep for CheckText<'_> {
     fn ends(&self, memory: &Refusing) -> Ended {
         match check_text(memory, self.0) {
-            Ok(checked) => {
-                same("clean", &checked.clean, &false)?;
-                answered(same_bytes("text", &checked.text, FAULTY_TEXT))
-            }
+            Ok(checked) => answered(is_faulty_check(&checked)),
             Err(_) => Ok(true),
+        }
+    }
+}
+
+/// A check must tell what the faulty file has.
+fn is_faulty_check(checked: &Checked<&Refusing>) -> Result<(), Fail> {
+    same("clean", &checked.clean, &false)?;
+    same_bytes("text", &checked.text, FAULTY_TEXT)
+}
+
+/// A check through a window that is shorter than a line.
+#[derive(Drop)]
+struct CheckSource<'a>(&'a [u8]);
+
+impl Sweep for CheckSource<'_> {
+    fn ends(&self, memory: &Refusing) -> Ended {
+        match check_source(memory, &mut Feed::new(self.0, 7, None), 4096, 16) {
+            Ok(checked) => answered(is_faulty_check(&checked)),
+            Err(ReadRefused::Memory) => Ok(true),
+            Err(_) => Err(Fail::new("not read")),
         }
     }
 }
@@ -187,5 +204,6 @@ fn judges(rt: HostRuntime) -> Result<(), Fail> {
     let faulty = faulty_file(alloc)?;
     refuse_each(alloc, &CallOf)?;
     refuse_each(alloc, &Judge(&faulty))?;
-    refuse_each(alloc, &CheckText(&faulty))
+    refuse_each(alloc, &CheckText(&faulty))?;
+    refuse_each(alloc, &CheckSource(&faulty))
 }
