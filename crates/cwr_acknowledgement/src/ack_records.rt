@@ -12,6 +12,7 @@ use cwr_field::{filled, last_digits};
 use cwr_record::{Ack, FileTrailer, GroupHead, GroupTrailer, Header, Message, Prefix, Stamp};
 use std::alloc::Allocator;
 
+#[inline]
 pub(crate) fn file_start(stamp: &Stamp) -> Header
     ensures { result ≡ file_start stamp.now }
 {
@@ -59,6 +60,7 @@ pub(crate) fn group_start() -> GroupHead
 }
 
 /// The acknowledgement of an item, as the transaction `index` of its file.
+#[inline]
 pub(crate) fn ack_record<A: Allocator>(
     stamp: &Stamp,
     header: &Header,
@@ -86,6 +88,7 @@ pub(crate) fn ack_record<A: Allocator>(
 }
 
 /// The registry's number of a work in eight digits, or blanks where there is none.
+#[inline]
 fn recipient_number(work: Option<u32>) -> [u8; 20]
     ensures { result ≡ padded 20 (work_text work) }
 {
@@ -96,6 +99,7 @@ fn recipient_number(work: Option<u32>) -> [u8; 20]
 }
 
 /// The message that tells a fault, as the record `detail` of the transaction `index`.
+#[inline]
 pub(crate) fn message_record(index: u32, detail: u32, fault: &Fault) -> Message
     requires { (1 ≤ fault.now.number) × (fault.now.number ≤ 15) }
     ensures { result ≡ message_record index detail fault.now }
