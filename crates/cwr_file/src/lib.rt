@@ -7,7 +7,7 @@
 //! [`parse_file`] reads a submission file: its header and its transactions, or its first fault. Nothing is copied:
 //! a [`RawTransaction`] borrows the file's bytes, and [`Lines`] goes over lines. [`visit_file`] gives a [`Visitor`] the
 //! same transactions line by line, on its way; a [`FileReader`] does so of a file that comes a piece at a time.
-//! [`ack_file`] is the text of the acknowledgement file that answers it.
+//! [`ack_file`] is the text of the acknowledgement file that answers it, and [`send_ack`] sends it into a sink.
 #![tactic(auto)]
 
 pub mod laws;
@@ -15,7 +15,7 @@ pub mod laws;
 pub use byte_streams::{
     Failed, Feed, ReadCount, Room, Sink, Source, Through, WriteStopped, write_out,
 };
-pub use cwr_acknowledgement::{AckItem, ack_file};
+pub use cwr_acknowledgement::{AckItem, AckStopped, ack_file, send_ack};
 pub use cwr_call::{Fault, Faults};
 pub use cwr_field::Memory;
 pub use cwr_grammar::{
