@@ -5,6 +5,7 @@ ghost use Rattle.std.specs.List.{AllByRecursion};
 ghost use Rattle.cwr_acknowledgement.specs.AckItem.{is_rejected, told_faults};
 ghost use Rattle.cwr_acknowledgement.specs.Acknowledgement.{FitsItem, FitsFault, told_count, most_told};
 
+use crate::sent::expect_sent;
 use cwr_field::{cut, date, put_text, time};
 use cwr_file::{AckItem, Fault, Faults, Header, Lines, Memory, Stamp, Status, WorkKind, ack_file};
 use cwr_record::{read_header, read_message};
@@ -49,7 +50,7 @@ fn spelled(alloc: Global, texts: &[&str]) -> Result<Vec<u8>, Memory> {
     Ok(out)
 }
 
-fn header(alloc: Global) -> Result<Header, Fail> {
+pub(crate) fn header(alloc: Global) -> Result<Header, Fail> {
     let line = spelled(
         alloc,
         &["HDRPB000000123PUBLISHER A~34~01.102024050112000020240501"],
@@ -57,14 +58,14 @@ fn header(alloc: Global) -> Result<Header, Fail> {
     Ok(read_header(&line)?)
 }
 
-fn stamp() -> Result<Stamp, Fail> {
+pub(crate) fn stamp() -> Result<Stamp, Fail> {
     let day = date(cut(b"20240601", 1, 8)).ok_or("a day")?;
     let clock = time(cut(b"090000", 1, 6)).ok_or("a time")?;
     Ok(Stamp::new(0, b"CWR REGISTRY", day, clock).ok_or("a stamp")?)
 }
 
 /// An item of the first group that is not rejected, for a work that the submitter calls W1.
-fn item(alloc: Global, sequence: u32, kind: WorkKind, status: Status) -> AckItem
+pub(crate) fn item(alloc: Global, sequence: u32, kind: WorkKind, status: Status) -> AckItem
     requires sequence { sequence < 10 ^ 8 }
     requires status { is_rejected status ≡ false }
     ensures fits { FitsItem result }
@@ -93,7 +94,7 @@ fn fault(sequence: u32, number: u8, rtype: [u8; 3]) -> Fault
 }
 
 /// A rejected item: the first of the first group.
-fn rejected(title: &[u8], number: &[u8], faults: Vec<Fault>) -> AckItem
+pub(crate) fn rejected(title: &[u8], number: &[u8], faults: Vec<Fault>) -> AckItem
     requires { AllByRecursion FitsFault faults.items }
     ensures fits { FitsItem result }
     ensures told { told_faults result ≡ faults.items }
@@ -110,14 +111,16 @@ fn rejected(title: &[u8], number: &[u8], faults: Vec<Fault>) -> AckItem
     }
 }
 
-/// The acknowledgement of these items, which must be these texts, all room for it asked for at once.
+/// The acknowledgement of these items, which must be these texts, all room for it asked for at once, and the same when it
+/// is sent.
 fn expect_text(alloc: Global, items: &[AckItem], wanted: &[&str]) -> Result<(), Fail>
     requires few { length items.now + told_count items.now ≤ most_told }
     requires fit { AllByRecursion FitsItem items.now }
 {
     let text = ack_file(alloc, &stamp()?, &header(alloc)?, items)?;
     same_bytes("an acknowledgement", &text, &spelled(alloc, wanted)?)?;
-    same("its room", &text.capacity(), &text.len())
+    same("its room", &text.capacity(), &text.len())?;
+    expect_sent(alloc, &stamp()?, &header(alloc)?, items, &text)
 }
 
 /// The acknowledgement of one work that is registered.

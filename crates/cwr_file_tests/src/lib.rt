@@ -14,6 +14,8 @@ mod lines;
 #[cfg(test)]
 mod pieces;
 #[cfg(test)]
+mod sent;
+#[cfg(test)]
 mod streams;
 #[cfg(test)]
 mod taken;

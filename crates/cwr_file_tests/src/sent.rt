@@ -1,0 +1,126 @@
+//! Acknowledgements that go out in pieces.
+
+ghost use Rattle.std.specs.Prelude.{◌+◌, ◌≤◌, length, IfOk};
+ghost use Rattle.std.specs.List.{AllByRecursion};
+ghost use Rattle.cwr_acknowledgement.specs.Acknowledgement.{FitsFault, FitsItem, told_count, most_told};
+
+use crate::acknowledgements::{header, item, rejected, stamp};
+use byte_streams::Spool;
+use cwr_file::{
+    AckItem, AckStopped, Fault, Header, Memory, Room, Stamp, Status, Through, WorkKind, ack_file,
+    send_ack,
+};
+use cwr_sheets::{same, same_bytes};
+use std::alloc::Global;
+use std::io;
+use std::test::Fail;
+
+/// A writer that takes so many bytes a call at most.
+#[derive(Drop)]
+struct Few {
+    taken: Vec<u8>,
+    most: usize,
+}
+
+impl io::Write for Few {
+    fn write(&mut self, buf: &[u8]) -> io::Result<usize> {
+        let n = buf.len().min(self.most);
+        self.taken.extend_from_slice(&buf[..n])?;
+        Ok(n)
+    }
+
+    fn flush(&mut self) -> io::Result<()> {
+        Ok(())
+    }
+}
+
+/// The acknowledgement of these items goes out whole, however few bytes a write takes.
+pub(crate) fn expect_sent(
+    alloc: Global,
+    stamp: &Stamp,
+    header: &Header,
+    items: &[AckItem],
+    wanted: &[u8],
+) -> Result<(), Fail>
+    requires few { length items.now + told_count items.now ≤ most_told }
+    requires fit { AllByRecursion FitsItem items.now }
+{
+    let mut spool = Spool::new(alloc);
+    send_ack(alloc, &mut spool, stamp, header, items)?;
+    same_bytes("what was sent", spool.bytes(), wanted)?;
+    for most in 1..=5 {
+        let mut sink = Through::new(Few {
+            taken: Vec::new(alloc),
+            most,
+        });
+        send_ack(alloc, &mut sink, stamp, header, items)?;
+        same_bytes("what was sent", &sink.into_inner().taken, wanted)?;
+    }
+    Ok(())
+}
+
+/// A sink that takes so many bytes, and then fails or takes none, has taken these, and that is told.
+fn expect_cut(
+    alloc: Global,
+    items: &[AckItem],
+    wanted: &[u8],
+    size: usize,
+    fails: bool,
+) -> Result<(), Fail>
+    requires few { length items.now + told_count items.now ≤ most_told }
+    requires fit { AllByRecursion FitsItem items.now }
+{
+    let mut room = Room::new(alloc, size, fails)?;
+    let ended = send_ack(alloc, &mut room, &stamp()?, &header(alloc)?, items);
+    let stopped = AckStopped::Write { sent: size as u64 };
+    same("how it ended", &ended, &Err(stopped))?;
+    let front = wanted.get(..size).ok_or("a front")?;
+    same_bytes("what was taken", room.bytes(), front)
+}
+
+#[test]
+fn stops_after_each_byte(rt: HostRuntime) -> Result<(), Fail> {
+    let alloc = rt.alloc();
+    let items = [item(alloc, 0, WorkKind::Nwr, Status::Accepted)];
+    let wanted = ack_file(alloc, &stamp()?, &header(alloc)?, &items)?;
+    same("its length", &wanted.len(), &425)?;
+    for size in 0..425 {
+        expect_cut(alloc, &items, &wanted, size, true)?;
+        expect_cut(alloc, &items, &wanted, size, false)?;
+    }
+    Ok(())
+}
+
+/// A thousand faults, each of a record of its own.
+fn thousand_faults(alloc: Global) -> Result<Vec<Fault>, Memory>
+    ensures fit { IfOk result (λ faults. AllByRecursion FitsFault faults.items) }
+    ensures few { IfOk result (λ faults. length faults.items ≤ 1000) }
+{
+    let mut faults = Vec::new(alloc);
+    for sequence in 0..1000 {
+        faults.push(Fault {
+            sequence,
+            number: 6,
+            rtype: *b"SWR",
+        })?;
+    }
+    Ok(faults)
+}
+
+/// A thousand messages go out in three pieces. The first has 351 lines, the second 350.
+#[test]
+fn stops_in_each_piece(rt: HostRuntime) -> Result<(), Fail> {
+    let alloc = rt.alloc();
+    let items = [rejected(b"SONG ONE", b"W1", thousand_faults(alloc)?)];
+    let wanted = ack_file(alloc, &stamp()?, &header(alloc)?, &items)?;
+    same("its length", &wanted.len(), &187_425)?;
+    expect_sent(alloc, &stamp()?, &header(alloc)?, &items, &wanted)?;
+    // The first piece ends after 360 + 348 * 187 bytes, the second after 350 * 187 more.
+    for size in [
+        0, 65_435, 65_436, 65_437, 130_885, 130_886, 130_887, 187_424,
+    ] {
+        expect_cut(alloc, &items, &wanted, size, true)?;
+        expect_cut(alloc, &items, &wanted, size, false)?;
+    }
+    Ok(())
+}
