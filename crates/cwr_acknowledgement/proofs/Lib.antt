@@ -3,5 +3,4 @@ pub mod AckValues
 pub mod AckSteps
 pub mod AckLaw
 pub mod Puts
-pub mod LineRooms
 pub mod AckParts

@@ -4,8 +4,6 @@ use Rattle.std.specs.Io.KnownBytes.{Appends}
 use Rattle.byte_streams.specs.declared.sink.WriteStopped.{WriteStopped}
 
 pub record OutgoingState : Type 0 where
-  -- the line that was made last
-  pub line : List ℕ
   -- what was put and is not yet written out
   pub held : List ℕ
   -- how many bytes were written out before

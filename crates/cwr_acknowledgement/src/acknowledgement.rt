@@ -20,7 +20,10 @@ use crate::stopped::AckStopped;
 use byte_streams::{Sink, WriteStopped};
 use cwr_call::Fault;
 use cwr_field::Memory;
-use cwr_record::{Header, Stamp};
+use cwr_record::{
+    Header, Stamp, ack_line, file_trailer_line, group_head_line, group_trailer_line, header_line,
+    message_line,
+};
 use std::alloc::Allocator;
 
 /// How many bytes of an acknowledgement are held while it is written.
@@ -157,8 +160,7 @@ fn put_file_start<W: Sink, A: Allocator>(
     ensures put { IsPut result (W.taken writer.old) (W.taken writer.new) out.old out.new 1 (ended (line_of control.header (file_start stamp.now))) }
     ensures fails { W.has_failed writer.new ≡ is_err result }
 {
-    out.line.make_header(&file_start(stamp));
-    out.put_line(writer)
+    out.put_line(writer, header_line(&file_start(stamp)).bytes())
 }
 
 fn put_group_start<W: Sink, A: Allocator>(
@@ -170,8 +172,7 @@ fn put_group_start<W: Sink, A: Allocator>(
     ensures put { IsPut result (W.taken writer.old) (W.taken writer.new) out.old out.new 1 (ended (line_of control.group_head group_start)) }
     ensures fails { W.has_failed writer.new ≡ is_err result }
 {
-    out.line.make_group_head(&group_start());
-    out.put_line(writer)
+    out.put_line(writer, group_head_line(&group_start()).bytes())
 }
 
 fn put_items<W: Sink, A: Allocator>(
@@ -232,8 +233,10 @@ fn put_ack<W: Sink, A: Allocator>(
         (ended (line_of table.ack (ack_record stamp.now header.now index item.now))) }
     ensures fails { W.has_failed writer.new ≡ is_err result }
 {
-    out.line.make_ack(&ack_record(stamp, header, index, item));
-    out.put_line(writer)
+    out.put_line(
+        writer,
+        ack_line(&ack_record(stamp, header, index, item)).bytes(),
+    )
 }
 
 fn put_messages<W: Sink, A: Allocator>(
@@ -273,8 +276,10 @@ fn put_message<W: Sink, A: Allocator>(
         (ended (line_of table.message (message_record index detail fault.now))) }
     ensures fails { W.has_failed writer.new ≡ is_err result }
 {
-    out.line.make_message(&message_record(index, detail, fault));
-    out.put_line(writer)
+    out.put_line(
+        writer,
+        message_line(&message_record(index, detail, fault)).bytes(),
+    )
 }
 
 fn put_group_end<W: Sink, A: Allocator>(
@@ -290,8 +295,10 @@ fn put_group_end<W: Sink, A: Allocator>(
         (ended (line_of control.group_trailer (group_end transactions told))) }
     ensures fails { W.has_failed writer.new ≡ is_err result }
 {
-    out.line.make_group_trailer(&group_end(transactions, told));
-    out.put_line(writer)
+    out.put_line(
+        writer,
+        group_trailer_line(&group_end(transactions, told)).bytes(),
+    )
 }
 
 fn put_file_end<W: Sink, A: Allocator>(
@@ -307,6 +314,8 @@ fn put_file_end<W: Sink, A: Allocator>(
         (ended (line_of control.file_trailer (file_end transactions told))) }
     ensures fails { W.has_failed writer.new ≡ is_err result }
 {
-    out.line.make_file_trailer(&file_end(transactions, told));
-    out.put_line(writer)
+    out.put_line(
+        writer,
+        file_trailer_line(&file_end(transactions, told)).bytes(),
+    )
 }

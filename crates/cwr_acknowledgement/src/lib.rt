@@ -7,7 +7,6 @@ mod ack_item;
 mod ack_records;
 mod acknowledgement;
 pub mod laws;
-mod line_room;
 mod messages;
 mod nowhere;
 mod outgoing;

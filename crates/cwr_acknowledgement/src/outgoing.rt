@@ -5,7 +5,6 @@ ghost use Rattle.std.specs.Result.{is_err};
 ghost use Rattle.cwr_acknowledgement.specs.Acknowledgement.{ended};
 ghost use Rattle.cwr_acknowledgement.specs.Outgoing.{IsPut, size_of};
 
-use crate::line_room::LineRoom;
 use byte_streams::{Sink, WriteStopped, write_out};
 use cwr_field::Memory;
 use std::alloc::Allocator;
@@ -17,8 +16,6 @@ use std::marker::Model;
 /// begin again.
 #[derive(Drop)]
 pub(crate) struct Outgoing<A: Allocator> {
-    /// The line that is made next.
-    pub(crate) line: LineRoom<A>,
     held: Vec<u8, A>,
     /// How many bytes were written out.
     sent: u64,
@@ -31,7 +28,6 @@ impl<A: Allocator> Model for Outgoing<A> {
     ghost Value = { OutgoingState };
 
     ghost view = { λ o. record {
-      line = o.line;
       held = o.held.items;
       sent = o.sent;
       room = vec_capacity o.held;
@@ -50,7 +46,6 @@ impl<A: Allocator + Copy> Outgoing<A> {
         ensures sent { IfOk result (λ o. o.sent ≡ 0) }
     {
         Ok(Outgoing {
-            line: LineRoom::new(alloc)?,
             held: Vec::with_capacity(alloc, room)?,
             sent: 0,
         })
@@ -58,16 +53,20 @@ impl<A: Allocator + Copy> Outgoing<A> {
 }
 
 impl<A: Allocator> Outgoing<A> {
-    /// Puts the line that was made, with its end. Where there is no room for it, what is held is written out first.
-    pub(crate) fn put_line<W: Sink>(&mut self, writer: &mut W) -> Result<(), WriteStopped>
+    /// Puts a line, with its end. Where there is no room for it, what is held is written out first.
+    pub(crate) fn put_line<W: Sink>(
+        &mut self,
+        writer: &mut W,
+        line: &[u8],
+    ) -> Result<(), WriteStopped>
         requires works { W.has_failed writer.old ≡ false }
+        requires short { length line.now ≤ 185 }
         requires size { size_of self.old + 187 < 2 ^ 63 }
-        ensures put { IsPut result (W.taken writer.old) (W.taken writer.new) self.old self.new 1 (ended self.old.line) }
+        ensures put { IsPut result (W.taken writer.old) (W.taken writer.new) self.old self.new 1 (ended line.now) }
         ensures fails { W.has_failed writer.new ≡ is_err result }
     {
-        let needed = self.line.line().len() + 2;
-        self.make_room(writer, needed)?;
-        let Ok(()) = self.held.extend_from_slice(self.line.line()) else {
+        self.make_room(writer, line.len() + 2)?;
+        let Ok(()) = self.held.extend_from_slice(line) else {
             unreachable!()
         };
         let Ok(()) = self.held.extend_from_slice(b"\r\n") else {
@@ -82,7 +81,6 @@ impl<A: Allocator> Outgoing<A> {
         requires size { size_of self.old < 2 ^ 63 }
         requires needed { needed ≤ 187 }
         ensures put { IsPut result (W.taken writer.old) (W.taken writer.new) self.old self.new 0 [] }
-        ensures line { OnOk result (self.new.line ≡ self.old.line) }
         ensures room { OnOk result (length self.new.held + needed ≤ self.new.room) }
         ensures fails { W.has_failed writer.new ≡ is_err result }
     {
@@ -99,7 +97,6 @@ impl<A: Allocator> Outgoing<A> {
         ensures put { IsPut result (W.taken writer.old) (W.taken writer.new) self.old self.new 0 [] }
         ensures none_left { OnOk result (self.new.held ≡ []) }
         ensures room { OnOk result (187 ≤ self.new.room) }
-        ensures line { OnOk result (self.new.line ≡ self.old.line) }
         ensures fails { W.has_failed writer.new ≡ is_err result }
     {
         match write_out(writer, &self.held) {
@@ -118,11 +115,7 @@ impl<A: Allocator> Outgoing<A> {
     pub(crate) fn into_held(self) -> Vec<u8, A>
         ensures { result.items ≡ self.held }
     {
-        let Outgoing {
-            line: _,
-            held,
-            sent: _,
-        } = self;
+        let Outgoing { held, sent: _ } = self;
         held
     }
 }

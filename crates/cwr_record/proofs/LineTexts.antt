@@ -15,3 +15,7 @@ pub whole : (out new bytes line empty text : List ℕ) → new ≡ out ++ bytes 
     → new ≡ out ++ text
 whole out new bytes line empty text e is fields none =
     e ∙ ap (λ t. out ++ t) (is ∙ sym (append-nil line) ∙ fields ∙ ap (λ t. t ++ text) none)
+
+-- nothing stood before its fields
+pub fields_alone : (line empty text : List ℕ) → line ++ [] ≡ empty ++ text → empty ≡ [] → line ≡ text
+fields_alone line empty text fields none = sym (append-nil line) ∙ fields ∙ ap (λ t. t ++ text) none

@@ -91,17 +91,14 @@ fn ack_at(line: &[u8]) -> Ack
     }
 }
 
-/// Appends the line of an acknowledgement, 159 bytes without a line end.
+/// The line of an acknowledgement, 159 bytes without a line end.
 ///
-/// The group id has at most five digits, each sequence at most eight. A refusal leaves the vector as it was.
-pub fn write_ack<A: Allocator>(out: &mut Vec<u8, A>, ack: &Ack) -> Result<(), Memory>
+/// The group id has at most five digits, each sequence at most eight.
+pub fn ack_line(ack: &Ack) -> LineRoom<159>
     requires { Fits table.ack ack.now }
-    ensures ok { OnOk result (out.new.items ≡ out.old.items ++ line_of table.ack ack.now) }
+    ensures line { result ≡ line_of table.ack ack.now }
     // This is what the reader asks of a value that it reads again.
-    ensures whole { OnOk result (IsWhole table.ack ack.now) }
-    ensures err { OnErr result (out.new.items ≡ out.old.items) }
-    // Memory is answered only where there was no room for the line.
-    ensures full { OnErr result (vec_capacity out.old < vec_len out.old + 159) }
+    ensures whole { IsWhole table.ack ack.now }
 {
     let mut line = LineRoom::<159>::new();
     line.put(&Piece::Text(b"ACK", RecordType::COLUMN));
@@ -117,7 +114,22 @@ pub fn write_ack<A: Allocator>(out: &mut Vec<u8, A>, ack: &Ack) -> Result<(), Me
     line.put(&Piece::Text(&ack.recipient_number, Ack::RECIPIENT_NUMBER));
     line.put(&Piece::Day(ack.processing_date));
     line.put(&Piece::Text(&ack.status, Ack::STATUS));
-    out.extend_from_slice(line.bytes())?;
+    line
+}
+
+/// Appends the line of an acknowledgement, 159 bytes without a line end.
+///
+/// The group id has at most five digits, each sequence at most eight. A refusal leaves the vector as it was.
+pub fn write_ack<A: Allocator>(out: &mut Vec<u8, A>, ack: &Ack) -> Result<(), Memory>
+    requires { Fits table.ack ack.now }
+    ensures ok { OnOk result (out.new.items ≡ out.old.items ++ line_of table.ack ack.now) }
+    // This is what the reader asks of a value that it reads again.
+    ensures whole { OnOk result (IsWhole table.ack ack.now) }
+    ensures err { OnErr result (out.new.items ≡ out.old.items) }
+    // Memory is answered only where there was no room for the line.
+    ensures full { OnErr result (vec_capacity out.old < vec_len out.old + 159) }
+{
+    out.extend_from_slice(ack_line(ack).bytes())?;
     Ok(())
 }
 
@@ -180,17 +192,14 @@ fn message_at(line: &[u8]) -> Message
     }
 }
 
-/// Appends the line of a message, 185 bytes without a line end.
+/// The line of a message, 185 bytes without a line end.
 ///
-/// Each sequence has at most eight digits, the validation number at most three. A refusal leaves the vector as it was.
-pub fn write_message<A: Allocator>(out: &mut Vec<u8, A>, message: &Message) -> Result<(), Memory>
+/// Each sequence has at most eight digits, the validation number at most three.
+pub fn message_line(message: &Message) -> LineRoom<185>
     requires { Fits table.message message.now }
-    ensures ok { OnOk result (out.new.items ≡ out.old.items ++ line_of table.message message.now) }
+    ensures line { result ≡ line_of table.message message.now }
     // This is what the reader asks of a value that it reads again.
-    ensures whole { OnOk result (IsWhole table.message message.now) }
-    ensures err { OnErr result (out.new.items ≡ out.old.items) }
-    // Memory is answered only where there was no room for the line.
-    ensures full { OnErr result (vec_capacity out.old < vec_len out.old + 185) }
+    ensures whole { IsWhole table.message message.now }
 {
     let mut line = LineRoom::<185>::new();
     line.put(&Piece::Text(b"MSG", RecordType::COLUMN));
@@ -205,6 +214,21 @@ pub fn write_message<A: Allocator>(out: &mut Vec<u8, A>, message: &Message) -> R
         Message::VALIDATION_NUMBER,
     ));
     line.put(&Piece::Text(&message.text, Message::TEXT));
-    out.extend_from_slice(line.bytes())?;
+    line
+}
+
+/// Appends the line of a message, 185 bytes without a line end.
+///
+/// Each sequence has at most eight digits, the validation number at most three. A refusal leaves the vector as it was.
+pub fn write_message<A: Allocator>(out: &mut Vec<u8, A>, message: &Message) -> Result<(), Memory>
+    requires { Fits table.message message.now }
+    ensures ok { OnOk result (out.new.items ≡ out.old.items ++ line_of table.message message.now) }
+    // This is what the reader asks of a value that it reads again.
+    ensures whole { OnOk result (IsWhole table.message message.now) }
+    ensures err { OnErr result (out.new.items ≡ out.old.items) }
+    // Memory is answered only where there was no room for the line.
+    ensures full { OnErr result (vec_capacity out.old < vec_len out.old + 185) }
+{
+    out.extend_from_slice(message_line(message).bytes())?;
     Ok(())
 }

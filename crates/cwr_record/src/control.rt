@@ -10,7 +10,8 @@ ghost use Rattle.cwr_record.specs.declared.control.GroupHead.{GroupHead};
 ghost use Rattle.cwr_record.specs.declared.control.GroupTrailer.{GroupTrailer};
 ghost use Rattle.cwr_record.specs.declared.control.FileTrailer.{FileTrailer};
 
-use crate::pieces::{Piece, put_line};
+use crate::line_room::LineRoom;
+use crate::pieces::Piece;
 use crate::record_type::RecordType;
 use crate::slot::{Content, FieldFault, Slot, check, slots};
 use crate::values::{day_at, number_at, text_at, time_at};
@@ -69,6 +70,28 @@ fn header_at(line: &[u8]) -> Header
     }
 }
 
+/// The line of a file header, 167 bytes without a line end.
+pub fn header_line(header: &Header) -> LineRoom<167>
+    ensures line { result ≡ line_of table.header header.now }
+    // This is what the reader asks of a value that it reads again.
+    ensures whole { IsWhole table.header header.now }
+{
+    let mut line = LineRoom::<167>::new();
+    line.put(&Piece::Text(b"HDR", RecordType::COLUMN));
+    line.put(&Piece::Text(&header.sender, Header::SENDER));
+    line.put(&Piece::Text(&header.name, Header::NAME));
+    line.put(&Piece::Text(b"01.10", Header::STANDARD_VERSION));
+    line.put(&Piece::Day(header.creation_date));
+    line.put(&Piece::Time(header.creation_time));
+    line.put(&Piece::Day(header.transmission_date));
+    line.put(&Piece::Text(&header.character_set, Header::CHARACTER_SET));
+    line.put(&Piece::Text(b"2.2", Header::VERSION));
+    line.put(&Piece::Text(b"001", Header::REVISION));
+    line.put(&Piece::Text(b"CWR REGISTRY", Header::SOFTWARE_PACKAGE));
+    line.put(&Piece::Text(b"1.0", Header::SOFTWARE_VERSION));
+    line
+}
+
 /// Appends the line of a file header, 167 bytes without a line end.
 ///
 /// A refusal leaves the vector as it was.
@@ -80,23 +103,8 @@ pub fn write_header<A: Allocator>(out: &mut Vec<u8, A>, header: &Header) -> Resu
     // Memory is answered only where there was no room for the line.
     ensures full { OnErr result (vec_capacity out.old < vec_len out.old + 167) }
 {
-    put_line(
-        out,
-        &[
-            Piece::Text(b"HDR", RecordType::COLUMN),
-            Piece::Text(&header.sender, Header::SENDER),
-            Piece::Text(&header.name, Header::NAME),
-            Piece::Text(b"01.10", Header::STANDARD_VERSION),
-            Piece::Day(header.creation_date),
-            Piece::Time(header.creation_time),
-            Piece::Day(header.transmission_date),
-            Piece::Text(&header.character_set, Header::CHARACTER_SET),
-            Piece::Text(b"2.2", Header::VERSION),
-            Piece::Text(b"001", Header::REVISION),
-            Piece::Text(b"CWR REGISTRY", Header::SOFTWARE_PACKAGE),
-            Piece::Text(b"1.0", Header::SOFTWARE_VERSION),
-        ],
-    )
+    out.extend_from_slice(header_line(header).bytes())?;
+    Ok(())
 }
 
 /// The head of a group: GRH, Group Header.
@@ -146,6 +154,25 @@ fn group_head_at(line: &[u8]) -> GroupHead
     }
 }
 
+/// The line of a group header, 28 bytes without a line end.
+///
+/// The group id has at most five digits.
+pub fn group_head_line(head: &GroupHead) -> LineRoom<28>
+    requires { Fits table.group_head head.now }
+    ensures line { result ≡ line_of table.group_head head.now }
+    // This is what the reader asks of a value that it reads again.
+    ensures whole { IsWhole table.group_head head.now }
+{
+    let mut line = LineRoom::<28>::new();
+    line.put(&Piece::Text(b"GRH", RecordType::COLUMN));
+    line.put(&Piece::Text(&head.transaction_type, GroupHead::TRANSACTION_TYPE));
+    line.put(&Piece::Digits(head.group as u64, GroupHead::GROUP));
+    line.put(&Piece::Text(&head.version, GroupHead::VERSION));
+    line.put(&Piece::Text(&head.batch_request, GroupHead::BATCH_REQUEST));
+    line.put(&Piece::Text(&head.submission_type, GroupHead::SUBMISSION_TYPE));
+    line
+}
+
 /// Appends the line of a group header, 28 bytes without a line end.
 ///
 /// The group id has at most five digits. A refusal leaves the vector as it was.
@@ -158,17 +185,8 @@ pub fn write_group_head<A: Allocator>(out: &mut Vec<u8, A>, head: &GroupHead) ->
     // Memory is answered only where there was no room for the line.
     ensures full { OnErr result (vec_capacity out.old < vec_len out.old + 28) }
 {
-    put_line(
-        out,
-        &[
-            Piece::Text(b"GRH", RecordType::COLUMN),
-            Piece::Text(&head.transaction_type, GroupHead::TRANSACTION_TYPE),
-            Piece::Digits(head.group as u64, GroupHead::GROUP),
-            Piece::Text(&head.version, GroupHead::VERSION),
-            Piece::Text(&head.batch_request, GroupHead::BATCH_REQUEST),
-            Piece::Text(&head.submission_type, GroupHead::SUBMISSION_TYPE),
-        ],
-    )
+    out.extend_from_slice(group_head_line(head).bytes())?;
+    Ok(())
 }
 
 /// The end of a group: GRT, Group Trailer.
@@ -214,6 +232,24 @@ fn group_trailer_at(line: &[u8]) -> GroupTrailer
     }
 }
 
+/// The line of a group trailer, 37 bytes without a line end.
+///
+/// The group id has at most five digits, the counts at most eight.
+pub fn group_trailer_line(trailer: &GroupTrailer) -> LineRoom<37>
+    requires { Fits table.group_trailer trailer.now }
+    ensures line { result ≡ line_of table.group_trailer trailer.now }
+    // This is what the reader asks of a value that it reads again.
+    ensures whole { IsWhole table.group_trailer trailer.now }
+{
+    let mut line = LineRoom::<37>::new();
+    line.put(&Piece::Text(b"GRT", RecordType::COLUMN));
+    line.put(&Piece::Digits(trailer.group as u64, GroupTrailer::GROUP));
+    line.put(&Piece::Digits(trailer.transactions as u64, GroupTrailer::TRANSACTIONS));
+    line.put(&Piece::Digits(trailer.records as u64, GroupTrailer::RECORDS));
+    line.put(&Piece::Text(b"", GroupTrailer::MONETARY_VALUE));
+    line
+}
+
 /// Appends the line of a group trailer, 37 bytes without a line end.
 ///
 /// The group id has at most five digits, each count at most eight. A refusal leaves the vector as it was.
@@ -229,16 +265,8 @@ pub fn write_group_trailer<A: Allocator>(
     // Memory is answered only where there was no room for the line.
     ensures full { OnErr result (vec_capacity out.old < vec_len out.old + 37) }
 {
-    put_line(
-        out,
-        &[
-            Piece::Text(b"GRT", RecordType::COLUMN),
-            Piece::Digits(trailer.group as u64, GroupTrailer::GROUP),
-            Piece::Digits(trailer.transactions as u64, GroupTrailer::TRANSACTIONS),
-            Piece::Digits(trailer.records as u64, GroupTrailer::RECORDS),
-            Piece::Text(b"", GroupTrailer::MONETARY_VALUE),
-        ],
-    )
+    out.extend_from_slice(group_trailer_line(trailer).bytes())?;
+    Ok(())
 }
 
 /// The end of a file: TRL, Transmission Trailer.
@@ -284,6 +312,23 @@ fn file_trailer_at(line: &[u8]) -> FileTrailer
     }
 }
 
+/// The line of a file trailer, 24 bytes without a line end.
+///
+/// The group count has at most five digits, the other counts at most eight.
+pub fn file_trailer_line(trailer: &FileTrailer) -> LineRoom<24>
+    requires { Fits table.file_trailer trailer.now }
+    ensures line { result ≡ line_of table.file_trailer trailer.now }
+    // This is what the reader asks of a value that it reads again.
+    ensures whole { IsWhole table.file_trailer trailer.now }
+{
+    let mut line = LineRoom::<24>::new();
+    line.put(&Piece::Text(b"TRL", RecordType::COLUMN));
+    line.put(&Piece::Digits(trailer.groups as u64, FileTrailer::GROUPS));
+    line.put(&Piece::Digits(trailer.transactions as u64, FileTrailer::TRANSACTIONS));
+    line.put(&Piece::Digits(trailer.records as u64, FileTrailer::RECORDS));
+    line
+}
+
 /// Appends the line of a file trailer, 24 bytes without a line end.
 ///
 /// The group count has at most five digits, the other counts at most eight. A refusal leaves the vector as it was.
@@ -299,13 +344,6 @@ pub fn write_file_trailer<A: Allocator>(
     // Memory is answered only where there was no room for the line.
     ensures full { OnErr result (vec_capacity out.old < vec_len out.old + 24) }
 {
-    put_line(
-        out,
-        &[
-            Piece::Text(b"TRL", RecordType::COLUMN),
-            Piece::Digits(trailer.groups as u64, FileTrailer::GROUPS),
-            Piece::Digits(trailer.transactions as u64, FileTrailer::TRANSACTIONS),
-            Piece::Digits(trailer.records as u64, FileTrailer::RECORDS),
-        ],
-    )
+    out.extend_from_slice(file_trailer_line(trailer).bytes())?;
+    Ok(())
 }

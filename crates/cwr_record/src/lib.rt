@@ -46,12 +46,14 @@ mod values;
 mod works;
 mod writers;
 
-pub use acknowledgement::{Ack, Message, read_ack, read_message, write_ack, write_message};
+pub use acknowledgement::{
+    Ack, Message, ack_line, message_line, read_ack, read_message, write_ack, write_message,
+};
 pub use columns::{Column, digits_at, field_at};
 pub use control::{
-    FileTrailer, GroupHead, GroupTrailer, Header, read_file_trailer, read_group_head,
-    read_group_trailer, read_header, write_file_trailer, write_group_head, write_group_trailer,
-    write_header,
+    FileTrailer, GroupHead, GroupTrailer, Header, file_trailer_line, group_head_line,
+    group_trailer_line, header_line, read_file_trailer, read_group_head, read_group_trailer,
+    read_header, write_file_trailer, write_group_head, write_group_trailer, write_header,
 };
 pub use cwr_field::{Clock, Day, Field, Memory};
 pub use line_room::LineRoom;

@@ -57,7 +57,8 @@ impl<const N: usize> LineRoom<N> {
     /// The line.
     #[inline(always)]
     pub fn bytes(&self) -> &[u8]
-        ensures { result.now ≡ self.now }
+        ensures line { result.now ≡ self.now }
+        ensures within { length result.now ≤ N }
     {
         &self.bytes[..self.end]
     }

@@ -8,4 +8,4 @@ use Rattle.cwr_acknowledgement.proofs.acknowledgement.put_ack.Goals as goal
 pub returns-clause-put : goal.returns-clause-put
 returns-clause-put g c =
     put_from c.put_line.result _ _ _ c.args.out.now _ 1 _ _ c.put_line.ensures.put (search rules) (search rules)
-    (ap ended (c.make_ack.ensures ∙ ap (line_of table.ack) c.ack_record.ensures))
+    (ap ended (c.bytes.ensures.line ∙ c.ack_line.ensures.line ∙ ap (line_of table.ack) c.ack_record.ensures))
