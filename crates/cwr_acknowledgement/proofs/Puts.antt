@@ -115,13 +115,6 @@ front_cut a b c x y n sent part left rest whole p begins q =
     subst (Cuts a c x sent) (append_assoc p.text part rest ∙ ap (λ l. p.text ++ l) (sym begins) ∙ p.rest)
     (Cuts-more a c x sent (p.text ++ part) rest (Cuts-then a b c x y n sent p.text part p.put q))
 
--- no part is left
-pub front_all : (a b : Option (List ℕ)) (x y : OutgoingState) (n k : ℕ) (left whole : List ℕ)
-    → PutsFront a b x y n left whole → left ≡ [] → n ≡ k → Puts a b x y k whole
-front_all a b x y n k left whole p none count =
-    let text : p.text ≡ whole = sym (append-nil p.text) ∙ ap (λ l. p.text ++ l) (sym none) ∙ p.rest in
-    subst (λ (i : ℕ). Puts a b x y i whole) count (subst (Puts a b x y n) text p.put)
-
 -- a stopped write that is handed on
 pub cut_put : (r : Result (Unit {0}) WriteStopped) (e : WriteStopped) (a b : Option (List ℕ)) (x y : OutgoingState) (n : ℕ) (t : List ℕ)
     → IsErrAnd r (λ o. o ≡ e) → Cuts a b x e.sent t → IsPut r a b x y n t
@@ -163,29 +156,3 @@ module _ (head group items end last whole : List ℕ) (all : head ++ (group ++ (
       then_whole o a b f x y u 1 (1 + (k + (1 + 1))) (4 + k) head (group ++ (items ++ (end ++ last))) whole p
       (then_put o b c f y z u 1 (k + (1 + 1)) group (items ++ (end ++ last)) q
       (then_put o c d f z w u k (1 + 1) items (end ++ last) r (then_put o d e f w v u 1 1 end last s t))) (omega arith) all
-
--- ---- a text from its first byte
-
--- all of it went out
-pub sent_all : (a b : Option (List ℕ)) (x y : OutgoingState) (n : ℕ) (t : List ℕ) → x.held ≡ [] → y.held ≡ [] → Puts a b x y n t → Appends a b t
-sent_all a b x y n t none left p =
-    let all : t ≡ p.gone = ap (λ l. l ++ t) (sym none) ∙ p.whole ∙ ap (λ l. p.gone ++ l) left ∙ append-nil p.gone in
-    subst (Appends a b) (sym all) p.taken
-
--- the first bytes of it went out
-pub sent_first : (a b : Option (List ℕ)) (x : OutgoingState) (sent : ℕ) (t : List ℕ) → x.held ≡ [] → x.sent ≡ 0 → Cuts a b x sent t → Appends a b (take sent t)
-sent_first a b x sent t none zero p =
-    let count : p.more ≡ sent = let c = p.counted in omega (arith, c, zero) in
-    let text : take p.more (x.held ++ t) ≡ take sent t = ap (λ l. take p.more (l ++ t)) none ∙ ap (λ k. take k t) count in
-    subst (Appends a b) text p.first
-
-pub sent_fewer : (a b : Option (List ℕ)) (x : OutgoingState) (sent : ℕ) (t : List ℕ) → x.held ≡ [] → x.sent ≡ 0 → Cuts a b x sent t → sent < length t
-sent_fewer a b x sent t none zero p =
-    let l : length (x.held ++ t) ≡ length t = ap (λ l. length (l ++ t)) none in
-    let c = p.counted in
-    let f = p.fewer in
-    omega (arith, l, c, f, zero)
-
--- none of it could go out
-pub held_all : (x y : OutgoingState) (n : ℕ) (t : List ℕ) → x.held ≡ [] → Puts (Some []) (Some []) x y n t → y.held ≡ t
-held_all x y n t none p = sym (ap (λ l. l ++ t) (sym none) ∙ p.whole ∙ ap (λ l. l ++ y.held) (sym p.taken))

@@ -28,6 +28,25 @@ fn acknowledges_70_000_transactions(rt: HostRuntime) -> Result<(), Fail> {
     expect(alloc, &input, end, &many_answers(alloc, 70_000, 0)?)
 }
 
+/// The acknowledgement goes out in three pieces, the first two of 407 lines each. The writer fails before, at and after
+/// their ends.
+#[test]
+fn stops_in_each_piece_of_an_acknowledgement(rt: HostRuntime) -> Result<(), Fail> {
+    let alloc = rt.alloc();
+    let input = many_works(alloc, SENDER, 1000)?;
+    let answers = many_answers(alloc, 1000, 0)?;
+    for size in [
+        0, 1, 65_403, 65_404, 65_405, 130_930, 130_931, 130_932, 161_263,
+    ] {
+        let end = FileOutcome::Stopped {
+            handed: 1000,
+            why: Why::Write { sent: size as u64 },
+        };
+        expect(alloc, &input, end, answers.get(..size).ok_or("a front")?)?;
+    }
+    Ok(())
+}
+
 /// A rejected work, with a message for each of 19,999 faults.
 #[test]
 fn acknowledges_30_000_records(rt: HostRuntime) -> Result<(), Fail> {

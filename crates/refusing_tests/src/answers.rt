@@ -4,11 +4,13 @@ ghost use Rattle.cwr_acknowledgement.specs.AckItem.{told_faults};
 ghost use Rattle.cwr_acknowledgement.specs.Acknowledgement.{FitsItem};
 
 use crate::control_records::text;
-use cwr_acknowledgement::{AckItem, ack_file};
+use byte_streams::Room;
+use cwr_acknowledgement::{AckItem, AckStopped, ack_file, send_ack};
 use cwr_call::{Fault, Faults};
 use cwr_record::{Header, Stamp, Status, WorkKind, read_header};
 use cwr_sheets::{SENDER, acknowledgement, decision, header, same_bytes, stamp};
-use refusing::{Ended, Refusing, Sweep, answered, refuse_each};
+use refusing::{Ended, Refusing, Sweep, answered, refuse_each, refused};
+use std::alloc::Global;
 use std::test::Fail;
 
 /// The share that is told.
@@ -74,6 +76,31 @@ impl Sweep for AckFile<'_> {
     }
 }
 
+/// The same, sent into a room that has its memory.
+#[derive(Drop)]
+struct SendAck<'a> {
+    alloc: Global,
+    stamp: Stamp,
+    header: Header,
+    wanted: &'a [u8],
+}
+
+impl Sweep for SendAck<'_> {
+    fn ends(&self, memory: &Refusing) -> Ended {
+        let mut faults = Vec::new(memory);
+        if faults.push(SHARE).is_err() {
+            return Ok(true);
+        }
+        let items = [accepted(memory), rejected(faults)];
+        let mut room = Room::new(self.alloc, self.wanted.len(), true)?;
+        match send_ack(memory, &mut room, &self.stamp, &self.header, &items) {
+            Ok(()) => answered(same_bytes("the acknowledgement", room.bytes(), self.wanted)),
+            Err(AckStopped::Memory) => refused(same_bytes("what was written", room.bytes(), b"")),
+            Err(stopped) => Err(Fail::new(format_args!("{stopped}"))),
+        }
+    }
+}
+
 #[test]
 fn acknowledgements(rt: HostRuntime) -> Result<(), Fail> {
     let alloc = rt.alloc();
@@ -92,10 +119,17 @@ fn acknowledgements(rt: HostRuntime) -> Result<(), Fail> {
             ),
         ],
     )?;
-    let sweep = AckFile {
+    let made = AckFile {
         stamp: stamp()?,
         header: read_header(head.as_bytes())?,
         wanted: &wanted,
     };
-    refuse_each(alloc, &sweep)
+    refuse_each(alloc, &made)?;
+    let sent = SendAck {
+        alloc,
+        stamp: stamp()?,
+        header: read_header(head.as_bytes())?,
+        wanted: &wanted,
+    };
+    refuse_each(alloc, &sent)
 }
