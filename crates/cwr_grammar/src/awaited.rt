@@ -1,6 +1,6 @@
 ghost use Rattle.std.specs.Prelude.{◌≡◌, ◌+◌, ◌<◌, ◌^◌, ◌∷◌, [], ℕ, Some, true, List, IfSome, IsTrue, get_or};
 ghost use Rattle.std.specs.Int.{w64, from_be_bytes};
-ghost use Rattle.cwr_field.specs.Number.{number_of, number_text};
+ghost use Rattle.cwr_field.specs.Number.{number_of};
 ghost use Rattle.cwr_record.specs.Columns.{field_at};
 ghost use Rattle.cwr_record.specs.Ranges.{is_in_line};
 ghost use Rattle.cwr_grammar.specs.Awaited.{Awaits, digits_of};
@@ -48,8 +48,8 @@ impl Awaited {
     {
         let is_next = is_detail(record_type)
             && counts.lines < MOST_COUNT as u64
-            && digits_at(line, Prefix::TRANSACTION) == self.transaction
-            && digits_at(line, Prefix::DETAIL) == self.detail;
+            && packed_at(line, Prefix::TRANSACTION) == self.transaction
+            && packed_at(line, Prefix::DETAIL) == self.detail;
         if !is_next {
             return None;
         }
@@ -108,7 +108,7 @@ fn next_digits(digits: u64, number: u64) -> u64
 
 /// The eight bytes of a column, as one number. Where that is of a number's digits, they spell it.
 #[inline(always)]
-fn digits_at(line: &[u8], column: Column) -> u64
+fn packed_at(line: &[u8], column: Column) -> u64
     requires column { IsTrue (is_in_line column) }
     requires width { column.width ≡ 8 }
     ensures { (n : ℕ) → n < 10 ^ 8 → result ≡ digits_of n → number_of (field_at line.now column) ≡ Some n }

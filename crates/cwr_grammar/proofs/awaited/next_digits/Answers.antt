@@ -1,4 +1,4 @@
-use Rattle.std.proofs.Common.{◌≡◌, ◌∙◌, ◌+◌, ◌%◌, ◌<◌, sym, ap, arith}
+use Rattle.std.proofs.Common.{◌≡◌, ◌∙◌, ◌+◌, ◌%◌, sym, ap, arith}
 use Rattle.cwr_grammar.proofs.AwaitedNumbers.{last_digit, next_digit}
 use Rattle.cwr_grammar.proofs.awaited.next_digits.Goals as goal
 

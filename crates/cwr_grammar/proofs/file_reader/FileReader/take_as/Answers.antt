@@ -1,5 +1,4 @@
 use Rattle.std.proofs.Common.{◌∙◌, map, drop, refl, sym, ap, subst, arith}
-use Rattle.std.proofs.lemmas.Result.{err_from_is_err_and}
 use Rattle.cwr_grammar.specs.Awaited.{Awaits}
 use Rattle.cwr_grammar.specs.declared.file_counts.FileCounts.{FileCounts}
 use Rattle.cwr_grammar.specs.FirstFault.{role_fault}
@@ -8,8 +7,8 @@ use Rattle.cwr_grammar.specs.Roles.{role_of}
 use Rattle.cwr_grammar.proofs.Controls.{printable}
 use Rattle.cwr_grammar.proofs.Numbers.{fits_header, clear_role, clear_control}
 use Rattle.cwr_grammar.proofs.OneLineFurther.{going_small, line_faulty}
-use Rattle.cwr_grammar.proofs.ReadFurther.{valid_header, one_next, line_taken, tail_taken, tail_faulty}
-use Rattle.cwr_grammar.proofs.Visits.{read_type, visiting_gives}
+use Rattle.cwr_grammar.proofs.ReadFurther.{valid_header, one_next, line_taken}
+use Rattle.cwr_grammar.proofs.Visits.{visiting_gives}
 use Rattle.cwr_grammar.proofs.file_reader.FileReader.take_as.Goals as goal
 
 pub fault_of-requires-clause-small : goal.fault_of-requires-clause-small

@@ -1,8 +1,7 @@
-use Rattle.std.proofs.Common.{◌≡◌, ◌∙◌, ℕ, List, length, sym, ap, subst}
-use Rattle.std.specs.Prelude.{Some}
+use Rattle.std.proofs.Common.{◌∙◌, length, sym, ap}
 use Rattle.cwr_field.specs.Number.{number_of}
 use Rattle.cwr_grammar.proofs.AwaitedNumbers.{number_read}
-use Rattle.cwr_grammar.proofs.awaited.digits_at.Goals as goal
+use Rattle.cwr_grammar.proofs.awaited.packed_at.Goals as goal
 
 pub returns : goal.returns
 returns c = λ n few is.
