@@ -1,5 +1,5 @@
 -- what is kept beside the history, after one more entry
-use Rattle.std.proofs.Common.{◌≡◌, ◌≤◌, ◌<◌, IfSome, IsTrue, nat_le, MatchOption, ℕ, ◌+◌, ◌-◌, ◌==◌, Bool, true, false, List, refl, sym, ap, ◌∙◌, arith, Option, Some, None, if◌then◌else◌, ◌++◌, ◌∷◌, [], count_by, add-zero, zero-add, eqb-true, eq-eqb, nat_eq, nat_lt, cond, length, slice_index_or, slice_set, slice_index, true≢false, ◌&&◌, append-nil}
+use Rattle.std.proofs.Common.{◌≡◌, ◌≤◌, ◌<◌, IfSome, IsTrue, MatchOption, ℕ, ◌+◌, ◌-◌, ◌==◌, Bool, true, false, List, refl, sym, ap, ◌∙◌, arith, Option, Some, None, if◌then◌else◌, ◌++◌, ◌∷◌, [], count_by, add-zero, zero-add, eqb-true, eq-eqb, nat_eq, nat_lt, cond, length, slice_index_or, slice_set, slice_index, true≢false, ◌&&◌, append-nil}
 use Rattle.std.specs.Option.{option_map, option_map_or, is_some}
 use Rattle.std.specs.HashMap.{HashMap, get, Updates, IsUnchanged}
 use Rattle.std.proofs.lemmas.Grind.{common_steps}
