@@ -1,5 +1,5 @@
-use Rattle.std.proofs.Common.{arith, append-nil, refl}
-use Rattle.cwr_acknowledgement.proofs.Puts.{cut_put, then_whole, size_after}
+use Rattle.std.proofs.Common.{arith, append-nil}
+use Rattle.cwr_acknowledgement.proofs.Puts.{then_whole, size_after}
 use Rattle.cwr_acknowledgement.proofs.acknowledgement.send_all.Goals as goal
 
 pub write_held-requires-clause-size : goal.write_held-requires-clause-size
