@@ -1,9 +1,10 @@
 //! Files and their acknowledgements, byte for byte.
+use crate::lines::{Line, file_of_works, file_with};
 use crate::three_ways::expect_three_ways;
 use cwr_desk::{Book, FileOutcome, OpenGate, Reply};
 use cwr_sheets::{
-    ALL, Answer, SENDER, Told, acknowledgement, decision, file, file_of_lines, one_work,
-    plain_file, same, with_newlines, work, work_twice, writer,
+    Answer, SENDER, Told, acknowledgement, decision, one_work, plain_file, same, with_newlines,
+    work_twice,
 };
 use desk_runs::{accepted, run_at_desk, run_in_turn, whole};
 use std::alloc::Global;
@@ -20,8 +21,8 @@ fn expect<T: Threads + Wait + Sync>(
     answers: &[Answer],
     replies: &[Reply],
 ) -> Result<(), Fail> {
-    let wanted = acknowledgement(alloc, answers)?;
     let transactions = u32::try_from(answers.len())?;
+    let wanted = acknowledgement(alloc, answers)?;
     let end = FileOutcome::Acked { transactions };
     expect_three_ways(rt, alloc, input, wanted.len(), end, &wanted, replies)
 }
@@ -30,17 +31,27 @@ fn expect<T: Threads + Wait + Sync>(
 fn expect_one<T: Threads + Wait + Sync>(
     rt: &T,
     alloc: Global,
-    lines: &[String],
+    input: &[u8],
     faults: &[Told],
 ) -> Result<(), Fail> {
-    let input = file(alloc, SENDER, "NWR", 1, lines)?;
     let (work, status, reply) = if faults.is_empty() {
         ("00000001", "AS", accepted(1, 1))
     } else {
         ("", "RJ", Reply::Rejected)
     };
     let answers = [decision(0, "NWR", "W1", work, status, faults)];
-    expect(rt, alloc, &input, &answers, &[reply])
+    expect(rt, alloc, input, &answers, &[reply])
+}
+
+/// The same of the file that has these lines for its one work.
+fn expect_lines<T: Threads + Wait + Sync>(
+    rt: &T,
+    alloc: Global,
+    lines: &[Line],
+    faults: &[Told],
+) -> Result<(), Fail> {
+    let input = file_of_works(alloc, 1, lines)?;
+    expect_one(rt, alloc, &input, faults)
 }
 
 #[test]
@@ -54,24 +65,24 @@ fn one_work_of_one_writer(rt: HostRuntime) -> Result<(), Fail> {
 #[test]
 fn a_file_without_groups(rt: HostRuntime) -> Result<(), Fail> {
     let alloc = rt.alloc();
-    let input = file_of_lines(alloc, &["TRL000000000000000000002"])?;
+    let input = file_with(alloc, &[Line::Text("TRL000000000000000000002")])?;
     expect(&rt, alloc, &input, &[], &[])
 }
 
 /// A work of two writers with these shares of the performing right, and half of the other rights each.
-fn expect_shares<T: Threads + Wait + Sync>(
+fn expect_shares<'a, T: Threads + Wait + Sync>(
     rt: &T,
     alloc: Global,
-    own: &str,
-    other: &str,
+    own: &'a str,
+    other: &'a str,
     faults: &[Told],
 ) -> Result<(), Fail> {
     let lines = [
-        work(alloc, "NWR", 0, "W1", "")?,
-        writer(alloc, "SWR", 0, 1, [own, "05000", "05000"])?,
-        writer(alloc, "OWR", 0, 2, [other, "05000", "05000"])?,
+        Line::Work("NWR", 0, "W1", ""),
+        Line::Writer("SWR", 0, 1, own, "05000"),
+        Line::Writer("OWR", 0, 2, other, "05000"),
     ];
-    expect_one(rt, alloc, &lines, faults)
+    expect_lines(rt, alloc, &lines, faults)
 }
 
 #[test]
@@ -93,11 +104,11 @@ fn expect_iswc<T: Threads + Wait + Sync>(
     faults: &[Told],
 ) -> Result<(), Fail> {
     let lines = [
-        work(alloc, "NWR", 0, "W1", iswc)?,
-        writer(alloc, "SWR", 0, 1, ["05000"; 3])?,
-        writer(alloc, "OWR", 0, 2, ["05000"; 3])?,
+        Line::Work("NWR", 0, "W1", iswc),
+        Line::Writer("SWR", 0, 1, "05000", "05000"),
+        Line::Writer("OWR", 0, 2, "05000", "05000"),
     ];
-    expect_one(rt, alloc, &lines, faults)
+    expect_lines(rt, alloc, &lines, faults)
 }
 
 #[test]
@@ -118,10 +129,10 @@ fn expect_date<T: Threads + Wait + Sync>(
 ) -> Result<(), Fail> {
     let after = format!(in alloc; "{:11}{date}", "")?;
     let lines = [
-        work(alloc, "NWR", 0, "W1", &after)?,
-        writer(alloc, "SWR", 0, 1, ALL)?,
+        Line::Work("NWR", 0, "W1", &after),
+        Line::Writer("SWR", 0, 1, "10000", "10000"),
     ];
-    expect_one(rt, alloc, &lines, faults)
+    expect_lines(rt, alloc, &lines, faults)
 }
 
 #[test]
@@ -134,31 +145,20 @@ fn copyright_dates(rt: HostRuntime) -> Result<(), Fail> {
     expect_date(&rt, alloc, "", &[])
 }
 
-/// Copies of these texts.
-fn lines_of(alloc: Global, texts: &[&str]) -> Result<Vec<String>, Fail> {
-    let mut lines = Vec::new(alloc);
-    for text in texts {
-        lines.push(String::from_str(alloc, text)?)?;
-    }
-    Ok(lines)
-}
-
-/// The lines of a work with records that are carried, one of which, the sixth, is this one.
-pub(crate) fn carried_lines(alloc: Global, sixth: &str) -> Result<Vec<String>, Fail> {
-    let head = work(alloc, "NWR", 0, "W1", "")?;
-    let detail = writer(alloc, "SWR", 0, 1, ALL)?;
-    let texts = [
-        head.as_str(),
-        detail.as_str(),
-        "NWN0000000000000002",
-        "SWT0000000000000003000000001050000500005000I2136",
-        "ALT0000000000000004OTHER NAME",
-        sixth,
-        "REC0000000000000006",
-        "ORN0000000000000007LIB",
-        "XRF0000000000000008",
+/// The file of a work with records that are carried, one of which, the sixth, is this one.
+pub(crate) fn carried_file(alloc: Global, sixth: &str) -> Result<Vec<u8>, Fail> {
+    let lines = [
+        Line::Work("NWR", 0, "W1", ""),
+        Line::Writer("SWR", 0, 1, "10000", "10000"),
+        Line::Text("NWN0000000000000002"),
+        Line::Text("SWT0000000000000003000000001050000500005000I2136"),
+        Line::Text("ALT0000000000000004OTHER NAME"),
+        Line::Text(sixth),
+        Line::Text("REC0000000000000006"),
+        Line::Text("ORN0000000000000007LIB"),
+        Line::Text("XRF0000000000000008"),
     ];
-    lines_of(alloc, &texts)
+    file_of_works(alloc, 1, &lines)
 }
 
 /// The work is accepted with so many blanks at the end of that record.
@@ -168,8 +168,8 @@ fn expect_carried<T: Threads + Wait + Sync>(
     blanks: usize,
 ) -> Result<(), Fail> {
     let sixth = format!(in alloc; "PER0000000000000005X{:blanks$}", "")?;
-    let lines = carried_lines(alloc, &sixth)?;
-    expect_one(rt, alloc, &lines, &[])
+    let input = carried_file(alloc, &sixth)?;
+    expect_one(rt, alloc, &input, &[])
 }
 
 #[test]
@@ -182,13 +182,13 @@ fn records_that_are_carried(rt: HostRuntime) -> Result<(), Fail> {
 fn a_rejected_work_and_an_accepted_one(rt: HostRuntime) -> Result<(), Fail> {
     let alloc = rt.alloc();
     let lines = [
-        work(alloc, "NWR", 0, "W1", "")?,
-        String::from_str(alloc, "SWT0000000000000001000000001050000500005000I2136")?,
-        writer(alloc, "SWR", 0, 2, ALL)?,
-        work(alloc, "NWR", 1, "W2", "")?,
-        writer(alloc, "SWR", 1, 1, ALL)?,
+        Line::Work("NWR", 0, "W1", ""),
+        Line::Text("SWT0000000000000001000000001050000500005000I2136"),
+        Line::Writer("SWR", 0, 2, "10000", "10000"),
+        Line::Work("NWR", 1, "W2", ""),
+        Line::Writer("SWR", 1, 1, "10000", "10000"),
     ];
-    let input = file(alloc, SENDER, "NWR", 2, &lines)?;
+    let input = file_of_works(alloc, 2, &lines)?;
     let told: &[Told] = &[(1, "SWT", 1, "RECORD OUT OF ORDER")];
     let answers = [
         decision(0, "NWR", "W1", "", "RJ", told),
@@ -214,17 +214,16 @@ fn a_work_twice(rt: HostRuntime) -> Result<(), Fail> {
 fn a_share_above_the_whole(rt: HostRuntime) -> Result<(), Fail> {
     let alloc = rt.alloc();
     let lines = [
-        work(alloc, "NWR", 0, "W1", "")?,
-        writer(alloc, "SWR", 0, 1, ["10001", "10000", "10000"])?,
+        Line::Work("NWR", 0, "W1", ""),
+        Line::Writer("SWR", 0, 1, "10001", "10000"),
     ];
-    expect_one(&rt, alloc, &lines, &[(1, "SWR", 6, "SHARE IS NOT VALID")])
+    expect_lines(&rt, alloc, &lines, &[(1, "SWR", 6, "SHARE IS NOT VALID")])
 }
 
 #[test]
 fn a_header_alone(rt: HostRuntime) -> Result<(), Fail> {
     let alloc = rt.alloc();
-    let lines = [String::from_str(alloc, "NWR0000000000000000")?];
-    let input = file(alloc, SENDER, "NWR", 1, &lines)?;
+    let input = file_of_works(alloc, 1, &[Line::Text("NWR0000000000000000")])?;
     let told: &[Told] = &[
         (0, "NWR", 2, "TITLE IS BLANK"),
         (0, "NWR", 3, "SUBMITTER WORK NUMBER IS BLANK"),
@@ -242,33 +241,47 @@ fn a_header_alone(rt: HostRuntime) -> Result<(), Fail> {
     expect(&rt, alloc, &input, &answers, &[Reply::Rejected])
 }
 
+/// The file of a new work of a publisher and a writer, with the record of the one and the link of the other to it.
+fn linked<'a>(alloc: Global, publisher: &'a str, link: &'a str) -> Result<Vec<u8>, Fail> {
+    let lines = [
+        Line::Work("NWR", 0, "W1", ""),
+        Line::Text(publisher),
+        Line::Writer("SWR", 0, 2, "05000", "00000"),
+        Line::Text(link),
+    ];
+    file_of_works(alloc, 1, &lines)
+}
+
 /// The file of a new work of a publisher and a writer whose publisher is named by this number.
 fn published(alloc: Global, publisher: &str) -> Result<Vec<u8>, Fail> {
-    let lines = [
-        work(alloc, "NWR", 0, "W1", "")?,
-        format!(in alloc;
-            "SPU000000000000000101000000002PUBLISHER A{:35}E{:38}05000   10000   10000",
-            "", ""
-        )?,
-        writer(alloc, "SWR", 0, 2, ["05000", "00000", "00000"])?,
-        format!(in alloc;
-            "PWR0000000000000003{publisher}PUBLISHER A{:62}000000001",
-            ""
-        )?,
-    ];
-    file(alloc, SENDER, "NWR", 1, &lines)
+    let own = format!(in alloc;
+        "SPU000000000000000101000000002PUBLISHER A{:35}E{:38}05000   10000   10000",
+        "", ""
+    )?;
+    let link = format!(in alloc;
+        "PWR0000000000000003{publisher}PUBLISHER A{:62}000000001",
+        ""
+    )?;
+    linked(alloc, &own, &link)
+}
+
+/// That file's work must be accepted as work 1, or rejected for these faults.
+fn expect_published<T: Threads + Wait + Sync>(
+    rt: &T,
+    alloc: Global,
+    publisher: &str,
+    faults: &[Told],
+) -> Result<(), Fail> {
+    let input = published(alloc, publisher)?;
+    expect_one(rt, alloc, &input, faults)
 }
 
 #[test]
 fn a_publisher_of_the_writer(rt: HostRuntime) -> Result<(), Fail> {
     let alloc = rt.alloc();
-    let known = published(alloc, "000000002")?;
-    let answers = [decision(0, "NWR", "W1", "00000001", "AS", &[])];
-    expect(&rt, alloc, &known, &answers, &[accepted(1, 1)])?;
-    let unknown = published(alloc, "000000009")?;
+    expect_published(&rt, alloc, "000000002", &[])?;
     let told: &[Told] = &[(3, "PWR", 9, "PUBLISHER OF WRITER IS NOT IN THE TRANSACTION")];
-    let answers = [decision(0, "NWR", "W1", "", "RJ", told)];
-    expect(&rt, alloc, &unknown, &answers, &[Reply::Rejected])
+    expect_published(&rt, alloc, "000000009", told)
 }
 
 #[test]
@@ -293,17 +306,25 @@ fn what_a_publisher_and_a_writer_control_at_the_desk(rt: HostRuntime) -> Result<
     same("what all control", &run.book.control_of(1), &[10000; 3])
 }
 
-#[test]
-fn other_line_ends(rt: HostRuntime) -> Result<(), Fail> {
-    let alloc = rt.alloc();
-    let answers = [decision(0, "NWR", "W1", "00000001", "AS", &[])];
+/// The plain file with LF alone at the end of each line, but for the last one, which has none.
+fn expect_unended<T: Threads + Wait + Sync>(rt: &T, alloc: Global) -> Result<(), Fail> {
     let newlines = with_newlines(alloc, &plain_file(alloc)?)?;
     let cut = newlines.len().saturating_sub(1);
     let unended = newlines.get(..cut).ok_or("a line")?;
-    expect(&rt, alloc, unended, &answers, &[accepted(1, 1)])?;
+    expect_one(rt, alloc, unended, &[])
+}
+
+/// The plain file with the old end of file mark.
+fn expect_marked<T: Threads + Wait + Sync>(rt: &T, alloc: Global) -> Result<(), Fail> {
     let mut marked = plain_file(alloc)?;
     marked.extend_from_slice(b"\r\n\x1a\r\n")?;
-    expect(&rt, alloc, &marked, &answers, &[accepted(1, 1)])
+    expect_one(rt, alloc, &marked, &[])
+}
+
+#[test]
+fn other_line_ends(rt: HostRuntime) -> Result<(), Fail> {
+    expect_unended(&rt, rt.alloc())?;
+    expect_marked(&rt, rt.alloc())
 }
 
 #[test]

@@ -2,6 +2,7 @@
 
 ghost use Rattle.std.specs.Prelude.{◌≡◌, ◌<◌, None, false, IfOk};
 
+use crate::three_ways::expect_left;
 use byte_streams::{Failed, Feed, ReadCount, ReadRefused, Room, Source, read_file};
 use cwr_desk::{Book, FileOutcome, Job, Run, Why, acknowledge, outcome_line, serve_in_turn};
 use cwr_sheets::{one_answer, plain_file, same, same_bytes, same_lists, stamp, with_newlines};
@@ -20,10 +21,10 @@ fn expect<R: Source>(
 ) -> Result<(), Fail>
     requires { R.has_failed reader.old ≡ false }
 {
+    let stamp = stamp()?;
     let mut writer = Room::new(alloc, room, fails)?;
-    let outcome = acknowledge(alloc, reader, &mut writer, &stamp()?);
-    same("how the file ended", &outcome, &end)?;
-    same_bytes("what was written", writer.bytes(), written)
+    let outcome = acknowledge(alloc, reader, &mut writer, &stamp);
+    expect_left(outcome, &writer, end, written)
 }
 
 /// Acknowledges a file whose reader gives so many bytes at a time: it must be answered as the plain file is.
@@ -31,15 +32,16 @@ fn expect_plain(alloc: Global, input: &[u8], piece: usize) -> Result<(), Fail>
     requires { 0 < piece }
 {
     let end = FileOutcome::Acked { transactions: 1 };
+    let wanted = one_answer(alloc, "AS")?;
     let mut reader = Feed::new(input, piece, None);
-    expect(
-        alloc,
-        &mut reader,
-        425,
-        true,
-        end,
-        &one_answer(alloc, "AS")?,
-    )
+    expect(alloc, &mut reader, 425, true, end, &wanted)
+}
+
+/// The plain file with each line end: whole, and with LF alone a byte at a time.
+fn expect_both_ends(alloc: Global, input: &[u8]) -> Result<(), Fail> {
+    expect_plain(alloc, input, 4096)?;
+    let newlines = with_newlines(alloc, input)?;
+    expect_plain(alloc, &newlines, 1)
 }
 
 #[test]
@@ -47,8 +49,7 @@ fn acknowledges_one_work(rt: HostRuntime) -> Result<(), Fail> {
     let alloc = rt.alloc();
     same("its length", &one_answer(alloc, "AS")?.len(), &425)?;
     let input = plain_file(alloc)?;
-    expect_plain(alloc, &input, 4096)?;
-    expect_plain(alloc, &with_newlines(alloc, &input)?, 1)
+    expect_both_ends(alloc, &input)
 }
 
 #[test]
@@ -59,19 +60,24 @@ fn takes_the_old_end_of_file_mark(rt: HostRuntime) -> Result<(), Fail> {
     expect_plain(alloc, &input, 4096)
 }
 
-#[test]
-fn stops_where_a_write_fails(rt: HostRuntime) -> Result<(), Fail> {
-    let alloc = rt.alloc();
-    let wanted = one_answer(alloc, "AS")?;
-    let input = plain_file(alloc)?;
-    let sent = wanted.get(..100).ok_or("100 bytes")?;
+/// The plain file is stopped after these bytes, in either way in which a writer can be full.
+fn expect_stopped_after(alloc: Global, input: &[u8], sent: &[u8]) -> Result<(), Fail> {
     let why = Why::Write { sent: 100 };
     let end = FileOutcome::Stopped { handed: 1, why };
     for fails in [true, false] {
-        let mut reader = Feed::new(&input, 4096, None);
+        let mut reader = Feed::new(input, 4096, None);
         expect(alloc, &mut reader, 100, fails, end, sent)?;
     }
     Ok(())
+}
+
+#[test]
+fn stops_where_a_write_fails(rt: HostRuntime) -> Result<(), Fail> {
+    let alloc = rt.alloc();
+    let input = plain_file(alloc)?;
+    let wanted = one_answer(alloc, "AS")?;
+    let sent = wanted.get(..100).ok_or("100 bytes")?;
+    expect_stopped_after(alloc, &input, sent)
 }
 
 /// A source that gives the byte `A` for ever.
@@ -134,14 +140,20 @@ fn expect_too_long(run: &Run<Endless, Room>) -> Result<(), Fail> {
     same_bytes("what it wrote", job.writer.bytes(), b"")
 }
 
-#[test]
-fn stops_a_job_whose_file_has_no_end(rt: HostRuntime) -> Result<(), Fail> {
-    let alloc = rt.alloc();
+/// A run of that job alone, in turn, into an empty book.
+fn run_endless(alloc: Global) -> Result<Run<Endless, Room>, Fail> {
+    let stamp = stamp()?;
     let mut jobs = Vec::new(alloc);
     jobs.push(endless_job(alloc)?)?;
-    let run = serve_in_turn(alloc, jobs, Book::new(alloc, 100), &stamp()?)
-        .ok()
-        .ok_or("memory")?;
+    match serve_in_turn(alloc, jobs, Book::new(alloc, 100), &stamp) {
+        Ok(run) => Ok(run),
+        Err(_) => Err(Fail::new("memory")),
+    }
+}
+
+#[test]
+fn stops_a_job_whose_file_has_no_end(rt: HostRuntime) -> Result<(), Fail> {
+    let run = run_endless(rt.alloc())?;
     expect_too_long(&run)
 }
 

@@ -9,6 +9,8 @@ mod decided;
 #[cfg(test)]
 mod files;
 #[cfg(test)]
+mod lines;
+#[cfg(test)]
 mod refused_files;
 #[cfg(test)]
 mod three_ways;

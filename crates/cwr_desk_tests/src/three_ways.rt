@@ -9,6 +9,17 @@ use std::sync::Wait;
 use std::test::Fail;
 use std::thread::Threads;
 
+/// A file that was worked alone ended so, and this was written.
+pub(crate) fn expect_left(
+    outcome: FileOutcome,
+    sink: &Room,
+    end: FileOutcome,
+    written: &[u8],
+) -> Result<(), Fail> {
+    same("how the file ended", &outcome, &end)?;
+    same_bytes("what was written", sink.bytes(), written)
+}
+
 /// Works a file alone, whose writer has so much room: how it must end, and what must be written.
 fn expect_alone(
     alloc: Global,
@@ -17,11 +28,11 @@ fn expect_alone(
     end: FileOutcome,
     written: &[u8],
 ) -> Result<(), Fail> {
+    let stamp = stamp()?;
     let mut reader = Feed::new(input, 4096, None);
     let mut sink = Room::new(alloc, room, true)?;
-    let outcome = acknowledge(alloc, &mut reader, &mut sink, &stamp()?);
-    same("how the file ended", &outcome, &end)?;
-    same_bytes("what was written", sink.bytes(), written)
+    let outcome = acknowledge(alloc, &mut reader, &mut sink, &stamp);
+    expect_left(outcome, &sink, end, written)
 }
 
 /// Works a file into an empty book, as a job in turn: how it must end, what must be written, and the replies.

@@ -3,7 +3,7 @@ ghost use Rattle.cwr_field.specs.Calendar.{day_of, is_date, is_day};
 
 use crate::field::Field;
 use crate::number::digits;
-use jiff::civil::Date;
+use jiff_core::civil::Date;
 use std::marker::Model;
 
 /// A day of the Gregorian calendar in the years 1 to 9999.

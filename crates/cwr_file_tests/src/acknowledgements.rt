@@ -27,27 +27,33 @@ const TWO: &str = "ACK00000001000000002024050112000000001";
 fn spelled(alloc: Global, texts: &[&str]) -> Result<Vec<u8>, Memory> {
     let mut out = Vec::new(alloc);
     for text in texts {
-        let mut count: Option<usize> = None;
-        for byte in text.as_bytes() {
-            count = match (count, *byte) {
-                (None, b'~') => Some(0),
-                (None, byte) => {
-                    out.push(byte)?;
-                    None
-                }
-                (Some(count), b'~') => {
-                    put_text(&mut out, b"", count)?;
-                    None
-                }
-                (Some(count), digit) => Some(
-                    count
-                        .wrapping_mul(10)
-                        .wrapping_add(digit.wrapping_sub(b'0') as usize),
-                ),
-            };
-        }
+        put_spelled(&mut out, text)?;
     }
     Ok(out)
+}
+
+/// The same of one text.
+fn put_spelled(out: &mut Vec<u8>, text: &str) -> Result<(), Memory> {
+    let mut count: Option<usize> = None;
+    for byte in text.as_bytes() {
+        count = match (count, *byte) {
+            (None, b'~') => Some(0),
+            (None, byte) => {
+                out.push(byte)?;
+                None
+            }
+            (Some(count), b'~') => {
+                put_text(out, b"", count)?;
+                None
+            }
+            (Some(count), digit) => Some(
+                count
+                    .wrapping_mul(10)
+                    .wrapping_add(digit.wrapping_sub(b'0') as usize),
+            ),
+        };
+    }
+    Ok(())
 }
 
 pub(crate) fn header(alloc: Global) -> Result<Header, Fail> {
@@ -111,16 +117,29 @@ pub(crate) fn rejected(title: &[u8], number: &[u8], faults: Vec<Fault>) -> AckIt
     }
 }
 
+/// The acknowledgement of these items.
+pub(crate) fn acknowledged(alloc: Global, items: &[AckItem]) -> Result<Vec<u8>, Fail>
+    requires few { length items.now + told_count items.now ≤ most_told }
+    requires fit { AllByRecursion FitsItem items.now }
+{
+    Ok(ack_file(alloc, &stamp()?, &header(alloc)?, items)?)
+}
+
 /// The acknowledgement of these items, which must be these texts, all room for it asked for at once, and the same when it
 /// is sent.
 fn expect_text(alloc: Global, items: &[AckItem], wanted: &[&str]) -> Result<(), Fail>
     requires few { length items.now + told_count items.now ≤ most_told }
     requires fit { AllByRecursion FitsItem items.now }
 {
-    let text = ack_file(alloc, &stamp()?, &header(alloc)?, items)?;
-    same_bytes("an acknowledgement", &text, &spelled(alloc, wanted)?)?;
-    same("its room", &text.capacity(), &text.len())?;
-    expect_sent(alloc, &stamp()?, &header(alloc)?, items, &text)
+    let text = acknowledged(alloc, items)?;
+    expect_spelled(alloc, &text, wanted)?;
+    expect_sent(alloc, items, &text)
+}
+
+/// An acknowledgement is these texts, and has no more room than it needs.
+fn expect_spelled(alloc: Global, text: &Vec<u8>, wanted: &[&str]) -> Result<(), Fail> {
+    same_bytes("an acknowledgement", text, &spelled(alloc, wanted)?)?;
+    same("its room", &text.capacity(), &text.len())
 }
 
 /// The acknowledgement of one work that is registered.
@@ -250,14 +269,12 @@ fn in_conflict(faults: Vec<Fault>) -> AckItem
     }
 }
 
-/// The acknowledgement of an item tells these faults, and no others.
-fn expect_told(alloc: Global, item: AckItem, wanted: &[Fault]) -> Result<(), Fail>
-    requires few { length (told_faults item) ≤ 15 }
-    requires fit { FitsItem item }
+/// The acknowledgement of these items tells these faults, and no others.
+fn expect_told(alloc: Global, items: &[AckItem], wanted: &[Fault]) -> Result<(), Fail>
+    requires few { length items.now + told_count items.now ≤ most_told }
+    requires fit { AllByRecursion FitsItem items.now }
 {
-    let items = [item];
-    let text = ack_file(alloc, &stamp()?, &header(alloc)?, &items)?;
-    expect_messages(&text, wanted)
+    expect_messages(&acknowledged(alloc, items)?, wanted)
 }
 
 /// A message tells this fault.
@@ -309,16 +326,13 @@ fn keeps_faults(rt: HostRuntime) -> Result<(), Fail> {
 #[test]
 fn tells_the_faults_of_a_rejected_item(rt: HostRuntime) -> Result<(), Fail> {
     let faults = TWO_FAULTS.to_vec(rt.alloc())?;
-    expect_told(
-        rt.alloc(),
-        rejected(b"SONG ONE", b"W1", faults),
-        &TWO_FAULTS,
-    )
+    let items = [rejected(b"SONG ONE", b"W1", faults)];
+    expect_told(rt.alloc(), &items, &TWO_FAULTS)
 }
 
 /// No other item does.
 #[test]
 fn tells_no_faults_of_a_conflict(rt: HostRuntime) -> Result<(), Fail> {
-    let faults = TWO_FAULTS.to_vec(rt.alloc())?;
-    expect_told(rt.alloc(), in_conflict(faults), &[])
+    let items = [in_conflict(TWO_FAULTS.to_vec(rt.alloc())?)];
+    expect_told(rt.alloc(), &items, &[])
 }

@@ -1,5 +1,7 @@
 //! Submission files that were cut or damaged, and the largest ones.
 
+ghost use Rattle.std.specs.Prelude.{◌<◌, ◌^◌};
+
 use crate::lines::{
     GRH, GRT, HDR, NINE_RECORDS, NWR, ONE_WORK, SWR, expect_counts, expect_refusal,
     expect_refusal_at, fault, text_of,
@@ -7,7 +9,7 @@ use crate::lines::{
 use cwr_field::put_digits;
 use cwr_file::{FileRefusal, parse_file};
 use cwr_sheets::same;
-use std::alloc::Global;
+use std::alloc::{AllocError, Global};
 use std::test::Fail;
 
 /// The file of one work with a tail after its last line.
@@ -123,20 +125,37 @@ fn refuses_a_byte_0(rt: HostRuntime) -> Result<(), Fail> {
 /// A header, 99,999 groups without transactions, and these lines.
 fn full_of_groups(alloc: Global, last: &[&[u8]]) -> Result<Vec<u8>, Fail> {
     let mut text = Vec::new(alloc);
-    text.extend_from_slice(HDR)?;
-    text.push(b'\n')?;
+    put_groups(&mut text, last)?;
+    Ok(text)
+}
+
+fn put_groups(text: &mut Vec<u8>, last: &[&[u8]]) -> Result<(), Fail> {
+    put_line(text, HDR)?;
     for group in 1..100_000 {
-        text.extend_from_slice(b"GRHNWR")?;
-        put_digits(&mut text, group, 5)?;
-        text.extend_from_slice(b"\nGRT")?;
-        put_digits(&mut text, group, 5)?;
-        text.extend_from_slice(b"0000000000000002\n")?;
+        put_group(text, group)?;
     }
     for line in last {
-        text.extend_from_slice(line)?;
-        text.push(b'\n')?;
+        put_line(text, line)?;
     }
-    Ok(text)
+    Ok(())
+}
+
+fn put_line(text: &mut Vec<u8>, line: &[u8]) -> Result<(), AllocError> {
+    text.extend_from_slice(line)?;
+    text.push(b'\n')?;
+    Ok(())
+}
+
+/// The two lines of a group without transactions.
+fn put_group(text: &mut Vec<u8>, group: u64) -> Result<(), Fail>
+    requires { group < 10 ^ 5 }
+{
+    text.extend_from_slice(b"GRHNWR")?;
+    put_digits(text, group, 5)?;
+    text.extend_from_slice(b"\nGRT")?;
+    put_digits(text, group, 5)?;
+    text.extend_from_slice(b"0000000000000002\n")?;
+    Ok(())
 }
 
 #[test]

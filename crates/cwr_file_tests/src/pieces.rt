@@ -4,7 +4,7 @@ ghost use Rattle.std.specs.Prelude.{◌≤◌, length};
 
 use crate::lines::{GRH, HDR, NWR, fault, text_of};
 use crate::taken::THREE_WORKS;
-use crate::visited::{Noted, expect_three, visitor_called};
+use crate::visited::{Noted, expect_three_works, visitor_called};
 use cwr_file::{Envelope, FileReader, FileRefusal};
 use cwr_sheets::same;
 use std::alloc::Global;
@@ -30,10 +30,17 @@ fn expect_three_cut(alloc: Global, text: &[u8], cut: usize) -> Result<(), Fail>
 {
     let mut visitor = visitor_called(alloc, 7);
     let envelope = visit_cut(text, cut, &mut visitor)?;
-    same("the sender", &envelope.header.sender, b"PB000000123")?;
     let counts = (cut, envelope.groups, envelope.records);
     same("a cut, groups and records", &counts, &(cut, 2, 10))?;
-    expect_three(&visitor.text)
+    expect_three_works(&envelope, &visitor.text)
+}
+
+/// The same after each cut.
+fn expect_three_cuts(alloc: Global, text: &[u8]) -> Result<(), Fail> {
+    for cut in 0..=text.len() {
+        expect_three_cut(alloc, text, cut)?;
+    }
+    Ok(())
 }
 
 /// A file has this fault after each cut.
@@ -49,9 +56,7 @@ fn expect_fault_cut(alloc: Global, text: &[u8], wanted: Option<FileRefusal>) -> 
 fn gives_the_same_after_each_cut(rt: HostRuntime) -> Result<(), Fail> {
     for end in [b"\n".as_slice(), b"\r\n"] {
         let text = text_of(rt.alloc(), &THREE_WORKS, end)?;
-        for cut in 0..=text.len() {
-            expect_three_cut(rt.alloc(), &text, cut)?;
-        }
+        expect_three_cuts(rt.alloc(), &text)?;
     }
     Ok(())
 }
@@ -70,22 +75,30 @@ fn answers_a_missing_trailer_after_each_cut(rt: HostRuntime) -> Result<(), Fail>
 #[test]
 fn answers_a_line_after_the_trailer_after_each_cut(rt: HostRuntime) -> Result<(), Fail> {
     let mut text = text_of(rt.alloc(), &THREE_WORKS, b"\n")?;
+    expect_tails(rt.alloc(), &mut text)
+}
+
+/// The file of three works may have such a tail, and has a fault with a line after that.
+fn expect_tails(alloc: Global, text: &mut Vec<u8>) -> Result<(), Fail> {
     text.extend_from_slice(b"  \n\x1A\n")?;
-    for cut in 0..=text.len() {
-        expect_three_cut(rt.alloc(), &text, cut)?;
-    }
+    expect_three_cuts(alloc, text)?;
     text.extend_from_slice(NWR)?;
-    expect_fault_cut(rt.alloc(), &text, fault(11, 13))
+    expect_fault_cut(alloc, text, fault(11, 13))
 }
 
 /// A line is gone past once its LF has come.
 #[test]
 fn goes_past_whole_lines_alone(rt: HostRuntime) -> Result<(), Fail> {
-    let mut visitor = visitor_called(rt.alloc(), 0);
-    for part in [b"".as_slice(), b"H", b"X\r", HDR] {
-        same("bytes", &taken_of(part, &mut visitor)?, &0)?;
-    }
     let text = text_of(rt.alloc(), &[HDR, GRH], b"\n")?;
+    let mut visitor = visitor_called(rt.alloc(), 0);
+    expect_whole_lines(&text, &mut visitor)
+}
+
+/// Of less than a line no byte is gone past, and of this text's two lines, the second cut, the first line.
+fn expect_whole_lines(text: &[u8], visitor: &mut Noted) -> Result<(), Fail> {
+    for part in [b"".as_slice(), b"H", b"X\r", HDR] {
+        same("bytes", &taken_of(part, visitor)?, &0)?;
+    }
     let part = text.get(..HDR.len() + 5).ok_or("a part")?;
-    same("bytes", &taken_of(part, &mut visitor)?, &(HDR.len() + 1))
+    same("bytes", &taken_of(part, visitor)?, &(HDR.len() + 1))
 }

@@ -4,12 +4,9 @@ ghost use Rattle.std.specs.Prelude.{◌+◌, ◌≤◌, length, IfOk};
 ghost use Rattle.std.specs.List.{AllByRecursion};
 ghost use Rattle.cwr_acknowledgement.specs.Acknowledgement.{FitsFault, FitsItem, told_count, most_told};
 
-use crate::acknowledgements::{header, item, rejected, stamp};
+use crate::acknowledgements::{acknowledged, header, item, rejected, stamp};
 use byte_streams::Spool;
-use cwr_file::{
-    AckItem, AckStopped, Fault, Header, Memory, Room, Stamp, Status, Through, WorkKind, ack_file,
-    send_ack,
-};
+use cwr_file::{AckItem, AckStopped, Fault, Memory, Room, Status, Through, WorkKind, send_ack};
 use cwr_sheets::{same, same_bytes};
 use std::alloc::Global;
 use std::io;
@@ -35,28 +32,38 @@ impl io::Write for Few {
 }
 
 /// The acknowledgement of these items goes out whole, however few bytes a write takes.
-pub(crate) fn expect_sent(
-    alloc: Global,
-    stamp: &Stamp,
-    header: &Header,
-    items: &[AckItem],
-    wanted: &[u8],
-) -> Result<(), Fail>
+pub(crate) fn expect_sent(alloc: Global, items: &[AckItem], wanted: &[u8]) -> Result<(), Fail>
     requires few { length items.now + told_count items.now ≤ most_told }
     requires fit { AllByRecursion FitsItem items.now }
 {
-    let mut spool = Spool::new(alloc);
-    send_ack(alloc, &mut spool, stamp, header, items)?;
-    same_bytes("what was sent", spool.bytes(), wanted)?;
+    expect_spooled(alloc, items, wanted)?;
     for most in 1..=5 {
-        let mut sink = Through::new(Few {
-            taken: Vec::new(alloc),
-            most,
-        });
-        send_ack(alloc, &mut sink, stamp, header, items)?;
-        same_bytes("what was sent", &sink.into_inner().taken, wanted)?;
+        expect_sent_by(alloc, items, wanted, most)?;
     }
     Ok(())
+}
+
+/// It goes out whole into a spool.
+fn expect_spooled(alloc: Global, items: &[AckItem], wanted: &[u8]) -> Result<(), Fail>
+    requires few { length items.now + told_count items.now ≤ most_told }
+    requires fit { AllByRecursion FitsItem items.now }
+{
+    let (stamp, header) = (stamp()?, header(alloc)?);
+    let mut spool = Spool::new(alloc);
+    send_ack(alloc, &mut spool, &stamp, &header, items)?;
+    same_bytes("what was sent", spool.bytes(), wanted)
+}
+
+/// It goes out whole where a write takes so many bytes at most.
+fn expect_sent_by(alloc: Global, items: &[AckItem], wanted: &[u8], most: usize) -> Result<(), Fail>
+    requires few { length items.now + told_count items.now ≤ most_told }
+    requires fit { AllByRecursion FitsItem items.now }
+{
+    let (stamp, header) = (stamp()?, header(alloc)?);
+    let taken = Vec::new(alloc);
+    let mut sink = Through::new(Few { taken, most });
+    send_ack(alloc, &mut sink, &stamp, &header, items)?;
+    same_bytes("what was sent", &sink.into_inner().taken, wanted)
 }
 
 /// A sink that takes so many bytes, and then fails or takes none, has taken these, and that is told.
@@ -70,23 +77,31 @@ fn expect_cut(
     requires few { length items.now + told_count items.now ≤ most_told }
     requires fit { AllByRecursion FitsItem items.now }
 {
+    let (stamp, header) = (stamp()?, header(alloc)?);
+    let front = wanted.get(..size).ok_or("a front")?;
     let mut room = Room::new(alloc, size, fails)?;
-    let ended = send_ack(alloc, &mut room, &stamp()?, &header(alloc)?, items);
+    let ended = send_ack(alloc, &mut room, &stamp, &header, items);
     let stopped = AckStopped::Write { sent: size as u64 };
     same("how it ended", &ended, &Err(stopped))?;
-    let front = wanted.get(..size).ok_or("a front")?;
     same_bytes("what was taken", room.bytes(), front)
 }
 
 #[test]
 fn stops_after_each_byte(rt: HostRuntime) -> Result<(), Fail> {
-    let alloc = rt.alloc();
-    let items = [item(alloc, 0, WorkKind::Nwr, Status::Accepted)];
-    let wanted = ack_file(alloc, &stamp()?, &header(alloc)?, &items)?;
+    let items = [item(rt.alloc(), 0, WorkKind::Nwr, Status::Accepted)];
+    let wanted = acknowledged(rt.alloc(), &items)?;
+    expect_each_cut(rt.alloc(), &items, &wanted)
+}
+
+/// The acknowledgement of these items has 425 bytes, and can be cut after each.
+fn expect_each_cut(alloc: Global, items: &[AckItem], wanted: &[u8]) -> Result<(), Fail>
+    requires few { length items.now + told_count items.now ≤ most_told }
+    requires fit { AllByRecursion FitsItem items.now }
+{
     same("its length", &wanted.len(), &425)?;
     for size in 0..425 {
-        expect_cut(alloc, &items, &wanted, size, true)?;
-        expect_cut(alloc, &items, &wanted, size, false)?;
+        expect_cut(alloc, items, wanted, size, true)?;
+        expect_cut(alloc, items, wanted, size, false)?;
     }
     Ok(())
 }
@@ -110,17 +125,25 @@ fn thousand_faults(alloc: Global) -> Result<Vec<Fault>, Memory>
 /// A thousand messages go out in three pieces. The first has 351 lines, the second 350.
 #[test]
 fn stops_in_each_piece(rt: HostRuntime) -> Result<(), Fail> {
-    let alloc = rt.alloc();
-    let items = [rejected(b"SONG ONE", b"W1", thousand_faults(alloc)?)];
-    let wanted = ack_file(alloc, &stamp()?, &header(alloc)?, &items)?;
+    let faults = thousand_faults(rt.alloc())?;
+    let items = [rejected(b"SONG ONE", b"W1", faults)];
+    let wanted = acknowledged(rt.alloc(), &items)?;
+    expect_pieces(rt.alloc(), &items, &wanted)
+}
+
+/// The acknowledgement of these items goes out in those pieces, and can be cut where they end.
+fn expect_pieces(alloc: Global, items: &[AckItem], wanted: &[u8]) -> Result<(), Fail>
+    requires few { length items.now + told_count items.now ≤ most_told }
+    requires fit { AllByRecursion FitsItem items.now }
+{
     same("its length", &wanted.len(), &187_425)?;
-    expect_sent(alloc, &stamp()?, &header(alloc)?, &items, &wanted)?;
+    expect_sent(alloc, items, wanted)?;
     // The first piece ends after 360 + 348 * 187 bytes, the second after 350 * 187 more.
     for size in [
         0, 65_435, 65_436, 65_437, 130_885, 130_886, 130_887, 187_424,
     ] {
-        expect_cut(alloc, &items, &wanted, size, true)?;
-        expect_cut(alloc, &items, &wanted, size, false)?;
+        expect_cut(alloc, items, wanted, size, true)?;
+        expect_cut(alloc, items, wanted, size, false)?;
     }
     Ok(())
 }

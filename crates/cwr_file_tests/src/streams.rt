@@ -1,5 +1,7 @@
 //! Bytes in and out, each cut and each failure, and the lines of small texts.
 
+ghost use Rattle.std.specs.Prelude.{◌≡◌, ◌<◌, false};
+
 use cwr_file::{Failed, Feed, Lines, Memory, Room, Sink, Source, Through, WriteStopped, write_out};
 use cwr_sheets::{same, same_bytes, same_lists, same_text};
 use std::alloc::Global;
@@ -32,17 +34,24 @@ fn long_text() -> [u8; 150] {
     text
 }
 
-/// What the feed gives up to its end or its failure, in so many reads that answer, and whether it has failed then.
-fn expect_drained(
+/// What the source gives up to its end or its failure, in so many reads that answer, and whether it has failed then.
+fn expect_drained<R: Source>(
     alloc: Global,
-    feed: &mut Feed,
+    source: &mut R,
     bytes: &[u8],
     reads: u64,
     failed: bool,
 ) -> Result<(), Fail> {
-    let (given, answered) = drained(alloc, feed)?;
+    let (given, answered) = drained(alloc, source)?;
     same_bytes("what was read", &given, bytes)?;
-    same("reads", &(answered, feed.failed()), &(reads, failed))
+    same("reads", &(answered, source.failed()), &(reads, failed))
+}
+
+/// A feed of this text gives all of it, at most so many bytes in a read.
+fn expect_fed(alloc: Global, text: &[u8], piece: usize, reads: u64) -> Result<(), Fail>
+    requires { 0 < piece }
+{
+    expect_drained(alloc, &mut Feed::new(text, piece, None), text, reads, false)
 }
 
 const TEXT: &[u8] = b"HDRPB 1234";
@@ -50,11 +59,11 @@ const TEXT: &[u8] = b"HDRPB 1234";
 #[test]
 fn feeds_in_pieces(rt: HostRuntime) -> Result<(), Fail> {
     let alloc = rt.alloc();
-    expect_drained(alloc, &mut Feed::new(TEXT, 1, None), TEXT, 11, false)?;
-    expect_drained(alloc, &mut Feed::new(TEXT, 3, None), TEXT, 5, false)?;
-    expect_drained(alloc, &mut Feed::new(TEXT, 4, None), TEXT, 4, false)?;
-    expect_drained(alloc, &mut Feed::new(TEXT, 100, None), TEXT, 4, false)?;
-    expect_drained(alloc, &mut Feed::new(b"", 1, None), b"", 1, false)
+    expect_fed(alloc, TEXT, 1, 11)?;
+    expect_fed(alloc, TEXT, 3, 5)?;
+    expect_fed(alloc, TEXT, 4, 4)?;
+    expect_fed(alloc, TEXT, 100, 4)?;
+    expect_fed(alloc, b"", 1, 1)
 }
 
 #[test]
@@ -78,8 +87,15 @@ fn feeds_past_a_read_that_is_not_made(rt: HostRuntime) -> Result<(), Fail> {
 
 #[test]
 fn a_failed_read_moves_nothing() -> Result<(), Fail> {
-    let mut room = *b"????";
     let mut feed = Feed::new(b"HDR", 2, Some(2));
+    expect_one_read(&mut feed)
+}
+
+/// A feed gives two bytes in its first read, and fails at the second.
+fn expect_one_read(feed: &mut Feed) -> Result<(), Fail>
+    requires { feed.old.has_failed ≡ false }
+{
+    let mut room = *b"????";
     same("a read", &feed.read_some(&mut room), &Ok(2))?;
     same("the room", &room, b"HD??")?;
     same("it has failed", &feed.failed(), &false)?;
@@ -99,16 +115,12 @@ fn reads_into_no_room() -> Result<(), Fail> {
 /// A room of this size takes a text so far, and has failed then.
 fn expect_stopped(alloc: Global, size: usize, fails: bool) -> Result<(), Fail> {
     let text = long_text();
+    let front = text.get(..size).ok_or("a front")?;
     let mut room = Room::new(alloc, size, fails)?;
     let result = write_out(&mut room, &text);
     let stopped = WriteStopped { sent: size as u64 };
     same("a write", &result, &Err(stopped))?;
-    same_bytes(
-        "what was written",
-        room.bytes(),
-        text.get(..size).ok_or("a front")?,
-    )?;
-    same("it has failed", &room.failed(), &true)
+    expect_room(&room, front, true)
 }
 
 /// A room of this size takes all of a text.
@@ -116,8 +128,13 @@ fn expect_written(alloc: Global, size: usize, fails: bool) -> Result<(), Fail> {
     let text = long_text();
     let mut room = Room::new(alloc, size, fails)?;
     same("a write", &write_out(&mut room, &text), &Ok(()))?;
-    same_bytes("what was written", room.bytes(), &text)?;
-    same("it has failed", &room.failed(), &false)
+    expect_room(&room, &text, false)
+}
+
+/// What a room has taken, and whether it has failed.
+fn expect_room(room: &Room, bytes: &[u8], failed: bool) -> Result<(), Fail> {
+    same_bytes("what was written", room.bytes(), bytes)?;
+    same("it has failed", &room.failed(), &failed)
 }
 
 #[test]
@@ -136,13 +153,20 @@ fn writes_up_to_the_room(rt: HostRuntime) -> Result<(), Fail> {
 #[test]
 fn writes_one_text_after_another(rt: HostRuntime) -> Result<(), Fail> {
     let mut room = Room::new(rt.alloc(), 6, true)?;
-    write_out(&mut room, b"")?;
-    write_out(&mut room, b"HDR")?;
-    write_out(&mut room, b"GRH")?;
+    expect_two_texts(&mut room)
+}
+
+/// A room of six bytes takes two texts of three, and no third.
+fn expect_two_texts(room: &mut Room) -> Result<(), Fail>
+    requires { room.old.has_failed ≡ false }
+{
+    write_out(room, b"")?;
+    write_out(room, b"HDR")?;
+    write_out(room, b"GRH")?;
     // No bytes go into a full room too.
-    write_out(&mut room, b"")?;
+    write_out(room, b"")?;
     same_bytes("what was written", room.bytes(), b"HDRGRH")?;
-    let result = write_out(&mut room, b"NWR");
+    let result = write_out(room, b"NWR");
     same("a write", &result, &Err(WriteStopped { sent: 0 }))?;
     same_bytes("what is there then", room.bytes(), b"HDRGRH")
 }
@@ -150,6 +174,12 @@ fn writes_one_text_after_another(rt: HostRuntime) -> Result<(), Fail> {
 /// A room of two bytes, which are in it, answers one byte more so, and has failed then.
 fn expect_full(alloc: Global, fails: bool, wanted: Result<usize, Failed>) -> Result<(), Fail> {
     let mut room = Room::new(alloc, 2, fails)?;
+    expect_one_byte_more(&mut room, wanted)
+}
+
+fn expect_one_byte_more(room: &mut Room, wanted: Result<usize, Failed>) -> Result<(), Fail>
+    requires { room.old.has_failed ≡ false }
+{
     same("a write", &room.write_some(b"HDR"), &Ok(2))?;
     same("it has failed", &room.failed(), &false)?;
     same("the next write", &room.write_some(b"R"), &wanted)?;
@@ -192,9 +222,7 @@ impl io::Write for Broken {
 #[test]
 fn reads_through_a_reader(rt: HostRuntime) -> Result<(), Fail> {
     let mut source = Through::new(TEXT);
-    let (bytes, answered) = drained(rt.alloc(), &mut source)?;
-    same_bytes("what was read", &bytes, TEXT)?;
-    same("reads", &answered, &4)?;
+    expect_drained(rt.alloc(), &mut source, TEXT, 4, false)?;
     same_bytes("what is left", source.into_inner(), b"")
 }
 

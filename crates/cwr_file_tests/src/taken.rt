@@ -1,7 +1,7 @@
 //! Submission files that are taken.
 
 use crate::lines::{GRH, HDR, NINE_RECORDS, NWR, ONE_WORK, SWR, expect_counts, text_of};
-use cwr_file::{RawTransaction, Submission, WorkKind, parse_file};
+use cwr_file::{Header, RawTransaction, Submission, WorkKind, parse_file};
 use cwr_sheets::{same, same_bytes};
 use std::alloc::Global;
 use std::test::Fail;
@@ -9,11 +9,15 @@ use std::test::Fail;
 /// The file of one work is taken.
 fn expect_one_work(alloc: Global, text: &[u8]) -> Result<(), Fail> {
     let file = parse_file(alloc, text)?;
-    let header = file.header;
+    expect_header(&file.header)?;
+    expect_counts(&file, 1, 6, 1)
+}
+
+/// The header of that file.
+fn expect_header(header: &Header) -> Result<(), Fail> {
     same("the sender", &header.sender, b"PB000000123")?;
     same("the day", &header.creation_date.number(), &20240501)?;
-    same("the time", &header.creation_time.number(), &120000)?;
-    expect_counts(&file, 1, 6, 1)
+    same("the time", &header.creation_time.number(), &120000)
 }
 
 #[test]

@@ -5,7 +5,7 @@ ghost use Rattle.std.specs.Prelude.{⊤};
 use crate::lines::{HDR, NWR, ONE_WORK, SWR, text_of};
 use crate::taken::{REV, THREE_WORKS};
 use cwr_field::put_digits;
-use cwr_file::{FileRefusal, Memory, Visitor, WorkKind, file_header, visit_file};
+use cwr_file::{Envelope, FileRefusal, Memory, Visitor, WorkKind, file_header, visit_file};
 use cwr_record::RecordType;
 use cwr_sheets::{same, same_bytes};
 use std::alloc::Global;
@@ -82,7 +82,7 @@ const THREE_NOTED: [&[&[u8]]; 7] = [
 ];
 
 /// A visitor noted the transactions of the file of three works, in order.
-pub(crate) fn expect_three(text: &[u8]) -> Result<(), Fail> {
+fn expect_three(text: &[u8]) -> Result<(), Fail> {
     let mut rest = text;
     for pieces in THREE_NOTED {
         for piece in pieces {
@@ -95,15 +95,20 @@ pub(crate) fn expect_three(text: &[u8]) -> Result<(), Fail> {
     same("bytes left", &rest.len(), &0)
 }
 
+/// The file of three works was visited: its sender, how many records it has, and what a visitor noted.
+pub(crate) fn expect_three_works(envelope: &Envelope, text: &[u8]) -> Result<(), Fail> {
+    same("the sender", &envelope.header.sender, b"PB000000123")?;
+    same("records", &envelope.records, &10)?;
+    expect_three(text)
+}
+
 #[test]
 fn gives_each_transaction_in_order(rt: HostRuntime) -> Result<(), Fail> {
     let text = text_of(rt.alloc(), &THREE_WORKS, b"\r\n")?;
     let mut visitor = visitor_called(rt.alloc(), 7);
     let envelope = visit_file(&text, &mut visitor)?;
-    same("the sender", &envelope.header.sender, b"PB000000123")?;
     same("groups", &envelope.groups, &2)?;
-    same("records", &envelope.records, &10)?;
-    expect_three(&visitor.text)
+    expect_three_works(&envelope, &visitor.text)
 }
 
 /// A visitor that is refused memory at one of its seven calls ends the visit.
@@ -140,10 +145,14 @@ fn answers_the_first_fault(rt: HostRuntime) -> Result<(), Fail> {
 #[test]
 fn reads_a_header_alone(rt: HostRuntime) -> Result<(), Fail> {
     let text = text_of(rt.alloc(), &ONE_WORK, b"\n")?;
-    let header = file_header(&text).ok_or("a header")?;
-    same("the sender", &header.sender, b"PB000000123")?;
-    let unended = file_header(HDR).ok_or("a line without its end")?;
-    same("the sender", &unended.sender, b"PB000000123")
+    expect_header(&text, "a header")?;
+    expect_header(HDR, "a line without its end")
+}
+
+/// A text begins with that header, which this names.
+fn expect_header(text: &[u8], what: &'static str) -> Result<(), Fail> {
+    let header = file_header(text).ok_or(what)?;
+    same("the sender", &header.sender, b"PB000000123")
 }
 
 #[test]

@@ -4,7 +4,7 @@ ghost use Rattle.std.specs.Prelude.{◌≡◌, ◌<◌};
 
 use crate::lines::{GRH, HDR, NWR, text_of};
 use crate::taken::THREE_WORKS;
-use crate::visited::{Noted, expect_three, visitor_called};
+use crate::visited::{Noted, expect_three_works, visitor_called};
 use cwr_file::{Envelope, Feed};
 use cwr_sheets::same;
 use cwr_source::{SourceFile, SourceRefused};
@@ -49,9 +49,7 @@ fn expect_three_by(alloc: Global, text: &[u8], ways: Ways) -> Result<(), Fail>
 {
     let mut visitor = visitor_called(alloc, 7);
     let envelope = visit(alloc, text, ways, &mut visitor)?;
-    same("the sender", &envelope.header.sender, b"PB000000123")?;
-    same("records", &envelope.records, &10)?;
-    expect_three(&visitor.text)
+    expect_three_works(&envelope, &visitor.text)
 }
 
 /// A file is refused so.
@@ -66,6 +64,14 @@ fn expect_refused_by(
 {
     let refusal = visit(alloc, text, ways, &mut visitor_called(alloc, 7)).err();
     same("the refusal", &refusal, &Some(wanted))
+}
+
+/// A file is refused so through each window.
+fn expect_refused_by_each(alloc: Global, text: &[u8], wanted: SourceRefused) -> Result<(), Fail> {
+    for room in 0..300 {
+        expect_refused_by(alloc, text, by(7, room), wanted)?;
+    }
+    Ok(())
 }
 
 /// A source that does not fail, which gives a piece at a time.
@@ -100,10 +106,7 @@ fn answers_a_missing_trailer_through_each_window(rt: HostRuntime) -> Result<(), 
         number: 11,
         line: 10,
     };
-    for room in 0..300 {
-        expect_refused_by(rt.alloc(), &text, by(7, room), wanted)?;
-    }
-    Ok(())
+    expect_refused_by_each(rt.alloc(), &text, wanted)
 }
 
 /// Blanks and bytes 26 may follow the trailer, and nothing else.
@@ -116,10 +119,7 @@ fn answers_a_line_after_the_trailer_through_each_window(rt: HostRuntime) -> Resu
         number: 11,
         line: 13,
     };
-    for room in 0..300 {
-        expect_refused_by(rt.alloc(), &text, by(7, room), wanted)?;
-    }
-    Ok(())
+    expect_refused_by_each(rt.alloc(), &text, wanted)
 }
 
 /// A file may have as many bytes as the limit says, and not one more.

@@ -1,22 +1,11 @@
 //! Acknowledgements and messages, written and read.
 
-use crate::lines::{clock, day, line, text};
+use crate::lines::{clock, day, expect_record, line, text};
 use cwr_record::{Ack, Message, Prefix, read_ack, read_message, write_ack, write_message};
-use cwr_sheets::{same, same_bytes};
 use std::test::Fail;
 
 #[test]
 fn acknowledgement(rt: HostRuntime) -> Result<(), Fail> {
-    let vector = line(
-        rt.alloc(),
-        &[
-            (b"ACK00000000000000002024050112000000001", 0),
-            (b"00000000NWRSONG ONE", 52),
-            (b"W1", 18),
-            (b"00000001", 12),
-            (b"20240601AS", 0),
-        ],
-    )?;
     let ack = Ack {
         prefix: Prefix {
             transaction: 0,
@@ -33,10 +22,25 @@ fn acknowledgement(rt: HostRuntime) -> Result<(), Fail> {
         processing_date: day(b"20240601")?,
         status: *b"AS",
     };
+    let vector = line(
+        rt.alloc(),
+        &[
+            (b"ACK00000000000000002024050112000000001", 0),
+            (b"00000000NWRSONG ONE", 52),
+            (b"W1", 18),
+            (b"00000001", 12),
+            (b"20240601AS", 0),
+        ],
+    )?;
     let mut out = Vec::new(rt.alloc());
     write_ack(&mut out, &ack)?;
-    same_bytes("the line", &out, &vector)?;
-    same("the ack that is read", &read_ack(&vector), &Ok(ack))
+    expect_record(
+        &out,
+        &vector,
+        "the ack that is read",
+        &read_ack(&vector),
+        &Ok(ack),
+    )
 }
 
 #[test]
@@ -62,8 +66,9 @@ fn message(rt: HostRuntime) -> Result<(), Fail> {
     };
     let mut out = Vec::new(rt.alloc());
     write_message(&mut out, &message)?;
-    same_bytes("the line", &out, &vector)?;
-    same(
+    expect_record(
+        &out,
+        &vector,
         "the message that is read",
         &read_message(&vector),
         &Ok(message),

@@ -1,16 +1,23 @@
 //! Headers and trailers, written and read.
 
-use crate::lines::{clock, day, line, text};
+use crate::lines::{clock, day, expect_record, line, text};
 use cwr_record::{
     FileTrailer, GroupHead, GroupTrailer, Header, read_file_trailer, read_group_head,
     read_group_trailer, read_header, write_file_trailer, write_group_head, write_group_trailer,
     write_header,
 };
-use cwr_sheets::{same, same_bytes};
 use std::test::Fail;
 
 #[test]
 fn file_header(rt: HostRuntime) -> Result<(), Fail> {
+    let header = Header {
+        sender: *b"PB000000123",
+        name: text(b"PUBLISHER A"),
+        creation_date: day(b"20240501")?,
+        creation_time: clock(b"120000")?,
+        transmission_date: day(b"20240501")?,
+        character_set: text(b""),
+    };
     let vector = line(
         rt.alloc(),
         &[
@@ -20,18 +27,11 @@ fn file_header(rt: HostRuntime) -> Result<(), Fail> {
             (b"1.0", 27),
         ],
     )?;
-    let header = Header {
-        sender: *b"PB000000123",
-        name: text(b"PUBLISHER A"),
-        creation_date: day(b"20240501")?,
-        creation_time: clock(b"120000")?,
-        transmission_date: day(b"20240501")?,
-        character_set: text(b""),
-    };
     let mut out = Vec::new(rt.alloc());
     write_header(&mut out, &header)?;
-    same_bytes("the line", &out, &vector)?;
-    same(
+    expect_record(
+        &out,
+        &vector,
         "the header that is read",
         &read_header(&vector),
         &Ok(header),
@@ -50,8 +50,9 @@ fn group_header(rt: HostRuntime) -> Result<(), Fail> {
     };
     let mut out = Vec::new(rt.alloc());
     write_group_head(&mut out, &head)?;
-    same_bytes("the line", &out, &vector)?;
-    same(
+    expect_record(
+        &out,
+        &vector,
         "the group head that is read",
         &read_group_head(&vector),
         &Ok(head),
@@ -68,8 +69,9 @@ fn group_end(rt: HostRuntime) -> Result<(), Fail> {
     };
     let mut out = Vec::new(rt.alloc());
     write_group_trailer(&mut out, &trailer)?;
-    same_bytes("the line", &out, &vector)?;
-    same(
+    expect_record(
+        &out,
+        &vector,
         "the group trailer that is read",
         &read_group_trailer(&vector),
         &Ok(trailer),
@@ -86,8 +88,9 @@ fn file_end(rt: HostRuntime) -> Result<(), Fail> {
     };
     let mut out = Vec::new(rt.alloc());
     write_file_trailer(&mut out, &trailer)?;
-    same_bytes("the line", &out, vector)?;
-    same(
+    expect_record(
+        &out,
+        vector,
         "the file trailer that is read",
         &read_file_trailer(vector),
         &Ok(trailer),

@@ -152,21 +152,25 @@ fn reads_interested_party_numbers() -> Result<(), Fail> {
 
 #[test]
 fn writes_fields(rt: HostRuntime) -> Result<(), Fail> {
-    let mut out = Vec::new(rt.alloc());
-    put_digits(&mut out, 42, 5)?;
-    put_text(&mut out, b"AB", 4)?;
-    put_digits(&mut out, 999999999999999999, 18)?;
-    put_text(&mut out, b"", 1)?;
-    put_decimal(&mut out, 0)?;
-    put_decimal(&mut out, 18446744073709551615)?;
-    same_bytes(
-        "the fields",
-        &out,
-        b"00042AB  999999999999999999 018446744073709551615",
-    )?;
     same_text(
         "want of memory",
         &format!(in rt.alloc(); "{Memory}")?,
         "memory",
+    )?;
+    let mut out = Vec::new(rt.alloc());
+    put_fields(&mut out)?;
+    same_bytes(
+        "the fields",
+        &out,
+        b"00042AB  999999999999999999 018446744073709551615",
     )
+}
+
+fn put_fields(out: &mut Vec<u8>) -> Result<(), Memory> {
+    put_digits(out, 42, 5)?;
+    put_text(out, b"AB", 4)?;
+    put_digits(out, 999999999999999999, 18)?;
+    put_text(out, b"", 1)?;
+    put_decimal(out, 0)?;
+    put_decimal(out, 18446744073709551615)
 }

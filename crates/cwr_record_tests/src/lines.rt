@@ -3,7 +3,9 @@
 ghost use Rattle.std.specs.Prelude.{◌≤◌};
 
 use cwr_field::{Clock, Day, cut, date, time};
+use cwr_sheets::{same, same_bytes};
 use std::alloc::{AllocError, Global};
+use std::fmt::Debug;
 use std::test::Fail;
 
 /// A line of texts, each followed by so many blanks.
@@ -33,4 +35,16 @@ pub(crate) fn day(digits: &[u8; 8]) -> Result<Day, Fail> {
 /// The time of six digits.
 pub(crate) fn clock(digits: &[u8; 6]) -> Result<Clock, Fail> {
     Ok(time(cut(digits, 1, 6)).ok_or("no time")?)
+}
+
+/// A record must be written as this line, and what is read of the line must be as is wanted.
+pub(crate) fn expect_record<T: PartialEq + Debug>(
+    written: &[u8],
+    line: &[u8],
+    what: &str,
+    read: &T,
+    wanted: &T,
+) -> Result<(), Fail> {
+    same_bytes("the line", written, line)?;
+    same(what, read, wanted)
 }

@@ -1,6 +1,6 @@
 //! The records of a work, written and read.
 
-use crate::lines::{clock, day, line, text};
+use crate::lines::{clock, day, expect_record, line, text};
 use cwr_record::{
     AltTitle, CrossRef, Link, Prefix, Publisher, PublisherKind, PublisherTerritory, WorkHead,
     WorkKind, Writer, WriterKind, WriterTerritory, read_alt_title, read_cross_ref, read_link,
@@ -8,20 +8,10 @@ use cwr_record::{
     write_alt_title, write_cross_ref, write_link, write_publisher, write_publisher_territory,
     write_work_head, write_writer, write_writer_territory,
 };
-use cwr_sheets::{same, same_bytes};
 use std::test::Fail;
 
 #[test]
 fn registration_head(rt: HostRuntime) -> Result<(), Fail> {
-    let vector = line(
-        rt.alloc(),
-        &[
-            (b"NWR0000000000000000SONG ONE", 54),
-            (b"W1", 12),
-            (b"T034524680120010203", 15),
-            (b"000330U", 58),
-        ],
-    )?;
     let head = WorkHead {
         prefix: Prefix {
             transaction: 0,
@@ -46,10 +36,20 @@ fn registration_head(rt: HostRuntime) -> Result<(), Fail> {
         contact_name: text(b""),
         contact_id: text(b""),
     };
+    let vector = line(
+        rt.alloc(),
+        &[
+            (b"NWR0000000000000000SONG ONE", 54),
+            (b"W1", 12),
+            (b"T034524680120010203", 15),
+            (b"000330U", 58),
+        ],
+    )?;
     let mut out = Vec::new(rt.alloc());
     write_work_head(&mut out, &head)?;
-    same_bytes("the line", &out, &vector)?;
-    same(
+    expect_record(
+        &out,
+        &vector,
         "the work head that is read",
         &read_work_head(&vector),
         &Ok(head),
@@ -91,8 +91,9 @@ fn publisher(rt: HostRuntime) -> Result<(), Fail> {
     };
     let mut out = Vec::new(rt.alloc());
     write_publisher(&mut out, &publisher)?;
-    same_bytes("the line", &out, &vector)?;
-    same(
+    expect_record(
+        &out,
+        &vector,
         "the publisher that is read",
         &read_publisher(&vector),
         &Ok(publisher),
@@ -118,8 +119,9 @@ fn publisher_territory(rt: HostRuntime) -> Result<(), Fail> {
     };
     let mut out = Vec::new(rt.alloc());
     write_publisher_territory(&mut out, &territory)?;
-    same_bytes("the line", &out, vector)?;
-    same(
+    expect_record(
+        &out,
+        vector,
         "the publisher territory that is read",
         &read_publisher_territory(vector),
         &Ok(territory),
@@ -160,8 +162,9 @@ fn writer(rt: HostRuntime) -> Result<(), Fail> {
     };
     let mut out = Vec::new(rt.alloc());
     write_writer(&mut out, &writer)?;
-    same_bytes("the line", &out, &vector)?;
-    same(
+    expect_record(
+        &out,
+        &vector,
         "the writer that is read",
         &read_writer(&vector),
         &Ok(writer),
@@ -187,8 +190,9 @@ fn writer_territory(rt: HostRuntime) -> Result<(), Fail> {
     };
     let mut out = Vec::new(rt.alloc());
     write_writer_territory(&mut out, &territory)?;
-    same_bytes("the line", &out, vector)?;
-    same(
+    expect_record(
+        &out,
+        vector,
         "the writer territory that is read",
         &read_writer_territory(vector),
         &Ok(territory),
@@ -217,8 +221,13 @@ fn writers_publisher(rt: HostRuntime) -> Result<(), Fail> {
     };
     let mut out = Vec::new(rt.alloc());
     write_link(&mut out, &link)?;
-    same_bytes("the line", &out, &vector)?;
-    same("the link that is read", &read_link(&vector), &Ok(link))
+    expect_record(
+        &out,
+        &vector,
+        "the link that is read",
+        &read_link(&vector),
+        &Ok(link),
+    )
 }
 
 #[test]
@@ -238,8 +247,9 @@ fn alternate_title(rt: HostRuntime) -> Result<(), Fail> {
     };
     let mut out = Vec::new(rt.alloc());
     write_alt_title(&mut out, &alternate)?;
-    same_bytes("the line", &out, &vector)?;
-    same(
+    expect_record(
+        &out,
+        &vector,
         "the alt title that is read",
         &read_alt_title(&vector),
         &Ok(alternate),
@@ -261,8 +271,9 @@ fn cross_reference(rt: HostRuntime) -> Result<(), Fail> {
     };
     let mut out = Vec::new(rt.alloc());
     write_cross_ref(&mut out, &reference)?;
-    same_bytes("the line", &out, vector)?;
-    same(
+    expect_record(
+        &out,
+        vector,
         "the cross ref that is read",
         &read_cross_ref(vector),
         &Ok(reference),

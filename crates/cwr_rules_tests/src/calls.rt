@@ -16,6 +16,11 @@ fn parts_of_a_call(rt: HostRuntime) -> Result<(), Fail> {
         link!("PWR0000000000000003000000002"),
     ];
     let call = judged(rt.alloc(), &lines, WorkKind::Rev)?;
+    expect_parts(&call)
+}
+
+/// The parts of that call.
+fn expect_parts(call: &Call) -> Result<(), Fail> {
     same(
         "the submitter and the kind",
         &(call.submitter(), call.kind()),

@@ -44,21 +44,41 @@ fn same_calls(found: &Call, wanted: &Call) -> Result<(), Fail> {
 /// The call of the transaction of these lines, as the one transaction of a file. A judge that takes the lines one by one
 /// must give the same.
 pub(crate) fn judged(alloc: Global, lines: &[&str], kind: WorkKind) -> Result<Call, Fail> {
+    let file = file_of(alloc, lines, kind)?;
+    judged_in(alloc, &file)
+}
+
+/// A file whose one transaction has these lines.
+fn file_of(alloc: Global, lines: &[&str], kind: WorkKind) -> Result<String, Fail> {
     let name = match kind {
         WorkKind::Nwr => "NWR",
         WorkKind::Rev => "REV",
     };
-    let text = lines.join(alloc, "\n")?;
     let group_records = lines.len().saturating_add(2);
     let file_records = lines.len().saturating_add(4);
-    let file = format!(in alloc;
+    let text = lines.join(alloc, "\n")?;
+    Ok(format!(in alloc;
         "{HEADER}\nGRH{name}00001\n{text}\nGRT0000100000001{group_records:08}\nTRL0000100000001{file_records:08}\n"
-    )?;
+    )?)
+}
+
+/// The call of the one transaction of a file.
+fn judged_in(alloc: Global, file: &str) -> Result<Call, Fail> {
     let submission = parse_file(alloc, file.as_bytes())?;
     let transaction = submission.transactions.get(0).ok_or("no transaction")?;
-    let call = judge(alloc, &transaction, *b"PB000000123")?;
-    same_calls(&taken(alloc, &transaction)?, &call)?;
+    judged_twice(alloc, &transaction)
+}
+
+/// The call of a transaction, from its lines at once and from a judge that takes them one by one.
+fn judged_twice(alloc: Global, transaction: &RawTransaction) -> Result<Call, Fail> {
+    let call = judge(alloc, transaction, *b"PB000000123")?;
+    expect_taken(alloc, transaction, &call)?;
     Ok(call)
+}
+
+/// A judge that takes the lines of a transaction one by one gives this call.
+fn expect_taken(alloc: Global, transaction: &RawTransaction, call: &Call) -> Result<(), Fail> {
+    same_calls(&taken(alloc, transaction)?, call)
 }
 
 /// Whether a fault has the type of the record with its sequence: the first three bytes of that line.

@@ -1,6 +1,6 @@
 //! Files that a register answers.
 
-use crate::runs::{verified, work};
+use crate::runs::{verified, work, work_three};
 use cwr_sheets::{rival_claims, same_lists, three_works};
 use std::alloc::Global;
 use std::test::Fail;
@@ -9,16 +9,22 @@ use work_registry::Book;
 /// Two rival claims are taken, three works after them, and the first claim once more.
 fn expect_owners(alloc: Global) -> Result<(), Fail> {
     let rivals = rival_claims(alloc)?;
-    let first = rivals[0].as_slice();
-    let second = rivals[1].as_slice();
     let works = three_works(alloc)?;
+    expect_owners_of(alloc, [rivals[0].as_slice(), rivals[1].as_slice(), &works])
+}
+
+/// The same of these files.
+fn expect_owners_of(alloc: Global, files: [&[u8]; 3]) -> Result<(), Fail> {
     let mut answers = Vec::new(alloc);
-    let book = work(alloc, Book::new(alloc, 10), first, &mut answers)?;
-    let book = work(alloc, book, second, &mut answers)?;
-    let book = work(alloc, book, &works, &mut answers)?;
-    let book = work(alloc, book, first, &mut answers)?;
-    let book = book.reopened();
-    expect_each(alloc, &book, [first, second, &works], &answers)
+    let book = worked(alloc, files, &mut answers)?;
+    expect_each(alloc, &book, files, &answers)
+}
+
+/// The book after these four, with their acknowledgements.
+fn worked(alloc: Global, files: [&[u8]; 3], answers: &mut Vec<Vec<u8>>) -> Result<Book, Fail> {
+    let book = work_three(alloc, files, answers)?;
+    let book = work(alloc, book, files[0], answers)?;
+    Ok(book.reopened())
 }
 
 /// Two of the files at a time, with two of the acknowledgements.
@@ -43,12 +49,23 @@ fn expect_each(
             answers[one_answer].as_slice(),
             answers[other_answer].as_slice(),
         ];
-        let Ok(found) = verified(alloc, book, texts, acknowledgements) else {
-            return Err(Fail::from("the files are not verified"));
-        };
-        same_lists("the owners", &found, &owners)?;
+        expect_verified(alloc, book, texts, acknowledgements, &owners)?;
     }
     Ok(())
+}
+
+/// Two files with their acknowledgements, each of whose entries answers this one of them.
+fn expect_verified(
+    alloc: Global,
+    book: &Book,
+    texts: [&[u8]; 2],
+    acknowledgements: [&[u8]; 2],
+    owners: &[usize],
+) -> Result<(), Fail> {
+    let Ok(found) = verified(alloc, book, texts, acknowledgements) else {
+        return Err(Fail::from("the files are not verified"));
+    };
+    same_lists("the owners", &found, owners)
 }
 
 #[test]

@@ -15,13 +15,32 @@ pub(crate) fn work(
     file: &[u8],
     answers: &mut Vec<Vec<u8>>,
 ) -> Result<Book, Fail> {
+    let stamp = stamp()?;
     let job = Job {
         reader: Feed::new(file, 1000, None),
         writer: Room::new(alloc, 10000, true)?,
     };
-    let (book, job, _outcome) = work_alone(alloc, book, 1, job, &stamp()?);
-    answers.push(job.writer.bytes().to_vec(alloc)?)?;
+    let (book, job, _outcome) = work_alone(alloc, book, 1, job, &stamp);
+    keep_answer(alloc, job.writer.bytes(), answers)?;
     Ok(book)
+}
+
+/// Appends an acknowledgement to those before.
+fn keep_answer(alloc: Global, written: &[u8], answers: &mut Vec<Vec<u8>>) -> Result<(), Fail> {
+    answers.push(written.to_vec(alloc)?)?;
+    Ok(())
+}
+
+/// Works two rival claims and three works after them at an empty book, and appends their acknowledgements.
+pub(crate) fn work_three(
+    alloc: Global,
+    files: [&[u8]; 3],
+    answers: &mut Vec<Vec<u8>>,
+) -> Result<Book, Fail> {
+    let [first, second, works] = files;
+    let book = work(alloc, Book::new(alloc, 10), first, answers)?;
+    let book = work(alloc, book, second, answers)?;
+    work(alloc, book, works, answers)
 }
 
 /// What verifying two files, each with its acknowledgement, answers at a book.

@@ -112,13 +112,24 @@ fn expect_too_small(alloc: Global, register: &[u8]) -> Result<(), Fail> {
     same("why it is refused", &refused, &Some(too_many))
 }
 
+/// What the register of the book that was full is good for, and the file once more with it.
+fn expect_register<T: Threads + Wait + Sync>(
+    rt: &T,
+    alloc: Global,
+    call: Call,
+    input: &[u8],
+    register: &[u8],
+) -> Result<(), Fail> {
+    expect_too_small(alloc, register)?;
+    let run = run_again(rt, alloc, call, input, register)?;
+    expect_continued(alloc, &run)
+}
+
 /// Works a file with a book that is full before its end, and then with the book of that one's register.
 fn expect_all<T: Threads + Wait + Sync>(rt: &T, alloc: Global, call: Call) -> Result<(), Fail> {
     let input = three_works(alloc)?;
     let register = full_register(rt, alloc, call, &input)?;
-    expect_too_small(alloc, &register)?;
-    let run = run_again(rt, alloc, call, &input, &register)?;
-    expect_continued(alloc, &run)
+    expect_register(rt, alloc, call, &input, &register)
 }
 
 #[test]

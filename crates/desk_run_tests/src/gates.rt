@@ -60,16 +60,27 @@ fn replies_of(alloc: Global, book: &Book, session: u32) -> Result<Vec<Reply>, Fa
     Ok(replies)
 }
 
+/// A job's session has these replies.
+fn expect_replies(
+    alloc: Global,
+    book: &Book,
+    session: u32,
+    what: &str,
+    wanted: &[Reply],
+) -> Result<(), Fail> {
+    let replies = replies_of(alloc, book, session)?;
+    same_lists(what, &replies, wanted)
+}
+
 /// Three entries: the first job's work, and the second job's twice. The works are numbered as they came.
 fn expect_both(alloc: Global, book: &Book) -> Result<u32, Fail> {
     same("entries", &book.len(), &3)?;
     let first = book.history().first().ok_or("an entry")?;
     let (stopped, whole) = if first.session() == 1 { (1, 2) } else { (2, 1) };
-    let ones = replies_of(alloc, book, 1)?;
-    same_lists("the first job's replies", &ones, &[accepted(stopped, 1)])?;
-    let others = replies_of(alloc, book, 2)?;
+    let wanted = [accepted(stopped, 1)];
+    expect_replies(alloc, book, 1, "the first job's replies", &wanted)?;
     let wanted = [accepted(whole, 1), Reply::Duplicate { work: whole }];
-    same_lists("the second job's replies", &others, &wanted)?;
+    expect_replies(alloc, book, 2, "the second job's replies", &wanted)?;
     Ok(whole)
 }
 

@@ -11,16 +11,26 @@ use std::sync::Wait;
 use std::test::Fail;
 use std::thread::Threads;
 
+/// The file of one new work of this sender.
+fn file_from(alloc: Global, sender: &str) -> Result<Vec<u8>, Fail> {
+    let lines = [
+        work(alloc, "NWR", 0, "W1", "")?,
+        writer(alloc, "SWR", 0, 1, ALL)?,
+    ];
+    file(alloc, sender, "NWR", 1, &lines)
+}
+
+/// The file of one new work of this submitter.
+fn file_of(alloc: Global, submitter: u32) -> Result<Vec<u8>, Fail> {
+    let sender = format!(in alloc; "{submitter:09}")?;
+    file_from(alloc, &sender)
+}
+
 /// The files of one new work each, of the submitters 1 to 63.
 fn files(alloc: Global) -> Result<Vec<Vec<u8>>, Fail> {
     let mut files = Vec::new(alloc);
     for submitter in 1..64u32 {
-        let sender = format!(in alloc; "{submitter:09}")?;
-        let lines = [
-            work(alloc, "NWR", 0, "W1", "")?,
-            writer(alloc, "SWR", 0, 1, ALL)?,
-        ];
-        files.push(file(alloc, sender.as_str(), "NWR", 1, &lines)?)?;
+        files.push(file_of(alloc, submitter)?)?;
     }
     Ok(files)
 }
@@ -36,6 +46,13 @@ fn entries_of(entries: &[Entry], session: u32, submitter: &[u8]) -> usize {
     count
 }
 
+/// One entry of a session, with its job's submitter.
+fn expect_one_of(alloc: Global, entries: &[Entry], session: u32) -> Result<(), Fail> {
+    let submitter = format!(in alloc; "PB{session:09}")?;
+    let count = entries_of(entries, session, submitter.as_bytes());
+    same(&submitter, &count, &1)
+}
+
 /// Works 1 to 63 in the order of the entries, and one entry of each session, with its job's submitter.
 fn expect_63(alloc: Global, entries: &[Entry]) -> Result<(), Fail> {
     same("entries", &entries.len(), &63)?;
@@ -43,9 +60,7 @@ fn expect_63(alloc: Global, entries: &[Entry]) -> Result<(), Fail> {
         same("a reply", &entry.reply(), &accepted(work, 1))?;
     }
     for session in 1..64u32 {
-        let submitter = format!(in alloc; "PB{session:09}")?;
-        let count = entries_of(entries, session, submitter.as_bytes());
-        same(&submitter, &count, &1)?;
+        expect_one_of(alloc, entries, session)?;
     }
     Ok(())
 }

@@ -18,9 +18,9 @@ struct Worked {
 
 /// Works two files at two seats of one desk, with a gate that lets worker 1 pass after worker 2 alone.
 fn work_two<T: Wait>(rt: &T, alloc: Global, one: &[u8], other: &[u8]) -> Result<Worked, Fail> {
+    let stamp = stamp()?;
     let mut first_writer = Room::new(alloc, 425, true)?;
     let mut second_writer = Room::new(alloc, 425, true)?;
-    let stamp = stamp()?;
     let gate = SecondFirst::new();
     let Ok((desk, mut opening)) = Desk::open(alloc, Book::new(alloc, 100), 3) else {
         return Err(Fail::from("memory"));

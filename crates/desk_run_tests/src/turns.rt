@@ -6,7 +6,7 @@ use cwr_sheets::{
     plain_file, same, same_bytes, three_works,
 };
 use desk_runs::{
-    ACKED, Input, MemoryRun, accepted, expect_ends, expect_history, expect_run, expect_written,
+    ACKED, MemoryRun, accepted, expect_ends, expect_history, expect_run, expect_written,
     run_in_turn, unread, whole, with_room,
 };
 use std::alloc::Global;
@@ -119,26 +119,86 @@ fn two_submitters(alloc: Global, iswc: &str, shares: [&str; 2], second: Reply) -
 #[test]
 fn one_number_of_two_submitters(rt: HostRuntime) -> Result<(), Fail> {
     let alloc = rt.alloc();
-    let iswc = "T0345246801";
-    two_submitters(alloc, iswc, ["05006", "05000"], accepted(1, 1))?;
-    two_submitters(alloc, iswc, ["05007", "04993"], Reply::Conflict { work: 1 })?;
+    two_submitters(alloc, ISWC, ["05006", "05000"], accepted(1, 1))?;
+    two_submitters(alloc, ISWC, ["05007", "04993"], Reply::Conflict { work: 1 })?;
     two_submitters(alloc, "", ["05006", "05000"], accepted(2, 1))
 }
 
-/// A submitter's claim to a work, another one's claim to it, and a new version of the first.
-fn claims_to_one_work(alloc: Global) -> Result<[Vec<u8>; 3], Fail> {
-    let iswc = "T0345246801";
-    let half = ["05000", "05000"];
-    Ok([
-        one_work(alloc, SENDER, "REV", "W1", iswc, ["06000", "04000"])?,
-        one_work(alloc, OTHER_SENDER, "NWR", "W7", iswc, half)?,
-        one_work(alloc, SENDER, "REV", "W1", iswc, half)?,
-    ])
+/// The work that two submitters claim.
+const ISWC: &str = "T0345246801";
+
+/// A file of one work: its sender, its kind, the submitter's number, the ISWC, and the shares of the submitter's writer
+/// and the other one.
+#[derive(Clone, Copy)]
+struct Filed<'a> {
+    sender: &'a str,
+    kind: &'a str,
+    number: &'a str,
+    iswc: &'a str,
+    own: &'a str,
+    other: &'a str,
+}
+
+/// A submitter's claim to a work.
+const CLAIM: Filed<'static> = Filed {
+    sender: SENDER,
+    kind: "REV",
+    number: "W1",
+    iswc: ISWC,
+    own: "06000",
+    other: "04000",
+};
+
+/// Another one's claim to it.
+const OTHER_CLAIM: Filed<'static> = Filed {
+    sender: OTHER_SENDER,
+    kind: "NWR",
+    number: "W7",
+    iswc: ISWC,
+    own: "05000",
+    other: "05000",
+};
+
+/// A new version of the first claim, with this ISWC.
+const fn version(iswc: &str) -> Filed<'_> {
+    Filed {
+        sender: SENDER,
+        kind: "REV",
+        number: "W1",
+        iswc,
+        own: "05000",
+        other: "05000",
+    }
+}
+
+fn file_of(alloc: Global, filed: Filed) -> Result<Vec<u8>, Fail> {
+    let Filed {
+        sender,
+        kind,
+        number,
+        iswc,
+        own,
+        other,
+    } = filed;
+    one_work(alloc, sender, kind, number, iswc, [own, other])
+}
+
+/// These files.
+fn files_of(alloc: Global, all: &[Filed]) -> Result<Vec<Vec<u8>>, Fail> {
+    let mut files = Vec::new(alloc);
+    for filed in all {
+        files.push(file_of(alloc, *filed)?)?;
+    }
+    Ok(files)
 }
 
 /// Works these files in turn, into an empty book of 100 entries.
-fn run_all<'a>(alloc: Global, files: &[Input<'a>]) -> Result<MemoryRun<'a>, Fail> {
-    run_in_turn(alloc, Book::new(alloc, 100), files)
+fn run_all(alloc: Global, files: &[Vec<u8>]) -> Result<MemoryRun<'_>, Fail> {
+    let mut inputs = Vec::new(alloc);
+    for file in files {
+        inputs.push(whole(file))?;
+    }
+    run_in_turn(alloc, Book::new(alloc, 100), &inputs)
 }
 
 /// A run of so many files, each of which was acknowledged.
@@ -181,39 +241,10 @@ fn expect_four(run: &MemoryRun) -> Result<(), Fail> {
 
 #[test]
 fn a_claim_and_its_new_version(rt: HostRuntime) -> Result<(), Fail> {
-    let claims = claims_to_one_work(rt.alloc())?;
-    let [first, second, third] = &claims;
-    let files = [whole(first), whole(second), whole(third), whole(second)];
+    let claims = [CLAIM, OTHER_CLAIM, version(ISWC), OTHER_CLAIM];
+    let files = files_of(rt.alloc(), &claims)?;
     let run = run_all(rt.alloc(), &files)?;
     expect_four(&run)
-}
-
-/// Two more versions of the first submitter's claim, without an ISWC and with this one.
-fn versions_of_the_claim(alloc: Global, last: &str) -> Result<[Vec<u8>; 2], Fail> {
-    let half = ["05000", "05000"];
-    Ok([
-        one_work(alloc, SENDER, "REV", "W1", "", half)?,
-        one_work(alloc, SENDER, "REV", "W1", last, half)?,
-    ])
-}
-
-/// Works six files on one work: the three claims, the second of them again, and these two versions.
-fn run_six<'a>(
-    alloc: Global,
-    claims: &'a [Vec<u8>; 3],
-    versions: &'a [Vec<u8>; 2],
-) -> Result<MemoryRun<'a>, Fail> {
-    let [first, second, third] = claims;
-    let [fifth, sixth] = versions;
-    let files = [
-        whole(first),
-        whole(second),
-        whole(third),
-        whole(second),
-        whole(fifth),
-        whole(sixth),
-    ];
-    run_all(alloc, &files)
 }
 
 /// The replies to the six, the last of which is this one.
@@ -237,11 +268,19 @@ fn expect_six(run: &MemoryRun, last: Reply, written: &[u8]) -> Result<(), Fail> 
     expect_claim(&run.book, 3)
 }
 
-/// The last of six files has this ISWC: the reply to it, and its acknowledgement.
+/// Six files on one work: the claims, the first's new version, the second again, and two more versions of the first,
+/// without an ISWC and with this one. The reply to the last, and its acknowledgement.
 fn expect_last(alloc: Global, iswc: &str, reply: Reply, written: &[u8]) -> Result<(), Fail> {
-    let claims = claims_to_one_work(alloc)?;
-    let versions = versions_of_the_claim(alloc, iswc)?;
-    let run = run_six(alloc, &claims, &versions)?;
+    let claims = [
+        CLAIM,
+        OTHER_CLAIM,
+        version(ISWC),
+        OTHER_CLAIM,
+        version(""),
+        version(iswc),
+    ];
+    let files = files_of(alloc, &claims)?;
+    let run = run_all(alloc, &files)?;
     expect_six(&run, reply, written)
 }
 

@@ -7,6 +7,13 @@ use kept_file::{MemoryPlace, NotKept, Place, drop_followers, keep, put_followers
 use std::alloc::Global;
 use std::test::Fail;
 
+/// This lies there, and after a crash that.
+fn expect_both(place: &mut MemoryPlace, now: &Lies<'_>, left: &Lies<'_>) -> Result<(), Fail> {
+    expect(place, now)?;
+    place.crash();
+    expect(place, left)
+}
+
 /// Where the call after so many fails, the text is not kept: so many bytes went into the draft, and this lies there.
 fn expect_not_kept(
     alloc: Global,
@@ -16,18 +23,15 @@ fn expect_not_kept(
 ) -> Result<(), Fail> {
     let mut place = place(alloc, Some(good_calls))?;
     same("the text", &keep(&mut place, TEXT), &Err(NotKept { sent }))?;
-    expect(&place, wanted)?;
-    place.crash();
-    expect(&place, &AS_IT_WAS)
+    expect_both(&mut place, wanted, &AS_IT_WAS)
 }
 
 /// Where the call after so many fails, or none, the text is kept, and this lies there; after a crash too.
 fn expect_kept(alloc: Global, good_calls: Option<u64>, wanted: &Lies<'_>) -> Result<(), Fail> {
     let mut place = place(alloc, good_calls)?;
     same("the text", &keep(&mut place, TEXT), &Ok(()))?;
-    expect(&place, wanted)?;
-    place.crash();
-    expect(&place, wanted)
+    let left = *wanted;
+    expect_both(&mut place, wanted, &left)
 }
 
 #[test]
@@ -78,22 +82,27 @@ fn all_is_kept(rt: HostRuntime) -> Result<(), Fail> {
     expect_kept(alloc, None, &IN_PLACE)
 }
 
-#[test]
-fn a_file_without_its_followers(rt: HostRuntime) -> Result<(), Fail> {
-    let mut place = place(rt.alloc(), None)?;
-    same("the text", &replace(&mut place, TEXT), &Ok(()))?;
+/// The file is there and its followers wait, until they are dropped.
+fn expect_dropped(place: &mut MemoryPlace) -> Result<(), Fail> {
     let waiting = Lies {
         file: Some(TEXT),
         has_drafts: true,
         ..AS_IT_WAS
     };
-    expect(&place, &waiting)?;
-    drop_followers(&mut place);
+    expect(place, &waiting)?;
+    drop_followers(place);
     let dropped = Lies {
         has_drafts: false,
         ..waiting
     };
-    expect(&place, &dropped)
+    expect(place, &dropped)
+}
+
+#[test]
+fn a_file_without_its_followers(rt: HostRuntime) -> Result<(), Fail> {
+    let mut place = place(rt.alloc(), None)?;
+    same("the text", &replace(&mut place, TEXT), &Ok(()))?;
+    expect_dropped(&mut place)
 }
 
 #[test]

@@ -21,16 +21,27 @@ pub(crate) struct Lies<'a> {
     pub(crate) has_drafts: bool,
 }
 
+/// A follower with the file `ACK 0`, whose draft is `ACK 2`.
+fn second(alloc: Global) -> Result<MemoryFile, AllocError> {
+    let earlier = b"ACK 0".to_vec(alloc)?;
+    Ok(MemoryFile::new(Some(earlier), b"ACK 2".to_vec(alloc)?))
+}
+
+/// That follower behind one without a file, whose draft is `ACK 1`.
+fn followers(alloc: Global) -> Result<Vec<MemoryFile>, AllocError> {
+    let mut followers = Vec::new(alloc);
+    followers.push(MemoryFile::new(None, b"ACK 1".to_vec(alloc)?))?;
+    followers.push(second(alloc)?)?;
+    Ok(followers)
+}
+
 /// A place with the file `OLD`, a follower without a file and one with `ACK 0`, whose drafts are `ACK 1` and `ACK 2`. A
 /// write takes three bytes; after so many calls one fails.
 pub(crate) fn place(alloc: Global, good_calls: Option<u64>) -> Result<MemoryPlace, AllocError>
     ensures works { IfOk result (λ p. ⟦<MemoryPlace as Place>⟧.has_failed p ≡ false) }
     ensures settled { IfOk result (λ p. IfSome (⟦<MemoryPlace as Place>⟧.told p) (λ s. Only s.names (⟦<MemoryPlace as Place>⟧.may_find p))) }
 {
-    let mut followers = Vec::new(alloc);
-    followers.push(MemoryFile::new(None, b"ACK 1".to_vec(alloc)?))?;
-    let earlier = b"ACK 0".to_vec(alloc)?;
-    followers.push(MemoryFile::new(Some(earlier), b"ACK 2".to_vec(alloc)?))?;
+    let followers = followers(alloc)?;
     let file = Some(b"OLD".to_vec(alloc)?);
     Ok(MemoryPlace::new(alloc, file, followers, 3, good_calls))
 }

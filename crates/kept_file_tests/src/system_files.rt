@@ -2,7 +2,7 @@
 
 use cwr_sheets::{same, same_bytes};
 use kept_file::{
-    Deaf, FileNames, Follower, NotKept, Place, SystemPlace, keep, lock, put_followers,
+    Deaf, Exclusive, FileNames, Follower, NotKept, Place, SystemPlace, keep, lock, put_followers,
 };
 use std::fs::{self, Permissions};
 use std::os::unix::fs::{PermissionsExt, symlink};
@@ -21,11 +21,22 @@ fn keep_new<R: AllocGlobal + Files>(rt: &R, name: &str) -> Result<Result<(), Not
     Ok(keep(&mut place, NEW))
 }
 
+/// The file of that name has these bytes.
+fn expect_bytes<R: AllocGlobal + Files>(rt: &R, name: &str, bytes: &[u8]) -> Result<(), Fail> {
+    let found = fs::read(rt, name)?;
+    same_bytes("the file", &found, bytes)
+}
+
+/// No draft lies beside the file of that name.
+fn expect_no_draft<R: AllocGlobal + Files>(rt: &R, name: &str) -> Result<(), Fail> {
+    let names = FileNames::of_word(rt, name)?;
+    same("a draft", &fs::exists(rt, names.draft())?, &false)
+}
+
 /// The file of that name has these bytes, and no draft lies beside it. It is taken away.
 fn expect_alone<R: AllocGlobal + Files>(rt: &R, name: &str, bytes: &[u8]) -> Result<(), Fail> {
-    same_bytes("the file", &fs::read(rt, name)?, bytes)?;
-    let names = FileNames::of_word(rt, name)?;
-    same("a draft", &fs::exists(rt, names.draft())?, &false)?;
+    expect_bytes(rt, name, bytes)?;
+    expect_no_draft(rt, name)?;
     Ok(fs::remove_file(rt, name)?)
 }
 
@@ -103,38 +114,75 @@ fn with_draft<R: AllocGlobal + Files>(rt: &R, name: &str) -> Result<FileNames, F
     Ok(names)
 }
 
-#[test]
-fn followers_in_place_of_files_or_of_none(rt: HostRuntime) -> Result<(), Fail> {
-    let alloc = rt.alloc();
-    fs::write(&rt, "follows", OLD)?;
-    fs::write(&rt, "is_there", OLD)?;
-    let replaced = with_draft(&rt, "follows")?;
-    let fresh = with_draft(&rt, "follows_alone")?;
-    let taken = with_draft(&rt, "is_there")?;
-    let mut followers = Vec::new(alloc);
-    followers.push(Follower::new(&replaced, true))?;
-    followers.push(Follower::new(&fresh, false))?;
-    followers.push(Follower::new(&taken, false))?;
-    let mut place = SystemPlace::new(&rt, None, followers, Deaf);
+/// Followers of these names, each with a draft.
+fn with_drafts<R: AllocGlobal + Files>(rt: &R, words: &[&str]) -> Result<Vec<FileNames>, Fail> {
+    let mut all = Vec::new(rt.alloc());
+    for word in words {
+        all.push(with_draft(rt, word)?)?;
+    }
+    Ok(all)
+}
+
+/// Three followers, of which the first alone replaces a file.
+fn followers<'a, R: AllocGlobal>(rt: &R, all: &'a [FileNames]) -> Result<Vec<Follower<'a>>, Fail> {
+    let mut followers = Vec::new(rt.alloc());
+    for (names, replaces) in all.iter().zip(&[true, false, false]) {
+        followers.push(Follower::new(names, *replaces))?;
+    }
+    Ok(followers)
+}
+
+/// Puts them in place, and answers which of them are refused.
+fn refused_of<R: AllocGlobal + Files>(rt: &R, all: &[FileNames]) -> Result<[bool; 3], Fail> {
+    let followers = followers(rt, all)?;
+    let mut place = SystemPlace::new(rt, None, followers, Deaf);
     put_followers(&mut place);
-    let refused = [
+    Ok([
         place.is_refused(0),
         place.is_refused(1),
         place.is_refused(2),
-    ];
-    same("refused", &refused, &[false, false, true])?;
+    ])
+}
+
+/// The third of three followers is refused, which is to replace no file and finds one.
+fn expect_third_refused<R: AllocGlobal + Files>(rt: &R) -> Result<(), Fail> {
+    let all = with_drafts(rt, &["follows", "follows_alone", "is_there"])?;
+    same("refused", &refused_of(rt, &all)?, &[false, false, true])
+}
+
+#[test]
+fn followers_in_place_of_files_or_of_none(rt: HostRuntime) -> Result<(), Fail> {
+    fs::write(&rt, "follows", OLD)?;
+    fs::write(&rt, "is_there", OLD)?;
+    expect_third_refused(&rt)?;
     expect_alone(&rt, "follows", NEW)?;
     expect_alone(&rt, "follows_alone", NEW)?;
     fs::remove_file(&rt, "is_there.new")?;
     expect_alone(&rt, "is_there", OLD)
 }
 
+/// Whether the lock is free.
+fn expect_lock<R: Files>(rt: &R, what: &str, is_free: bool) -> Result<(), Fail>
+where
+    R::File: Exclusive,
+{
+    let held = lock(rt, "one.lock")?;
+    same(what, &held.is_some(), &is_free)
+}
+
+/// The lock is held once, and not a second time.
+fn expect_held<R: Files>(rt: &R) -> Result<(), Fail>
+where
+    R::File: Exclusive,
+{
+    let first = lock(rt, "one.lock")?;
+    same("the first", &first.is_some(), &true)?;
+    expect_lock(rt, "the second", false)
+}
+
 #[test]
 fn a_lock_is_of_one_at_a_time(rt: HostRuntime) -> Result<(), Fail> {
-    let first = lock(&rt, "one.lock")?;
-    same("the first", &first.is_some(), &true)?;
-    same("the second", &lock(&rt, "one.lock")?.is_some(), &false)?;
-    drop(first);
-    same("the next", &lock(&rt, "one.lock")?.is_some(), &true)?;
+    expect_held(&rt)?;
+    expect_lock(&rt, "the next", true)?;
     Ok(fs::remove_file(&rt, "one.lock")?)
 }

@@ -4,6 +4,7 @@ use cwr_sheets::{same, same_bytes};
 use program_runs::{Fake, expect_program};
 use purvilgo_command::run_program;
 use std::process::ExitCode;
+use std::str::Lines;
 use std::test::Fail;
 
 /// The pages of a rule of each kind, in the order of the words.
@@ -93,22 +94,33 @@ const HEADINGS: [&str; 31] = [
     "G4 ",
 ];
 
+/// The next lines must be the page of this heading.
+fn expect_page(lines: &mut Lines, heading: &str) -> Result<(), Fail> {
+    let line = lines.next().ok_or("a heading")?;
+    same(heading, &line.starts_with(heading), &true)?;
+    for label in ["  asks: ", "  broken by: ", "  mended by: "] {
+        let line = lines.next().ok_or("a line of a page")?;
+        same(heading, &line.starts_with(label), &true)?;
+    }
+    Ok(())
+}
+
+/// All pages must be printed, and nothing more.
+fn expect_pages(ended: ExitCode, printed: &[u8], complained: &str) -> Result<(), Fail> {
+    same("its status", &ended, &ExitCode::SUCCESS)?;
+    same_bytes("its standard error", complained.as_bytes(), b"")?;
+    let text = str::from_utf8(printed)?;
+    let mut lines = text.lines();
+    for heading in HEADINGS {
+        expect_page(&mut lines, heading)?;
+    }
+    same("a line more", &lines.next(), &None)
+}
+
 #[test]
 fn tells_every_rule(rt: HostRuntime) -> Result<(), Fail> {
     let fake = Fake::new(&rt, &["purvilgo", "explain"], b"");
     let ended = run_program(&fake);
     let (printed, complained) = fake.into_texts();
-    same("its status", &ended, &ExitCode::SUCCESS)?;
-    same_bytes("its standard error", complained.as_bytes(), b"")?;
-    let text = str::from_utf8(printed.as_slice())?;
-    let mut lines = text.lines();
-    for heading in HEADINGS {
-        let line = lines.next().ok_or("a heading")?;
-        same(heading, &line.starts_with(heading), &true)?;
-        for label in ["  asks: ", "  broken by: ", "  mended by: "] {
-            let line = lines.next().ok_or("a line of a page")?;
-            same(heading, &line.starts_with(label), &true)?;
-        }
-    }
-    same("a line more", &lines.next(), &None)
+    expect_pages(ended, &printed, &complained)
 }

@@ -79,13 +79,18 @@ fn tells_each_byte_as_the_character_with_its_number(rt: HostRuntime) -> Result<(
     Ok(())
 }
 
+/// Nothing must be printed, and the word be told that is not taken.
+fn expect_not_taken(ended: ExitCode, printed: &[u8], told: &str) -> Result<(), Fail> {
+    same_bytes("its standard output", printed, b"")?;
+    same("--json", &told.contains("--json"), &true)?;
+    same("its status", &ended, &ExitCode::from(2))
+}
+
 #[test]
 fn is_not_taken_with_the_long_check(rt: HostRuntime) -> Result<(), Fail> {
     let words = ["purvilgo", "check", "--long", "--json", "-"];
     let fake = Fake::new(&rt, &words, b"");
     let ended = run_program(&fake);
     let (printed, told) = fake.into_texts();
-    same_bytes("its standard output", printed.as_slice(), b"")?;
-    same("--json", &told.as_str().contains("--json"), &true)?;
-    same("its status", &ended, &ExitCode::from(2))
+    expect_not_taken(ended, &printed, &told)
 }

@@ -1,8 +1,11 @@
 //! What `claims`, `works`, `history` and `summary` tell of a register.
 
-use program_runs::{Fake, FakeFile, expect_program};
+use program_runs::{Fake, FakeFile, expect, expect_program};
+use std::alloc::Global;
 use std::process::ExitCode;
+use std::sync::Wait;
 use std::test::Fail;
+use std::thread::Threads;
 
 /// Three transactions of two submitters on one work: an accepted one, a conflict, and a rejected one.
 const REGISTER: &[u8] = b"REG00000003\n\
@@ -40,9 +43,28 @@ works by what is left of the mechanical right:\n  none: 0\n  up to a quarter: 0\
 works by what is left of the synchronization right:\n  none: 0\n  up to a quarter: 0\n  up to a half: 1\n  more than a half: 0\n  all: 0\n\
 largest conflicts:\n  work 1: 1\n";
 
+/// These lines, one behind the other.
+fn joined(alloc: Global, lines: &[&str]) -> Result<String, Fail> {
+    let mut text = String::new(alloc);
+    for line in lines {
+        text.push_str(line)?;
+    }
+    Ok(text)
+}
+
+/// What is told of the register with these words: these lines.
+fn expect_table<T: AllocGlobal + Threads + Wait + Sync>(
+    rt: &T,
+    words: &[&str],
+    lines: &[&str],
+) -> Result<(), Fail> {
+    let wanted = joined(rt.alloc(), lines)?;
+    let files = [("register", FakeFile::Holds(REGISTER))];
+    expect(rt, words, &files, &[], ExitCode::SUCCESS, &wanted, "")
+}
+
 #[test]
 fn tells_tables(rt: HostRuntime) -> Result<(), Fail> {
-    let files = [("register", FakeFile::Holds(REGISTER))];
     let cases: [(&[&str], &[&str]); 15] = [
         (&["purvilgo", "claims", "register"], &[CLAIMS, CLAIM]),
         (&["purvilgo", "works", "register"], &[WORKS, WORK]),
@@ -110,12 +132,7 @@ fn tells_tables(rt: HostRuntime) -> Result<(), Fail> {
         (&["purvilgo", "summary", "register"], &[SUMMARY]),
     ];
     for (words, lines) in cases {
-        let mut wanted = Vec::new(rt.alloc());
-        for line in lines {
-            wanted.extend_from_slice(line.as_bytes())?;
-        }
-        let fake = Fake::new(&rt, words, b"").with_files(&files, &[]);
-        expect_program(fake, ExitCode::SUCCESS, &wanted, "")?;
+        expect_table(&rt, words, lines)?;
     }
     Ok(())
 }

@@ -10,8 +10,9 @@ use std::thread::Threads;
 
 /// An acknowledgement of society 000 as society 007 gives it.
 fn of_society_7(alloc: Global, text: &[u8]) -> Result<Vec<u8>, Fail> {
+    let rest = text.get(14..).ok_or("a header")?;
     let mut bytes = Vec::from_slice(alloc, b"HDRSO000000007")?;
-    bytes.extend_from_slice(text.get(14..).ok_or("a header")?)?;
+    bytes.extend_from_slice(rest)?;
     Ok(bytes)
 }
 
@@ -44,22 +45,36 @@ fn run_as_society_7<'a, T: AllocGlobal + Threads + Wait + Sync>(
     expect(rt, &words, &files, kept, ExitCode::SUCCESS, told, "")
 }
 
+/// Makes these two files and acknowledges them.
+fn run_two<T: AllocGlobal + Threads + Wait + Sync>(rt: &T, kept: &[KeptFile]) -> Result<(), Fail> {
+    let one_work = plain_file(rt.alloc())?;
+    let no_work = file_of_lines(rt.alloc(), &["TRL000000000000000000002"])?;
+    run_as_society_7(rt, &one_work, &no_work, kept)
+}
+
+/// A file must hold this acknowledgement as society 007 gives it.
+fn expect_of_society_7(alloc: Global, file: &KeptFile, text: &[u8]) -> Result<(), Fail> {
+    let wanted = of_society_7(alloc, text)?;
+    expect_held(file, &wanted)
+}
+
+/// The files must hold the acknowledgements of one work and of none.
+fn expect_answers(alloc: Global, kept: &[KeptFile; 2]) -> Result<(), Fail> {
+    let one = one_answer(alloc, "AS")?;
+    let none = acknowledgement(alloc, &[])?;
+    expect_of_society_7(alloc, &kept[0], &one)?;
+    expect_of_society_7(alloc, &kept[1], &none)
+}
+
 /// The acknowledgements show each word of the stamp in its place, beside `CWR REGISTRY`, 1 June 2024 and 09:00:00.
 #[test]
 fn reads_the_words_of_a_run(rt: HostRuntime) -> Result<(), Fail> {
     let alloc = rt.alloc();
-    let one_work = plain_file(alloc)?;
-    let no_work = file_of_lines(alloc, &["TRL000000000000000000002"])?;
-    let kept = [
-        keeping(alloc, "a.v22.ack", b"", 1000)?,
-        keeping(alloc, "b.v22.ack", b"", 1000)?,
-    ];
-    run_as_society_7(&rt, &one_work, &no_work, &kept)?;
-    expect_held(&kept[0], &of_society_7(alloc, &one_answer(alloc, "AS")?)?)?;
-    expect_held(
-        &kept[1],
-        &of_society_7(alloc, &acknowledgement(alloc, &[])?)?,
-    )
+    let one = keeping(alloc, "a.v22.ack", b"", 1000)?;
+    let none = keeping(alloc, "b.v22.ack", b"", 1000)?;
+    let kept = [one, none];
+    run_two(&rt, &kept)?;
+    expect_answers(alloc, &kept)
 }
 
 #[test]

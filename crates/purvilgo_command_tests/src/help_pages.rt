@@ -17,9 +17,14 @@ fn expect_page<T: AllocGlobal + Threads + Wait + Sync>(
     let fake = Fake::new(rt, words, b"");
     let ended = run_program(&fake);
     let (printed, page) = fake.into_texts();
-    same_bytes("its standard output", printed.as_slice(), b"")?;
+    expect_told(ended, &printed, &page, names)
+}
+
+/// The page must name all of these, nothing must be on standard output, and the status must be 2.
+fn expect_told(ended: ExitCode, printed: &[u8], page: &str, names: &[&str]) -> Result<(), Fail> {
+    same_bytes("its standard output", printed, b"")?;
     for name in names {
-        same(name, &page.as_str().contains(*name), &true)?;
+        same(name, &page.contains(*name), &true)?;
     }
     same("its status", &ended, &ExitCode::from(2))
 }

@@ -2,54 +2,112 @@
 
 use cwr_sheets::plain_file;
 use program_runs::{
-    Fake, FakeFile, Given, Kept, Step, Text, expect_held, expect_play, expect_program, keeping,
-    run_with,
+    Fake, FakeFile, Given, Kept, KeptFile, Step, Text, expect_held, expect_play, expect_program,
+    keeping, run_with,
 };
+use std::alloc::Global;
 use std::fs;
 use std::fs::Metadata;
 use std::process::ExitCode;
+use std::rt::Files;
+use std::sync::Wait;
 use std::test::Fail;
+use std::thread::Threads;
 
-/// The register is not read either: it is not there, and nothing is told of it.
-#[test]
-fn leaves_acknowledgements_that_are_there(rt: HostRuntime) -> Result<(), Fail> {
-    let alloc = rt.alloc();
-    let input = plain_file(alloc)?;
+/// The acknowledgements and the register of a run, and what they hold so far.
+const BEFORE: [(&str, &[u8]); 3] = [("a.ack", b"older"), ("b.ack", b""), ("book", b"older")];
+
+/// These files.
+fn kept_before<'a>(alloc: Global) -> Result<Vec<KeptFile<'a>>, Fail> {
+    let mut kept = Vec::new(alloc);
+    for (name, text) in BEFORE {
+        kept.push(keeping(alloc, name, text, 1000)?)?;
+    }
+    Ok(kept)
+}
+
+/// The files must hold what they held.
+fn expect_as_before(kept: &[KeptFile]) -> Result<(), Fail> {
+    for (file, (_, text)) in kept.iter().zip(&BEFORE) {
+        expect_held(file, text)?;
+    }
+    Ok(())
+}
+
+/// Runs the program over these files and names: it must fail, and complain of this.
+fn expect_over<T: AllocGlobal + Threads + Wait + Sync>(
+    rt: &T,
+    words: &[&str],
+    files: &[(&str, FakeFile)],
+    kept: &[KeptFile],
+    nodes: &[(&str, Metadata)],
+    links: &[(&str, &str)],
+    complained: &str,
+) -> Result<(), Fail> {
+    let fake = Fake::new(rt, words, b"")
+        .with_files(files, kept)
+        .with_names(nodes, links);
+    expect_program(fake, ExitCode::FAILURE, b"", complained)
+}
+
+/// Runs the files `a` and `b` where the system tells this of names: it must fail, and complain of this.
+fn expect_there<T: AllocGlobal + Threads + Wait + Sync>(
+    rt: &T,
+    kept: &[KeptFile],
+    nodes: &[(&str, Metadata)],
+    links: &[(&str, &str)],
+    complained: &str,
+) -> Result<(), Fail> {
+    let words = run_with(
+        rt.alloc(),
+        &["--no-clobber", "--from", "absent", "--to", "book", "a", "b"],
+    )?;
+    let input = plain_file(rt.alloc())?;
     let files = [
         ("a", FakeFile::Holds(&input)),
         ("b", FakeFile::Holds(&input)),
     ];
-    let kept = [
-        keeping(alloc, "a.ack", b"older", 1000)?,
-        keeping(alloc, "b.ack", b"", 1000)?,
-        keeping(alloc, "book", b"older", 1000)?,
-    ];
-    let there = fs::metadata(&rt, "/")?;
-    let other = fs::metadata(&rt, "/dev/null")?;
-    let one = [("a.ack", there.clone()?)];
+    expect_over(rt, &words, &files, kept, nodes, links, complained)
+}
+
+/// Of both files one acknowledgement is there.
+fn expect_one_there<T: AllocGlobal + Files + Threads + Wait + Sync>(
+    rt: &T,
+    kept: &[KeptFile],
+) -> Result<(), Fail> {
+    let one = [("a.ack", fs::metadata(rt, "/")?)];
+    expect_there(rt, kept, &one, &[], "a.ack: is there already\n")
+}
+
+/// Both acknowledgements are there.
+fn expect_both_there<T: AllocGlobal + Files + Threads + Wait + Sync>(
+    rt: &T,
+    kept: &[KeptFile],
+) -> Result<(), Fail> {
+    let there = fs::metadata(rt, "/")?;
+    let other = fs::metadata(rt, "/dev/null")?;
     let both = [("b.ack", other), ("a.ack", there)];
-    let cases: [(&[(&str, Metadata)], &[(&str, &str)], &str); 3] = [
-        (&one, &[], "a.ack: is there already\n"),
-        (&[], &[("b.ack", "nowhere")], "b.ack: is there already\n"),
-        (
-            &both,
-            &[],
-            "a.ack: is there already\nb.ack: is there already\n",
-        ),
-    ];
-    for (nodes, links, complained) in cases {
-        let words = run_with(
-            alloc,
-            &["--no-clobber", "--from", "absent", "--to", "book", "a", "b"],
-        )?;
-        let fake = Fake::new(&rt, &words, b"")
-            .with_files(&files, &kept)
-            .with_names(nodes, links);
-        expect_program(fake, ExitCode::FAILURE, b"", complained)?;
-    }
-    expect_held(&kept[0], b"older")?;
-    expect_held(&kept[1], b"")?;
-    expect_held(&kept[2], b"older")
+    let complained = "a.ack: is there already\nb.ack: is there already\n";
+    expect_there(rt, kept, &both, &[], complained)
+}
+
+/// Runs with one acknowledgement, with a link in the place of the other, and with both.
+fn expect_all_there<T: AllocGlobal + Files + Threads + Wait + Sync>(
+    rt: &T,
+    kept: &[KeptFile],
+) -> Result<(), Fail> {
+    let links = [("b.ack", "nowhere")];
+    expect_one_there(rt, kept)?;
+    expect_there(rt, kept, &[], &links, "b.ack: is there already\n")?;
+    expect_both_there(rt, kept)
+}
+
+/// The register is not read either: it is not there, and nothing is told of it.
+#[test]
+fn leaves_acknowledgements_that_are_there(rt: HostRuntime) -> Result<(), Fail> {
+    let kept = kept_before(rt.alloc())?;
+    expect_all_there(&rt, &kept)?;
+    expect_as_before(&kept)
 }
 
 const ACKNOWLEDGED: &str = "a: acknowledged 1\n";

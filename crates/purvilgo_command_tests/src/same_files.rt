@@ -1,27 +1,33 @@
 //! Runs whose words name one file twice, by its name, by another path or by a link.
 
 use cwr_sheets::plain_file;
-use program_runs::{
-    Fake, FakeFile, KeptFile, expect, expect_held, expect_program, keeping, run_with,
-};
+use program_runs::{Fake, FakeFile, KeptFile, expect_held, expect_program, keeping, run_with};
 use std::alloc::Global;
 use std::fs;
 use std::fs::Metadata;
 use std::process::ExitCode;
 use std::rt::Files;
+use std::sync::Wait;
 use std::test::Fail;
+use std::thread::Threads;
 
 const TWICE: &str = "file named twice\n";
 
-/// The files `a`, `a.ack`, `b.ack` and `book`, which hold a text that a run would write over.
-fn older<'a>(alloc: Global) -> Result<[KeptFile<'a>; 4], Fail> {
-    Ok([
-        keeping(alloc, "a", b"older", 1000)?,
-        keeping(alloc, "a.ack", b"older", 1000)?,
-        keeping(alloc, "b.ack", b"older", 1000)?,
-        keeping(alloc, "book", b"older", 1000)?,
-    ])
+/// Files of these names that hold this text so far.
+fn all_keeping<'a>(
+    alloc: Global,
+    names: &[&'a str],
+    text: &[u8],
+) -> Result<Vec<KeptFile<'a>>, Fail> {
+    let mut kept = Vec::new(alloc);
+    for name in names {
+        kept.push(keeping(alloc, name, text, 1000)?)?;
+    }
+    Ok(kept)
 }
+
+/// Files that hold a text which a run would write over.
+const OLDER: [&str; 4] = ["a", "a.ack", "b.ack", "book"];
 
 /// The files must hold what they held.
 fn expect_untouched(kept: &[KeptFile]) -> Result<(), Fail> {
@@ -31,10 +37,24 @@ fn expect_untouched(kept: &[KeptFile]) -> Result<(), Fail> {
     Ok(())
 }
 
+/// Runs with these words over these files where the system tells this of names: a file is named twice.
+fn expect_twice<T: AllocGlobal + Threads + Wait + Sync>(
+    rt: &T,
+    more: &[&str],
+    kept: &[KeptFile],
+    nodes: &[(&str, Metadata)],
+    links: &[(&str, &str)],
+) -> Result<(), Fail> {
+    let words = run_with(rt.alloc(), more)?;
+    let fake = Fake::new(rt, &words, b"")
+        .with_files(&[], kept)
+        .with_names(nodes, links);
+    expect_program(fake, ExitCode::from(2), b"", TWICE)
+}
+
 #[test]
 fn writes_no_register_over_a_file(rt: HostRuntime) -> Result<(), Fail> {
-    let alloc = rt.alloc();
-    let kept = older(alloc)?;
+    let kept = all_keeping(rt.alloc(), &OLDER, b"older")?;
     let cases: [&[&str]; 10] = [
         &["--to", "a", "a", "b"],
         &["--to", "b", "a", "b"],
@@ -48,8 +68,7 @@ fn writes_no_register_over_a_file(rt: HostRuntime) -> Result<(), Fail> {
         &["a", "b", "a.ack.new"],
     ];
     for more in cases {
-        let words = run_with(alloc, more)?;
-        expect(&rt, &words, &[], &kept, ExitCode::from(2), "", TWICE)?;
+        expect_twice(&rt, more, &kept, &[], &[])?;
     }
     expect_untouched(&kept)
 }
@@ -59,11 +78,37 @@ fn two_nodes<T: Files>(rt: &T) -> Result<(Metadata, Metadata), Fail> {
     Ok((fs::metadata(rt, "/")?, fs::metadata(rt, "/dev/null")?))
 }
 
+/// These names, each with what the system tells of it.
+fn nodes_of<'a>(
+    alloc: Global,
+    names: &[(&'a str, &Metadata)],
+) -> Result<Vec<(&'a str, Metadata)>, Fail> {
+    let mut nodes = Vec::new(alloc);
+    for &(name, node) in names {
+        nodes.push((name, node.clone()?))?;
+    }
+    Ok(nodes)
+}
+
+/// Runs with these words over these files where the system tells that two names are one file, and another name is not.
+fn expect_one_file<T: AllocGlobal + Threads + Wait + Sync>(
+    rt: &T,
+    more: &[&str],
+    kept: &[KeptFile],
+    (one, other): (&Metadata, &Metadata),
+    names: [&str; 2],
+    links: &[(&str, &str)],
+) -> Result<(), Fail> {
+    let [name, same] = names;
+    let names = [("unrelated", other), (name, one), (same, one)];
+    let nodes = nodes_of(rt.alloc(), &names)?;
+    expect_twice(rt, more, kept, &nodes, links)
+}
+
 /// Each run names a file that is there twice, as the system tells.
 #[test]
 fn knows_a_file_by_another_name(rt: HostRuntime) -> Result<(), Fail> {
-    let alloc = rt.alloc();
-    let kept = older(alloc)?;
+    let kept = all_keeping(rt.alloc(), &OLDER, b"older")?;
     let (one, other) = two_nodes(&rt)?;
     let cases: [(&[&str], [&str; 2]); 8] = [
         (&["a", "in/b"], ["a", "in/b"]),
@@ -75,28 +120,23 @@ fn knows_a_file_by_another_name(rt: HostRuntime) -> Result<(), Fail> {
         (&["--to", "book", "a"], ["a.ack", "book"]),
         (&["--from", "book", "a"], ["a.ack", "book"]),
     ];
-    for (more, [name, same]) in cases {
-        let nodes = [
-            ("unrelated", other.clone()?),
-            (name, one.clone()?),
-            (same, one.clone()?),
-        ];
-        let words = run_with(alloc, more)?;
-        let fake = Fake::new(&rt, &words, b"")
-            .with_files(&[], &kept)
-            .with_names(&nodes, &[]);
-        expect_program(fake, ExitCode::from(2), b"", TWICE)?;
+    for (more, names) in cases {
+        expect_one_file(&rt, more, &kept, (&one, &other), names, &[])?;
     }
     expect_untouched(&kept)
+}
+
+/// A directory by two names.
+fn here_twice<'a, T: AllocGlobal + Files>(rt: &T) -> Result<Vec<(&'a str, Metadata)>, Fail> {
+    let (here, _) = two_nodes(rt)?;
+    nodes_of(rt.alloc(), &[(".", &here), ("../here", &here)])
 }
 
 /// Each run would make one file twice, as the system tells of its directory.
 #[test]
 fn knows_a_file_that_is_not_there_yet(rt: HostRuntime) -> Result<(), Fail> {
-    let alloc = rt.alloc();
-    let kept = older(alloc)?;
-    let (here, _) = two_nodes(&rt)?;
-    let nodes = [(".", here.clone()?), ("../here", here)];
+    let kept = all_keeping(rt.alloc(), &OLDER, b"older")?;
+    let nodes = here_twice(&rt)?;
     let links = [("book", "next"), ("next", "a.ack")];
     let cases: [&[&str]; 4] = [
         &["--to", "./a.ack", "a"],
@@ -105,11 +145,7 @@ fn knows_a_file_that_is_not_there_yet(rt: HostRuntime) -> Result<(), Fail> {
         &["--to", "book", "a"],
     ];
     for more in cases {
-        let words = run_with(alloc, more)?;
-        let fake = Fake::new(&rt, &words, b"")
-            .with_files(&[], &kept)
-            .with_names(&nodes, &links);
-        expect_program(fake, ExitCode::from(2), b"", TWICE)?;
+        expect_twice(&rt, more, &kept, &nodes, &links)?;
     }
     expect_untouched(&kept)
 }
@@ -117,8 +153,7 @@ fn knows_a_file_that_is_not_there_yet(rt: HostRuntime) -> Result<(), Fail> {
 /// Each run would write a draft or a lock over what it reads or writes, as the system tells of names and of links.
 #[test]
 fn knows_the_place_of_a_draft_and_of_a_lock(rt: HostRuntime) -> Result<(), Fail> {
-    let alloc = rt.alloc();
-    let kept = older(alloc)?;
+    let kept = all_keeping(rt.alloc(), &OLDER, b"older")?;
     let (here, other) = two_nodes(&rt)?;
     let links = [("linked", "book")];
     let cases: [(&[&str], &str); 9] = [
@@ -133,60 +168,65 @@ fn knows_the_place_of_a_draft_and_of_a_lock(rt: HostRuntime) -> Result<(), Fail>
         (&["--to", "book", "a"], "book.lock"),
     ];
     for (more, name) in cases {
-        let nodes = [
-            ("unrelated", other.clone()?),
-            ("a", here.clone()?),
-            (name, here.clone()?),
-        ];
-        let words = run_with(alloc, more)?;
-        let fake = Fake::new(&rt, &words, b"")
-            .with_files(&[], &kept)
-            .with_names(&nodes, &links);
-        expect_program(fake, ExitCode::from(2), b"", TWICE)?;
+        expect_one_file(&rt, more, &kept, (&here, &other), ["a", name], &links)?;
     }
     expect_untouched(&kept)
+}
+
+/// Runs with these words over these files where the system tells this of names: the file `a` is acknowledged.
+fn expect_acknowledged<T: AllocGlobal + Threads + Wait + Sync>(
+    rt: &T,
+    more: &[&str],
+    files: &[(&str, FakeFile)],
+    kept: &[KeptFile],
+    nodes: &[(&str, Metadata)],
+) -> Result<(), Fail> {
+    let words = run_with(rt.alloc(), more)?;
+    let fake = Fake::new(rt, &words, b"")
+        .with_files(files, kept)
+        .with_names(nodes, &[]);
+    expect_program(fake, ExitCode::SUCCESS, b"a: acknowledged 1\n", "")
+}
+
+/// An acknowledgement that is one with its draft.
+fn own_draft<'a, T: AllocGlobal + Files>(rt: &T) -> Result<Vec<(&'a str, Metadata)>, Fail> {
+    let (_, node) = two_nodes(rt)?;
+    nodes_of(rt.alloc(), &[("a.ack", &node), ("a.ack.new", &node)])
 }
 
 /// A draft may be one with the file that it replaces: it is made anew.
 #[test]
 fn lets_a_draft_be_its_own_file(rt: HostRuntime) -> Result<(), Fail> {
-    let alloc = rt.alloc();
-    let input = plain_file(alloc)?;
-    let (_, node) = two_nodes(&rt)?;
+    let input = plain_file(rt.alloc())?;
+    let kept = all_keeping(rt.alloc(), &["a.ack"], b"older")?;
+    let nodes = own_draft(&rt)?;
     let files = [("a", FakeFile::Holds(&input))];
-    let kept = [keeping(alloc, "a.ack", b"older", 1000)?];
-    let nodes = [("a.ack", node.clone()?), ("a.ack.new", node)];
-    let words = run_with(alloc, &["a"])?;
-    let fake = Fake::new(&rt, &words, b"")
-        .with_files(&files, &kept)
-        .with_names(&nodes, &[]);
-    expect_program(fake, ExitCode::SUCCESS, b"a: acknowledged 1\n", "")
+    expect_acknowledged(&rt, &["a"], &files, &kept, &nodes)
+}
+
+/// Two directories, and files of which none is another that is written.
+fn other_files<'a, T: AllocGlobal + Files>(rt: &T) -> Result<Vec<(&'a str, Metadata)>, Fail> {
+    let (one, other) = two_nodes(rt)?;
+    let names = [
+        (".", &one),
+        ("out", &other),
+        ("a", &one),
+        ("before", &other),
+        ("out/a.ack", &other),
+    ];
+    nodes_of(rt.alloc(), &names)
 }
 
 /// Files of other names, other directories and other numbers are not one, and `--from` and `--to` may be.
 #[test]
 fn lets_other_files_be(rt: HostRuntime) -> Result<(), Fail> {
-    let alloc = rt.alloc();
-    let input = plain_file(alloc)?;
-    let (one, other) = two_nodes(&rt)?;
+    let input = plain_file(rt.alloc())?;
+    let kept = all_keeping(rt.alloc(), &["a.ack", "out/a.ack"], b"")?;
+    let nodes = other_files(&rt)?;
     let files = [
         ("a", FakeFile::Holds(&input)),
         ("before", FakeFile::Holds(b"REG00000000\n")),
     ];
-    let kept = [
-        keeping(alloc, "a.ack", b"", 1000)?,
-        keeping(alloc, "out/a.ack", b"", 1000)?,
-    ];
-    let nodes = [
-        (".", one.clone()?),
-        ("out", other.clone()?),
-        ("a", one.clone()?),
-        ("before", other.clone()?),
-        ("out/a.ack", other),
-    ];
-    let words = run_with(alloc, &["--from", "before", "--to", "out/a.ack", "a"])?;
-    let fake = Fake::new(&rt, &words, b"")
-        .with_files(&files, &kept)
-        .with_names(&nodes, &[]);
-    expect_program(fake, ExitCode::SUCCESS, b"a: acknowledged 1\n", "")
+    let words = ["--from", "before", "--to", "out/a.ack", "a"];
+    expect_acknowledged(&rt, &words, &files, &kept, &nodes)
 }

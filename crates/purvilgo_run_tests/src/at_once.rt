@@ -1,5 +1,6 @@
 //! Files that are worked at once, each on a thread of its own.
 
+use crate::files::numbered;
 use cwr_sheets::{miscounted, same, same_text};
 use program_runs::{Fake, FakeFile, Meeting, run_with};
 use purvilgo_command::run_program;
@@ -17,32 +18,53 @@ fn expect_met<T: AllocGlobal + Threads + Wait + Sync>(
     all: u64,
     met: u64,
 ) -> Result<(), Fail> {
+    let wanted = all_refused(rt.alloc(), files)?;
     let fake = Fake::new(rt, words, b"").with_files(files, &[]);
     let meeting = Meeting::new(fake, all);
     let status = run_program(&meeting);
     let (found, fake) = meeting.into_fake();
     let (printed, complained) = fake.into_texts();
-    let ended = (found, status);
+    expect_ended((found, status), met, &complained, &printed, &wanted)
+}
+
+/// What is told of files, of which each is refused.
+fn all_refused(alloc: Global, files: &[(&str, FakeFile)]) -> Result<Vec<u8>, Fail> {
+    let mut told = Vec::new(alloc);
+    for (name, _) in files {
+        tell_refused(&mut told, name)?;
+    }
+    Ok(told)
+}
+
+fn tell_refused(told: &mut Vec<u8>, name: &str) -> Result<(), Fail> {
+    told.extend_from_slice(name.as_bytes())?;
+    told.extend_from_slice(b": refused F9 at line 5\n")?;
+    Ok(())
+}
+
+/// A run must have failed with so many workers that met all others, complained of nothing and printed this.
+fn expect_ended(
+    ended: (u64, ExitCode),
+    met: u64,
+    complained: &str,
+    printed: &[u8],
+    wanted: &[u8],
+) -> Result<(), Fail> {
     same(
         "workers that met, and the status",
         &ended,
         &(met, ExitCode::FAILURE),
     )?;
-    let mut wanted = Vec::new(rt.alloc());
-    for (name, _) in files {
-        wanted.extend_from_slice(name.as_bytes())?;
-        wanted.extend_from_slice(b": refused F9 at line 5\n")?;
-    }
-    same_text("what was complained of", &complained, "")?;
-    same("what was printed", &printed.as_slice(), &wanted.as_slice())
+    same_text("what was complained of", complained, "")?;
+    same("what was printed", &printed, &wanted)
 }
 
 #[test]
 fn works_three_files_at_once(rt: HostRuntime) -> Result<(), Fail> {
     let input = miscounted(rt.alloc())?;
+    let words = run_with(rt.alloc(), &["a", "b", "c"])?;
     let held = FakeFile::Holds(&input);
     let files = [("a", held), ("b", held), ("c", held)];
-    let words = run_with(rt.alloc(), &["a", "b", "c"])?;
     expect_met(&rt, &words, &files, 3, 3)
 }
 
@@ -50,9 +72,9 @@ fn works_three_files_at_once(rt: HostRuntime) -> Result<(), Fail> {
 #[test]
 fn works_two_files_in_turn(rt: HostRuntime) -> Result<(), Fail> {
     let input = miscounted(rt.alloc())?;
+    let words = run_with(rt.alloc(), &["--in-turn", "a", "b"])?;
     let held = FakeFile::Holds(&input);
     let files = [("a", held), ("b", held)];
-    let words = run_with(rt.alloc(), &["--in-turn", "a", "b"])?;
     expect_met(&rt, &words, &files, 2, 1)
 }
 
@@ -69,19 +91,29 @@ fn all_holding<'a>(
     Ok(files)
 }
 
+/// The words of a run of these files.
+fn run_of<'a>(alloc: Global, names: &'a [String]) -> Result<Vec<&'a str>, Fail> {
+    let mut more = Vec::new(alloc);
+    for name in names {
+        more.push(name.as_str())?;
+    }
+    run_with(alloc, &more)
+}
+
+/// Runs 63 files of these names and this text: all of their workers must meet.
+fn expect_63_met<T: AllocGlobal + Threads + Wait + Sync>(
+    rt: &T,
+    names: &[String],
+    input: &[u8],
+) -> Result<(), Fail> {
+    let words = run_of(rt.alloc(), names)?;
+    let files = all_holding(rt.alloc(), names, input)?;
+    expect_met(rt, &words, &files, 63, 63)
+}
+
 #[test]
 fn works_63_files_at_once(rt: HostRuntime) -> Result<(), Fail> {
-    let alloc = rt.alloc();
-    let input = miscounted(alloc)?;
-    let mut names = Vec::new(alloc);
-    for number in 1..64 {
-        names.push(format!(in alloc; "{number}.v22")?)?;
-    }
-    let files = all_holding(alloc, &names, &input)?;
-    let mut more = Vec::new(alloc);
-    for (name, _) in &files {
-        more.push(*name)?;
-    }
-    let words = run_with(alloc, &more)?;
-    expect_met(&rt, &words, &files, 63, 63)
+    let input = miscounted(rt.alloc())?;
+    let names = numbered(rt.alloc(), 64)?;
+    expect_63_met(&rt, &names, &input)
 }

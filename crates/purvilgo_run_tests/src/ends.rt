@@ -1,8 +1,9 @@
 //! Which of several files fails, and what becomes of the others.
 
+use crate::files::kept_files;
 use cwr_sheets::{OTHER_SENDER, SENDER, acknowledgement, decision, miscounted, one_work, same};
 use program_runs::{
-    FakeFile, Given, Kept, Step, Text, expect, expect_held, expect_play, keeping, run_with,
+    FakeFile, Given, Kept, KeptFile, Step, Text, expect, expect_held, expect_play, run_with,
 };
 use std::alloc::Global;
 use std::process::ExitCode;
@@ -12,66 +13,107 @@ use std::thread::Threads;
 
 const NAMES: [&str; 3] = ["first.v22", "in/middle", "last"];
 
+/// The acknowledgements of the files of these names, which are empty so far.
+const EMPTY: [(&str, &[u8], usize); 3] = [
+    ("first.v22.ack", b"", 1000),
+    ("in/middle.ack", b"", 1000),
+    ("last.ack", b"", 1000),
+];
+
 /// Files of one work each, of three submitters.
-fn three_files(alloc: Global) -> Result<[Vec<u8>; 3], Fail> {
+fn three_files(alloc: Global) -> Result<Vec<Vec<u8>>, Fail> {
     let shares = ["05000", "05000"];
-    Ok([
-        one_work(alloc, SENDER, "NWR", "W1", "", shares)?,
-        one_work(alloc, OTHER_SENDER, "NWR", "W1", "", shares)?,
-        one_work(alloc, "000000789", "NWR", "W1", "", shares)?,
-    ])
+    let mut files = Vec::new(alloc);
+    for sender in [SENDER, OTHER_SENDER, "000000789"] {
+        files.push(one_work(alloc, sender, "NWR", "W1", "", shares)?)?;
+    }
+    Ok(files)
 }
 
-/// The acknowledgement of one new work, which has this number.
-fn answer(alloc: Global, work: &str) -> Result<Vec<u8>, Fail> {
-    acknowledgement(alloc, &[decision(0, "NWR", "W1", work, "AS", &[])])
+/// The three files, of which the one at this place, if any, is another.
+fn all_but<'a>(
+    alloc: Global,
+    files: &'a [Vec<u8>],
+    wrong: &'a [u8],
+    place: usize,
+) -> Result<Vec<(&'a str, FakeFile<'a>)>, Fail> {
+    let mut held = Vec::new(alloc);
+    for (index, (name, file)) in NAMES.iter().zip(files).enumerate() {
+        let bytes: &[u8] = if index == place { wrong } else { file };
+        held.push((*name, FakeFile::Holds(bytes)))?;
+    }
+    Ok(held)
 }
 
-/// Runs the three files in turn, of which the one at this place, if any, is not well-formed: that one is told, and each
-/// other is acknowledged in the file of its name and `.ack`.
-fn expect_all_but<T: AllocGlobal + Threads + Wait + Sync>(
+/// What is told of the three files, of which the one at this place, if any, is refused.
+fn told_of_all_but(alloc: Global, place: usize) -> Result<String, Fail> {
+    let mut told = String::new(alloc);
+    for (index, name) in NAMES.iter().enumerate() {
+        tell(&mut told, name, index == place)?;
+    }
+    Ok(told)
+}
+
+fn tell(told: &mut String, name: &str, is_wrong: bool) -> Result<(), Fail> {
+    told.push_str(name)?;
+    told.push_str(if is_wrong {
+        ": refused F9 at line 5\n"
+    } else {
+        ": acknowledged 1\n"
+    })?;
+    Ok(())
+}
+
+/// Runs these files in turn, of which the one at this place, if any, must be refused.
+fn run_all_but<T: AllocGlobal + Threads + Wait + Sync>(
     rt: &T,
-    files: &[Vec<u8>; 3],
-    wrong: &[u8],
+    held: &[(&str, FakeFile)],
+    kept: &[KeptFile],
     place: usize,
 ) -> Result<(), Fail> {
-    let alloc = rt.alloc();
-    let kept = [
-        keeping(alloc, "first.v22.ack", b"", 1000)?,
-        keeping(alloc, "in/middle.ack", b"", 1000)?,
-        keeping(alloc, "last.ack", b"", 1000)?,
-    ];
-    let mut held = Vec::new(alloc);
-    let mut told = String::new(alloc);
-    for (index, (name, file)) in NAMES.iter().zip(files).enumerate() {
-        let is_wrong = index == place;
-        let bytes: &[u8] = if is_wrong { wrong } else { file };
-        held.push((*name, FakeFile::Holds(bytes)))?;
-        told.push_str(name)?;
-        told.push_str(if is_wrong {
-            ": refused F9 at line 5\n"
-        } else {
-            ": acknowledged 1\n"
-        })?;
-    }
     let status = if place < 3 {
         ExitCode::FAILURE
     } else {
         ExitCode::SUCCESS
     };
-    let words = run_with(alloc, &["--in-turn", "first.v22", "in/middle", "last"])?;
-    expect(rt, &words, &held, &kept, status, &told, "")?;
+    let told = told_of_all_but(rt.alloc(), place)?;
+    let words = run_with(rt.alloc(), &["--in-turn", "first.v22", "in/middle", "last"])?;
+    expect(rt, &words, held, kept, status, &told, "")
+}
+
+/// A file must hold the acknowledgement of one new work, which has this number.
+fn expect_answer(alloc: Global, file: &KeptFile, work: u32) -> Result<(), Fail> {
+    let work = format!(in alloc; "{work:08}")?;
+    let wanted = acknowledgement(alloc, &[decision(0, "NWR", "W1", &work, "AS", &[])])?;
+    expect_held(file, &wanted)
+}
+
+/// The file at this place, if any, must be empty, and each other must hold the acknowledgement of the next work.
+fn expect_answers(alloc: Global, kept: &[KeptFile], place: usize) -> Result<(), Fail> {
     let mut works: u32 = 0;
     for (index, file) in kept.iter().enumerate() {
         if index == place {
             expect_held(file, b"")?;
         } else {
             works = works.saturating_add(1);
-            let work = format!(in alloc; "{works:08}")?;
-            expect_held(file, &answer(alloc, &work)?)?;
+            expect_answer(alloc, file, works)?;
         }
     }
     same("works", &works, &(if place < 3 { 2 } else { 3 }))
+}
+
+/// Runs the three files in turn, of which the one at this place, if any, is not well-formed: that one is told, and each
+/// other is acknowledged in the file of its name and `.ack`.
+fn expect_all_but<T: AllocGlobal + Threads + Wait + Sync>(
+    rt: &T,
+    files: &[Vec<u8>],
+    wrong: &[u8],
+    place: usize,
+) -> Result<(), Fail> {
+    let held = all_but(rt.alloc(), files, wrong, place)?;
+    let kept = kept_files(rt.alloc(), &EMPTY)?;
+    run_all_but(rt, &held, &kept, place)?;
+    expect_answers(rt.alloc(), &kept, place)
 }
 
 #[test]

@@ -1,8 +1,10 @@
 //! Registers and acknowledgements that are replaced whole: what is there when a call of the system is refused.
 
+use crate::files::file_named;
 use cwr_sheets::{one_answer, plain_file, same, same_text};
 use program_runs::{
-    Calls, Disk, Fake, FakeFile, KeptFile, expect_held, expect_program, keeping, register, run_with,
+    Calls, Disk, Fake, FakeFile, KeptFile, Text, expect_held, expect_program, keeping, register,
+    run_with,
 };
 use std::alloc::Global;
 use std::fs;
@@ -126,6 +128,22 @@ const AFTER_360: Left = (
 
 const NOT_IN_PLACE: Left = (ACKNOWLEDGED, "a.ack: not in place\n", None, true, true);
 
+/// A file of this name that holds this text so far, and takes at most 1,000 bytes and 200 in one write.
+fn in_pieces<'a>(alloc: Global, name: &'a str, text: &[u8]) -> Result<KeptFile<'a>, Fail> {
+    let mut file = keeping(alloc, name, text, 1000)?;
+    file.piece = 200;
+    Ok(file)
+}
+
+/// The files of a disk.
+fn all_in_pieces<'a>(alloc: Global, files: &[(&'a str, &[u8])]) -> Result<Vec<KeptFile<'a>>, Fail> {
+    let mut kept = Vec::new(alloc);
+    for (name, text) in files {
+        kept.push(in_pieces(alloc, name, text)?)?;
+    }
+    Ok(kept)
+}
+
 /// A disk with these files, of which one call is refused, and each that does something.
 fn disk<'a>(
     alloc: Global,
@@ -133,14 +151,9 @@ fn disk<'a>(
     refused: usize,
     always: &'static str,
 ) -> Result<Disk<'a>, Fail> {
-    let mut kept = Vec::new(alloc);
-    for (name, text) in files {
-        let mut file = keeping(alloc, name, text, 1000)?;
-        file.piece = 200;
-        kept.push(file)?;
-    }
+    let files = all_in_pieces(alloc, files)?;
     Ok(Disk {
-        files: kept,
+        files,
         calls: Calls::refusing(alloc, refused, always),
         nodes: Vec::new(alloc),
         links: &[("linked", "book")],
@@ -158,9 +171,15 @@ fn older<'a>(alloc: Global, refused: usize, always: &'static str) -> Result<Disk
 /// The same, where the system tells of both that they are regular files.
 fn told<'a>(alloc: Global, refused: usize, always: &'static str) -> Result<Disk<'a>, Fail> {
     let mut disk = older(alloc, refused, always)?;
-    disk.nodes.push(("a.ack", Metadata::of_file(24)))?;
-    disk.nodes.push(("book", Metadata::of_file(186)))?;
+    tell_of_files(&mut disk.nodes)?;
     Ok(disk)
+}
+
+/// Adds that the acknowledgement and the register are regular files.
+fn tell_of_files<'a>(nodes: &mut Vec<(&'a str, Metadata)>) -> Result<(), Fail> {
+    nodes.push(("a.ack", Metadata::of_file(24)))?;
+    nodes.push(("book", Metadata::of_file(186)))?;
+    Ok(())
 }
 
 /// Runs the program over a disk: its status, standard output and standard error must be these.
@@ -176,14 +195,17 @@ fn expect_on<T: AllocGlobal + Threads + Wait + Sync>(
     expect_program(fake, status, printed.as_bytes(), complained)
 }
 
-/// A file of a disk.
-fn file_of<'a, 'd>(disk: &'d Disk<'a>, name: &str) -> Result<&'d KeptFile<'a>, Fail> {
-    for file in &disk.files {
-        if file.name == name {
-            return Ok(file);
-        }
-    }
-    Err("a file of this name".into())
+/// Runs the file `a` with these words over a disk: its status, standard output and standard error must be these.
+fn run_over<T: AllocGlobal + Threads + Wait + Sync>(
+    rt: &T,
+    more: &[&str],
+    disk: &Disk,
+    ended: (ExitCode, &str, &str),
+) -> Result<(), Fail> {
+    let words = run_with(rt.alloc(), more)?;
+    let input = plain_file(rt.alloc())?;
+    let files = [("a", FakeFile::Holds(&input))];
+    expect_on(rt, &words, &files, disk, ended)
 }
 
 /// Runs the file `a` from `book` to `book` over a disk.
@@ -194,117 +216,173 @@ fn run_into_itself<T: AllocGlobal + Threads + Wait + Sync>(
     printed: &str,
     complained: &str,
 ) -> Result<(), Fail> {
-    let alloc = rt.alloc();
-    let input = plain_file(alloc)?;
-    let files = [("a", FakeFile::Holds(&input))];
-    let words = run_with(alloc, &["--from", "book", "--to", "book", "a"])?;
-    expect_on(rt, &words, &files, disk, (status, printed, complained))
+    let words = ["--from", "book", "--to", "book", "a"];
+    run_over(rt, &words, disk, (status, printed, complained))
+}
+
+/// The calls that change files must have been these, a line each, in their order.
+fn expect_made(disk: &Disk, wanted: &str) -> Result<(), Fail> {
+    let made = disk.calls.made()?;
+    same_text("the calls", &made, wanted)
+}
+
+/// A file of a disk must hold this text.
+fn expect_text(alloc: Global, disk: &Disk, name: &str, text: Text) -> Result<(), Fail> {
+    let file = file_named(&disk.files, name)?;
+    let wanted = text.bytes(alloc)?;
+    expect_held(file, &wanted)
+}
+
+/// A file of a disk must have a draft or none.
+fn expect_draft(disk: &Disk, name: &str, what: &str, waits: bool) -> Result<(), Fail> {
+    let file = file_named(&disk.files, name)?;
+    same(what, &file.has_draft(), &waits)
+}
+
+/// So many bytes of the new acknowledgement must be in place, or else the older one.
+fn expect_placed(alloc: Global, disk: &Disk, placed: Option<usize>) -> Result<(), Fail> {
+    let ack = file_named(&disk.files, "a.ack")?;
+    match placed {
+        Some(bytes) => {
+            let answer = one_answer(alloc, "DU")?;
+            expect_held(ack, answer.get(..bytes).ok_or("so many bytes")?)
+        }
+        None => expect_held(ack, OLDER),
+    }
 }
 
 /// The acknowledgement and the register must be those that are to be left.
 fn expect_left(alloc: Global, disk: &Disk, left: &Left) -> Result<(), Fail> {
     let (_, _, placed, waits, is_new) = left;
-    let ack = file_of(disk, "a.ack")?;
-    let book = file_of(disk, "book")?;
-    let answer = one_answer(alloc, "DU")?;
-    match placed {
-        Some(bytes) => expect_held(ack, answer.get(..*bytes).ok_or("so many bytes")?)?,
-        None => expect_held(ack, OLDER)?,
-    }
+    expect_placed(alloc, disk, *placed)?;
     let entries = if *is_new { 2 } else { 1 };
-    expect_held(book, register(alloc, entries)?.as_bytes())?;
-    same("a draft of the acknowledgement", &ack.has_draft(), waits)?;
-    same("a draft of the register", &book.has_draft(), &false)
+    expect_text(alloc, disk, "book", Text::Register(entries))?;
+    expect_draft(disk, "a.ack", "a draft of the acknowledgement", *waits)?;
+    expect_draft(disk, "book", "a draft of the register", false)
+}
+
+/// The acknowledgement and the register must be those that were there before.
+fn expect_older(alloc: Global, disk: &Disk) -> Result<(), Fail> {
+    expect_text(alloc, disk, "a.ack", Text::Bytes(OLDER))?;
+    expect_text(alloc, disk, "book", Text::Register(1))
+}
+
+/// Runs over a disk that refuses nothing: both files are replaced.
+fn expect_replaced<T: AllocGlobal + Threads + Wait + Sync>(
+    rt: &T,
+    disk: &Disk,
+) -> Result<(), Fail> {
+    run_into_itself(rt, disk, ExitCode::SUCCESS, ACKNOWLEDGED, "")?;
+    expect_left(rt.alloc(), disk, &("", "", Some(425), false, true))
+}
+
+/// The calls of the table, a line each.
+fn all_calls(alloc: Global) -> Result<String, Fail> {
+    let mut calls = String::new(alloc);
+    for (call, _) in &REFUSALS {
+        calls.push_str(call)?;
+        calls.push_str("\n")?;
+    }
+    Ok(calls)
 }
 
 #[test]
 fn writes_in_this_order(rt: HostRuntime) -> Result<(), Fail> {
-    let alloc = rt.alloc();
-    let disk = told(alloc, 0, "")?;
-    run_into_itself(&rt, &disk, ExitCode::SUCCESS, ACKNOWLEDGED, "")?;
-    let mut wanted = String::new(alloc);
-    for (call, _) in REFUSALS {
-        wanted.push_str(call)?;
-        wanted.push_str("\n")?;
-    }
-    same_text("the calls", disk.calls.made()?.as_str(), wanted.as_str())?;
-    expect_left(alloc, &disk, &("", "", Some(425), false, true))
+    let wanted = all_calls(rt.alloc())?;
+    let disk = told(rt.alloc(), 0, "")?;
+    expect_replaced(&rt, &disk)?;
+    expect_made(&disk, &wanted)
+}
+
+/// Runs over a disk whose call of this number is refused: this is what must be left.
+fn expect_refused<T: AllocGlobal + Threads + Wait + Sync>(
+    rt: &T,
+    number: usize,
+    left: &Left,
+) -> Result<(), Fail> {
+    let disk = told(rt.alloc(), number, "")?;
+    let (printed, complained, _, _, _) = left;
+    run_into_itself(rt, &disk, ExitCode::FAILURE, printed, complained)?;
+    expect_left(rt.alloc(), &disk, left)
 }
 
 #[test]
 fn leaves_the_old_or_the_new_at_each_refusal(rt: HostRuntime) -> Result<(), Fail> {
-    let alloc = rt.alloc();
     for (index, (_, left)) in REFUSALS.iter().enumerate() {
-        let disk = told(alloc, index.saturating_add(1), "")?;
-        let (printed, complained, _, _, _) = left;
-        run_into_itself(&rt, &disk, ExitCode::FAILURE, printed, complained)?;
-        expect_left(alloc, &disk, left)?;
+        expect_refused(&rt, index.saturating_add(1), left)?;
     }
     Ok(())
+}
+
+/// Runs over a disk that stops the register in its draft and removes nothing: both files and both drafts are there.
+fn expect_drafts<T: AllocGlobal + Threads + Wait + Sync>(rt: &T, disk: &Disk) -> Result<(), Fail> {
+    let stopped = "register: stopped: write after 200 bytes\n";
+    run_into_itself(rt, disk, ExitCode::FAILURE, ACKNOWLEDGED, stopped)?;
+    expect_older(rt.alloc(), disk)?;
+    expect_draft(disk, "a.ack", "a draft", true)?;
+    expect_draft(disk, "book", "another", true)
 }
 
 /// What cannot be removed stays where the run failed, and nothing else is otherwise.
 #[test]
 fn leaves_drafts_that_it_cannot_remove(rt: HostRuntime) -> Result<(), Fail> {
-    let alloc = rt.alloc();
-    let disk = told(alloc, 12, "remove")?;
-    let stopped = "register: stopped: write after 200 bytes\n";
-    run_into_itself(&rt, &disk, ExitCode::FAILURE, ACKNOWLEDGED, stopped)?;
-    let ack = file_of(&disk, "a.ack")?;
-    let book = file_of(&disk, "book")?;
-    expect_held(ack, OLDER)?;
-    expect_held(book, register(alloc, 1)?.as_bytes())?;
-    same("a draft", &ack.has_draft(), &true)?;
-    same("another", &book.has_draft(), &true)
+    let disk = told(rt.alloc(), 12, "remove")?;
+    expect_drafts(&rt, &disk)
 }
 
-/// Puts a text of 900 bytes in the drafts of a disk, as a crash may leave it.
+/// Puts a text of 900 bytes in the draft of a file, as a crash may leave it.
+fn leave_draft(file: &KeptFile) -> Result<(), Fail> {
+    *file.drafted.try_lock().ok_or("a file that nobody holds")? = true;
+    let mut draft = file.draft.try_lock().ok_or("a file that nobody holds")?;
+    draft.extend_from_slice(&[b'X'; 900])?;
+    Ok(())
+}
+
+/// The same in the drafts of a disk.
 fn leave_drafts(disk: &Disk) -> Result<(), Fail> {
     for file in &disk.files {
-        *file.drafted.try_lock().ok_or("a file that nobody holds")? = true;
-        let mut draft = file.draft.try_lock().ok_or("a file that nobody holds")?;
-        draft.extend_from_slice(&[b'X'; 900])?;
+        leave_draft(file)?;
     }
     Ok(())
+}
+
+/// Runs over a disk with drafts that it cannot remove: both files are as they were.
+fn expect_stopped<T: AllocGlobal + Threads + Wait + Sync>(rt: &T, disk: &Disk) -> Result<(), Fail> {
+    leave_drafts(disk)?;
+    let told = "a: stopped after 1: write after 0 bytes\n";
+    let stopped = "register: stopped: write after 0 bytes\n";
+    run_into_itself(rt, disk, ExitCode::FAILURE, told, stopped)?;
+    expect_older(rt.alloc(), disk)
 }
 
 /// A draft that a crash left and that cannot be removed is not written over.
 #[test]
 fn writes_no_draft_that_it_cannot_make_anew(rt: HostRuntime) -> Result<(), Fail> {
-    let alloc = rt.alloc();
-    let disk = told(alloc, 0, "remove")?;
-    leave_drafts(&disk)?;
-    let told = "a: stopped after 1: write after 0 bytes\n";
-    let stopped = "register: stopped: write after 0 bytes\n";
-    run_into_itself(&rt, &disk, ExitCode::FAILURE, told, stopped)?;
-    expect_held(file_of(&disk, "a.ack")?, OLDER)?;
-    expect_held(file_of(&disk, "book")?, register(alloc, 1)?.as_bytes())
+    let disk = told(rt.alloc(), 0, "remove")?;
+    expect_stopped(&rt, &disk)
 }
 
 #[test]
 fn replaces_drafts_that_a_crash_left(rt: HostRuntime) -> Result<(), Fail> {
-    let alloc = rt.alloc();
-    let disk = told(alloc, 0, "")?;
+    let disk = told(rt.alloc(), 0, "")?;
     leave_drafts(&disk)?;
-    run_into_itself(&rt, &disk, ExitCode::SUCCESS, ACKNOWLEDGED, "")?;
-    expect_left(alloc, &disk, &("", "", Some(425), false, true))
+    expect_replaced(&rt, &disk)
 }
 
-/// Runs the file `a` with these words over a disk: the status, what is printed and each call that changes files, in their
-/// order, must be these.
+/// Runs the file `a` with these words over a disk: the status, what is printed, each call that changes files, in their
+/// order, and what a file holds then must be these.
 fn expect_calls<T: AllocGlobal + Threads + Wait + Sync>(
     rt: &T,
     more: &[&str],
     disk: &Disk,
     ended: (ExitCode, &str, &str),
-    wanted: &str,
+    made: &str,
+    held: (&str, Text),
 ) -> Result<(), Fail> {
-    let alloc = rt.alloc();
-    let input = plain_file(alloc)?;
-    let files = [("a", FakeFile::Holds(&input))];
-    let words = run_with(alloc, more)?;
-    expect_on(rt, &words, &files, disk, ended)?;
-    same_text("the calls", disk.calls.made()?.as_str(), wanted)
+    run_over(rt, more, disk, ended)?;
+    expect_made(disk, made)?;
+    let (name, text) = held;
+    expect_text(rt.alloc(), disk, name, text)
 }
 
 /// The register of `--from` is not there, and nothing is told of it.
@@ -313,20 +391,19 @@ fn leaves_a_register_that_is_in_use(rt: HostRuntime) -> Result<(), Fail> {
     let disk = older(rt.alloc(), 0, "")?;
     let words = ["--from", "absent", "--to", "taken", "a"];
     let used = (ExitCode::FAILURE, "", "register: in use\n");
-    expect_calls(&rt, &words, &disk, used, "lock taken.lock\n")?;
-    expect_held(file_of(&disk, "a.ack")?, OLDER)
+    let held = ("a.ack", Text::Bytes(OLDER));
+    expect_calls(&rt, &words, &disk, used, "lock taken.lock\n", held)
 }
 
 /// Nothing is locked where no register is left, and the acknowledgement takes its name once the worker has ended.
 #[test]
 fn puts_an_acknowledgement_in_place_without_a_register(rt: HostRuntime) -> Result<(), Fail> {
-    let alloc = rt.alloc();
-    let disk = older(alloc, 0, "")?;
+    let disk = older(rt.alloc(), 0, "")?;
     let done = (ExitCode::SUCCESS, ACKNOWLEDGED, "");
     let made =
         "create a.ack\nwrite a.ack\nwrite a.ack\nwrite a.ack\nsync a.ack\nrename a.ack\nsync .\n";
-    expect_calls(&rt, &["a"], &disk, done, made)?;
-    expect_held(file_of(&disk, "a.ack")?, &one_answer(alloc, "AS")?)
+    let held = ("a.ack", Text::Answer("AS"));
+    expect_calls(&rt, &["a"], &disk, done, made, held)
 }
 
 #[test]
@@ -334,22 +411,20 @@ fn tells_an_acknowledgement_that_is_not_in_place(rt: HostRuntime) -> Result<(), 
     let disk = older(rt.alloc(), 6, "")?;
     let refused = (ExitCode::FAILURE, ACKNOWLEDGED, "a.ack: not in place\n");
     let made = "create a.ack\nwrite a.ack\nwrite a.ack\nwrite a.ack\nsync a.ack\nrename a.ack\n";
-    expect_calls(&rt, &["a"], &disk, refused, made)?;
-    expect_held(file_of(&disk, "a.ack")?, OLDER)
+    let held = ("a.ack", Text::Bytes(OLDER));
+    expect_calls(&rt, &["a"], &disk, refused, made, held)
 }
 
 /// With `--no-clobber` an acknowledgement takes its name by a link, which replaces nothing.
 #[test]
 fn links_an_acknowledgement_that_replaces_none(rt: HostRuntime) -> Result<(), Fail> {
-    let alloc = rt.alloc();
-    let disk = disk(alloc, &[("a.ack", b"")], 0, "")?;
+    let disk = disk(rt.alloc(), &[("a.ack", b"")], 0, "")?;
     let done = (ExitCode::SUCCESS, ACKNOWLEDGED, "");
     let made =
         "create a.ack\nwrite a.ack\nwrite a.ack\nwrite a.ack\nsync a.ack\nlink a.ack\nremove a.ack\nsync .\n";
-    expect_calls(&rt, &["--no-clobber", "a"], &disk, done, made)?;
-    let ack = file_of(&disk, "a.ack")?;
-    expect_held(ack, &one_answer(alloc, "AS")?)?;
-    same("a draft", &ack.has_draft(), &false)
+    let held = ("a.ack", Text::Answer("AS"));
+    expect_calls(&rt, &["--no-clobber", "a"], &disk, done, made, held)?;
+    expect_draft(&disk, "a.ack", "a draft", false)
 }
 
 #[test]
@@ -357,35 +432,31 @@ fn keeps_the_draft_of_what_it_cannot_link(rt: HostRuntime) -> Result<(), Fail> {
     let disk = disk(rt.alloc(), &[("a.ack", b"")], 6, "")?;
     let refused = (ExitCode::FAILURE, ACKNOWLEDGED, "a.ack: not in place\n");
     let made = "create a.ack\nwrite a.ack\nwrite a.ack\nwrite a.ack\nsync a.ack\nlink a.ack\n";
-    expect_calls(&rt, &["--no-clobber", "a"], &disk, refused, made)?;
-    let ack = file_of(&disk, "a.ack")?;
-    expect_held(ack, b"")?;
-    same("a draft", &ack.has_draft(), &true)
+    let held = ("a.ack", Text::Bytes(b""));
+    expect_calls(&rt, &["--no-clobber", "a"], &disk, refused, made, held)?;
+    expect_draft(&disk, "a.ack", "a draft", true)
 }
 
 /// It has no draft and no lock.
 #[test]
 fn writes_a_register_that_is_a_device_itself(rt: HostRuntime) -> Result<(), Fail> {
-    let alloc = rt.alloc();
-    let mut disk = disk(alloc, &[("a.ack", OLDER), ("device", b"")], 0, "")?;
     let device = fs::metadata(&rt, "/dev/null")?;
+    let mut disk = disk(rt.alloc(), &[("a.ack", OLDER), ("device", b"")], 0, "")?;
     disk.nodes.push(("device", device))?;
     let done = (ExitCode::SUCCESS, ACKNOWLEDGED, "");
     let made =
         "create a.ack\nwrite a.ack\nwrite a.ack\nwrite a.ack\nopen device\nsync device\nsync a.ack\nrename a.ack\nsync .\n";
-    expect_calls(&rt, &["--to", "device", "a"], &disk, done, made)?;
-    let wanted = register(alloc, 1)?;
-    expect_held(file_of(&disk, "device")?, wanted.as_bytes())
+    let held = ("device", Text::Register(1));
+    expect_calls(&rt, &["--to", "device", "a"], &disk, done, made, held)
 }
 
 /// What is replaced is the register that the link leads to, and its lock and its draft lie beside that.
 #[test]
 fn follows_a_link_to_a_register(rt: HostRuntime) -> Result<(), Fail> {
-    let alloc = rt.alloc();
-    let disk = disk(alloc, &[("a.ack", OLDER), ("book", b"older")], 0, "")?;
+    let disk = disk(rt.alloc(), &[("a.ack", OLDER), ("book", b"older")], 0, "")?;
     let done = (ExitCode::SUCCESS, ACKNOWLEDGED, "");
     let made =
         "lock book.lock\ncreate a.ack\nwrite a.ack\nwrite a.ack\nwrite a.ack\ncreate book\nwrite book\nsync book\nrename book\nsync .\nsync a.ack\nrename a.ack\nsync .\n";
-    expect_calls(&rt, &["--to", "linked", "a"], &disk, done, made)?;
-    expect_held(file_of(&disk, "book")?, register(alloc, 1)?.as_bytes())
+    let held = ("book", Text::Register(1));
+    expect_calls(&rt, &["--to", "linked", "a"], &disk, done, made, held)
 }

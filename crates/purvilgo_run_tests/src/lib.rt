@@ -6,6 +6,8 @@ mod at_once;
 #[cfg(test)]
 mod ends;
 #[cfg(test)]
+mod files;
+#[cfg(test)]
 mod kept_registers;
 #[cfg(test)]
 mod kept_whole;

@@ -1,12 +1,15 @@
 //! The limits of each command: the greatest file that it takes, and a byte more.
 
+use crate::files::{file_named, kept_files};
 use cwr_desk::{MOST_BYTES, MOST_ENTRIES};
 use cwr_sheets::{SENDER, many_answers, many_checked, many_works, same};
-use program_runs::{Fake, FakeFile, expect, expect_held, expect_program, keeping, run_with};
+use program_runs::{Fake, FakeFile, KeptFile, expect, expect_held, expect_program, run_with};
 use purvilgo_command::MOST_REGISTER_BYTES;
 use std::alloc::Global;
 use std::process::ExitCode;
+use std::sync::Wait;
 use std::test::Fail;
+use std::thread::Threads;
 
 /// The most bytes of a file that is acknowledged or checked.
 const LIMIT: usize = 16_777_216;
@@ -20,14 +23,6 @@ fn filled(alloc: Global, size: usize) -> Result<Vec<u8>, Fail> {
     Ok(text)
 }
 
-/// The files `most` and `more`.
-fn two_files<'a>(most: &'a [u8], more: &'a [u8]) -> [(&'a str, FakeFile<'a>); 2] {
-    [
-        ("most", FakeFile::Holds(most)),
-        ("more", FakeFile::Holds(more)),
-    ]
-}
-
 #[test]
 fn has_limits() -> Result<(), Fail> {
     same("bytes of a file", &MOST_BYTES, &LIMIT)?;
@@ -35,31 +30,56 @@ fn has_limits() -> Result<(), Fail> {
     same("entries of a history", &MOST_ENTRIES, &99_999_999)
 }
 
-#[test]
-fn checks_16_777_216_bytes(rt: HostRuntime) -> Result<(), Fail> {
-    let alloc = rt.alloc();
-    let texts = [filled(alloc, LIMIT)?, filled(alloc, LIMIT + 1)?];
-    let [most, more] = &texts;
-    let files = two_files(most, more);
-    // Some of the works have no title.
-    let failed = ExitCode::FAILURE;
-    let wanted = many_checked(alloc, MANY)?;
-    let fake = Fake::new(&rt, &["purvilgo", "check", "most"], b"").with_files(&files, &[]);
-    expect_program(fake, failed, &wanted, "")?;
-    let fake = Fake::new(&rt, &["purvilgo", "check", "more"], b"").with_files(&files, &[]);
-    expect_program(fake, failed, b"", "stopped: too long\n")
+/// Checks the file of this name: it must fail, print this and complain of this.
+fn expect_check<T: AllocGlobal + Threads + Wait + Sync>(
+    rt: &T,
+    files: &[(&str, FakeFile)],
+    name: &str,
+    printed: &[u8],
+    complained: &str,
+) -> Result<(), Fail> {
+    let words = ["purvilgo", "check", name];
+    let fake = Fake::new(rt, &words, b"").with_files(files, &[]);
+    expect_program(fake, ExitCode::FAILURE, printed, complained)
+}
+
+/// Checks both files: of the greatest this is printed, and the other is too long.
+fn expect_checks<'a, T: AllocGlobal + Threads + Wait + Sync>(
+    rt: &T,
+    most: &'a [u8],
+    more: &'a [u8],
+    wanted: &[u8],
+) -> Result<(), Fail> {
+    let files = [
+        ("most", FakeFile::Holds(most)),
+        ("more", FakeFile::Holds(more)),
+    ];
+    expect_check(rt, &files, "most", wanted, "")?;
+    expect_check(rt, &files, "more", b"", "stopped: too long\n")
 }
 
 #[test]
-fn acknowledges_16_777_216_bytes_of_standard_input(rt: HostRuntime) -> Result<(), Fail> {
+fn checks_16_777_216_bytes(rt: HostRuntime) -> Result<(), Fail> {
     let alloc = rt.alloc();
-    let words = ["purvilgo"];
     let most = filled(alloc, LIMIT)?;
-    let wanted = many_answers(alloc, MANY, 0)?;
-    let fake = Fake::new(&rt, &words, &most);
-    expect_program(fake, ExitCode::SUCCESS, &wanted, "")?;
     let more = filled(alloc, LIMIT + 1)?;
-    let fake = Fake::new(&rt, &words, &more);
+    // Some of the works have no title.
+    let wanted = many_checked(alloc, MANY)?;
+    expect_checks(&rt, &most, &more, &wanted)
+}
+
+/// Acknowledges the greatest file of standard input.
+fn acknowledge_most<T: AllocGlobal + Threads + Wait + Sync>(rt: &T) -> Result<(), Fail> {
+    let most = filled(rt.alloc(), LIMIT)?;
+    let wanted = many_answers(rt.alloc(), MANY, 0)?;
+    let fake = Fake::new(rt, &["purvilgo"], &most);
+    expect_program(fake, ExitCode::SUCCESS, &wanted, "")
+}
+
+/// Stops at a file of a byte more.
+fn acknowledge_more<T: AllocGlobal + Threads + Wait + Sync>(rt: &T) -> Result<(), Fail> {
+    let more = filled(rt.alloc(), LIMIT + 1)?;
+    let fake = Fake::new(rt, &["purvilgo"], &more);
     expect_program(
         fake,
         ExitCode::FAILURE,
@@ -69,18 +89,51 @@ fn acknowledges_16_777_216_bytes_of_standard_input(rt: HostRuntime) -> Result<()
 }
 
 #[test]
-fn runs_16_777_216_bytes(rt: HostRuntime) -> Result<(), Fail> {
-    let alloc = rt.alloc();
-    let texts = [filled(alloc, LIMIT)?, filled(alloc, LIMIT + 1)?];
-    let [most, more] = &texts;
-    let files = two_files(most, more);
-    let kept = [
-        keeping(alloc, "most.ack", b"", LIMIT)?,
-        keeping(alloc, "more.ack", b"", LIMIT)?,
-    ];
-    let words = run_with(alloc, &["more", "most"])?;
+fn acknowledges_16_777_216_bytes_of_standard_input(rt: HostRuntime) -> Result<(), Fail> {
+    acknowledge_most(&rt)?;
+    acknowledge_more(&rt)
+}
+
+/// Runs both files: the greatest is acknowledged, and the other is not.
+fn run_both<T: AllocGlobal + Threads + Wait + Sync>(
+    rt: &T,
+    files: &[(&str, FakeFile)],
+    kept: &[KeptFile],
+) -> Result<(), Fail> {
+    let words = run_with(rt.alloc(), &["more", "most"])?;
     let told = "more: stopped after 0: too long\nmost: acknowledged 70000\n";
-    expect(&rt, &words, &files, &kept, ExitCode::FAILURE, told, "")?;
-    expect_held(&kept[0], &many_answers(alloc, MANY, 0)?)?;
-    expect_held(&kept[1], b"")
+    expect(rt, &words, files, kept, ExitCode::FAILURE, told, "")
+}
+
+/// The acknowledgement of the greatest file must be there, and none of the other.
+fn expect_most_alone(alloc: Global, kept: &[KeptFile]) -> Result<(), Fail> {
+    let wanted = many_answers(alloc, MANY, 0)?;
+    expect_held(file_named(kept, "most.ack")?, &wanted)?;
+    expect_held(file_named(kept, "more.ack")?, b"")
+}
+
+/// Runs these two files into empty ones.
+fn expect_limit<'a, T: AllocGlobal + Threads + Wait + Sync>(
+    rt: &T,
+    most: &'a [u8],
+    more: &'a [u8],
+) -> Result<(), Fail> {
+    let empty = [
+        ("most.ack", b"".as_slice(), LIMIT),
+        ("more.ack", b"", LIMIT),
+    ];
+    let kept = kept_files(rt.alloc(), &empty)?;
+    let files = [
+        ("most", FakeFile::Holds(most)),
+        ("more", FakeFile::Holds(more)),
+    ];
+    run_both(rt, &files, &kept)?;
+    expect_most_alone(rt.alloc(), &kept)
+}
+
+#[test]
+fn runs_16_777_216_bytes(rt: HostRuntime) -> Result<(), Fail> {
+    let most = filled(rt.alloc(), LIMIT)?;
+    let more = filled(rt.alloc(), LIMIT + 1)?;
+    expect_limit(&rt, &most, &more)
 }

@@ -1,9 +1,9 @@
 //! The program's runs, over a runtime of the tests' own.
 
+use crate::files::{file_named, kept_files, numbered};
 use cwr_sheets::{miscounted, one_answer, plain_file, rival_claims};
 use program_runs::{
-    FakeFile, Given, Kept, KeptFile, Step, Text, expect, expect_held, expect_play, keeping,
-    run_with,
+    FakeFile, Given, Kept, KeptFile, Step, Text, expect, expect_held, expect_play, run_with,
 };
 use std::alloc::Global;
 use std::process::ExitCode;
@@ -11,10 +11,10 @@ use std::sync::Wait;
 use std::test::Fail;
 use std::thread::Threads;
 
-/// What a file holds.
-fn text_in(alloc: Global, file: &KeptFile) -> Result<Vec<u8>, Fail> {
+/// Whether a file holds this text.
+fn holds(file: &KeptFile, text: &[u8]) -> Result<bool, Fail> {
     let held = file.bytes.try_lock().ok_or("a file that nobody holds")?;
-    Ok(Vec::from_slice(alloc, held.as_slice())?)
+    Ok(held.as_slice() == text)
 }
 
 /// The acknowledgement has 425 bytes, and all of them go out.
@@ -44,10 +44,30 @@ fn run_two<'a, T: AllocGlobal + Threads + Wait + Sync>(
     b: &'a [u8],
     kept: &[KeptFile],
 ) -> Result<(), Fail> {
-    let files = [("a", FakeFile::Holds(a)), ("b", FakeFile::Holds(b))];
     let words = run_with(rt.alloc(), &["b", "a"])?;
+    let files = [("a", FakeFile::Holds(a)), ("b", FakeFile::Holds(b))];
     let told = "b: acknowledged 1\na: acknowledged 1\n";
     expect(rt, &words, &files, kept, ExitCode::SUCCESS, told, "")
+}
+
+/// One of these files must hold the one text, and the other the other.
+fn expect_either(kept: &[KeptFile], accepted: &[u8], conflict: &[u8]) -> Result<(), Fail> {
+    let one = file_named(kept, "a.ack")?;
+    let other = file_named(kept, "b.ack")?;
+    let (wanted_one, wanted_other) = if holds(one, accepted)? {
+        (accepted, conflict)
+    } else {
+        (conflict, accepted)
+    };
+    expect_held(one, wanted_one)?;
+    expect_held(other, wanted_other)
+}
+
+/// One of these acknowledgements must accept, and the other tell of a conflict.
+fn expect_one_conflict(alloc: Global, kept: &[KeptFile]) -> Result<(), Fail> {
+    let accepted = one_answer(alloc, "AS")?;
+    let conflict = one_answer(alloc, "CO")?;
+    expect_either(kept, &accepted, &conflict)
 }
 
 #[test]
@@ -55,22 +75,10 @@ fn one_of_two_claims_conflicts(rt: HostRuntime) -> Result<(), Fail> {
     let alloc = rt.alloc();
     let claims = rival_claims(alloc)?;
     let [first, second] = &claims;
-    let kept = [
-        keeping(alloc, "a.ack", b"", 1000)?,
-        keeping(alloc, "b.ack", b"", 1000)?,
-    ];
+    let empty = [("a.ack", b"".as_slice(), 1000), ("b.ack", b"", 1000)];
+    let kept = kept_files(alloc, &empty)?;
     run_two(&rt, first, second, &kept)?;
-    let accepted = one_answer(alloc, "AS")?;
-    let conflict = one_answer(alloc, "CO")?;
-    let one = text_in(alloc, &kept[0])?;
-    let first_came = one.as_slice() == accepted.as_slice();
-    let (wanted_one, wanted_other) = if first_came {
-        (accepted, conflict)
-    } else {
-        (conflict, accepted)
-    };
-    expect_held(&kept[0], &wanted_one)?;
-    expect_held(&kept[1], &wanted_other)
+    expect_one_conflict(alloc, &kept)
 }
 
 /// Runs files of which all but the last fail, each in another way.
@@ -80,6 +88,10 @@ fn run_failing<'a, T: AllocGlobal + Threads + Wait + Sync>(
     wrong: &'a [u8],
     kept: &[KeptFile],
 ) -> Result<(), Fail> {
+    let words = run_with(
+        rt.alloc(),
+        &["absent", "refused", "closed", "cut", "endless", "whole"],
+    )?;
     let files = [
         ("refused", FakeFile::Holds(wrong)),
         ("closed", FakeFile::Holds(input)),
@@ -87,33 +99,43 @@ fn run_failing<'a, T: AllocGlobal + Threads + Wait + Sync>(
         ("endless", FakeFile::Endless),
         ("whole", FakeFile::Holds(input)),
     ];
-    let words = run_with(
-        rt.alloc(),
-        &["absent", "refused", "closed", "cut", "endless", "whole"],
-    )?;
     let told =
         "absent: stopped after 0: read\nrefused: refused F9 at line 5\nclosed: stopped after 1: write after 0 bytes\ncut: stopped after 1: write after 100 bytes\nendless: stopped after 0: too long\nwhole: acknowledged 1\n";
     expect(rt, &words, &files, kept, ExitCode::FAILURE, told, "")
 }
 
+/// What files that failed and the last one must hold, where this is its acknowledgement if it came first.
+fn expect_failed(alloc: Global, kept: &[KeptFile], wanted: &[u8]) -> Result<(), Fail> {
+    expect_held(file_named(kept, "refused.ack")?, b"older")?;
+    let cut = wanted.get(..100).ok_or("100 bytes")?;
+    expect_held(file_named(kept, "cut.ack")?, cut)?;
+    let whole = file_named(kept, "whole.ack")?;
+    let status = if holds(whole, wanted)? { "AS" } else { "DU" };
+    expect_held(whole, &one_answer(alloc, status)?)
+}
+
+/// Runs files into these, which some of them cannot fill.
+fn expect_going_on<T: AllocGlobal + Threads + Wait + Sync>(
+    rt: &T,
+    kept: &[KeptFile],
+) -> Result<(), Fail> {
+    let input = plain_file(rt.alloc())?;
+    let wrong = miscounted(rt.alloc())?;
+    run_failing(rt, &input, &wrong, kept)
+}
+
 #[test]
 fn goes_on_after_files_that_fail(rt: HostRuntime) -> Result<(), Fail> {
     let alloc = rt.alloc();
-    let input = plain_file(alloc)?;
-    let wrong = miscounted(alloc)?;
-    let kept = [
-        keeping(alloc, "refused.ack", b"older", 1000)?,
-        keeping(alloc, "cut.ack", b"", 100)?,
-        keeping(alloc, "whole.ack", b"", 1000)?,
-    ];
-    run_failing(&rt, &input, &wrong, &kept)?;
     let wanted = one_answer(alloc, "AS")?;
-    expect_held(&kept[0], b"older")?;
-    expect_held(&kept[1], wanted.get(..100).ok_or("100 bytes")?)?;
-    let whole = text_in(alloc, &kept[2])?;
-    let first_came = whole.as_slice() == wanted.as_slice();
-    let status = if first_came { "AS" } else { "DU" };
-    expect_held(&kept[2], &one_answer(alloc, status)?)
+    let before = [
+        ("refused.ack", b"older".as_slice(), 1000),
+        ("cut.ack", b"", 100),
+        ("whole.ack", b"", 1000),
+    ];
+    let kept = kept_files(alloc, &before)?;
+    expect_going_on(&rt, &kept)?;
+    expect_failed(alloc, &kept, &wanted)
 }
 
 /// Runs files of these names, none of which is there.
@@ -132,25 +154,51 @@ fn run_absent<T: AllocGlobal + Threads + Wait + Sync>(
     expect(rt, &words, &[], &[], status, printed, complained)
 }
 
+/// What is told of files of these names, none of which is there.
+fn all_absent(alloc: Global, names: &[String]) -> Result<String, Fail> {
+    let mut told = String::new(alloc);
+    for name in names {
+        told.push_str(name)?;
+        told.push_str(": stopped after 0: read\n")?;
+    }
+    Ok(told)
+}
+
+fn takes_63<T: AllocGlobal + Threads + Wait + Sync>(rt: &T) -> Result<(), Fail> {
+    let names = numbered(rt.alloc(), 64)?;
+    let told = all_absent(rt.alloc(), &names)?;
+    run_absent(rt, &names, ExitCode::FAILURE, &told, "")
+}
+
+fn refuses_64<T: AllocGlobal + Threads + Wait + Sync>(rt: &T) -> Result<(), Fail> {
+    let names = numbered(rt.alloc(), 65)?;
+    run_absent(rt, &names, ExitCode::from(2), "", "too many files\n")
+}
+
 #[test]
 fn takes_63_files_and_no_more(rt: HostRuntime) -> Result<(), Fail> {
-    let alloc = rt.alloc();
-    let mut names = Vec::new(alloc);
-    let mut told = String::new(alloc);
-    for number in 1..64 {
-        names.push(format!(in alloc; "{number}.v22")?)?;
-        let line = format!(in alloc; "{number}.v22: stopped after 0: read\n")?;
-        told.push_str(line.as_str())?;
-    }
-    run_absent(&rt, &names, ExitCode::FAILURE, &told, "")?;
-    names.push(format!(in alloc; "64.v22")?)?;
-    run_absent(&rt, &names, ExitCode::from(2), "", "too many files\n")
+    takes_63(&rt)?;
+    refuses_64(&rt)
+}
+
+/// Runs the files `a` and `b`, with another word at this place.
+fn expect_wrong_word<T: AllocGlobal + Threads + Wait + Sync>(
+    rt: &T,
+    place: usize,
+    word: &'static str,
+    complained: &str,
+) -> Result<(), Fail> {
+    let mut words = run_with(rt.alloc(), &["a", "b"])?;
+    let Some(wrong) = words.get_mut(place) else {
+        return Err("twelve words".into());
+    };
+    *wrong = word;
+    expect(rt, &words, &[], &[], ExitCode::from(2), "", complained)
 }
 
 /// One word of a run is another, and nothing is read.
 #[test]
 fn refuses_wrong_words(rt: HostRuntime) -> Result<(), Fail> {
-    let alloc = rt.alloc();
     for (place, word, complained) in [
         (3, "7", "bad --society\n"),
         (5, "", "bad --name\n"),
@@ -159,12 +207,7 @@ fn refuses_wrong_words(rt: HostRuntime) -> Result<(), Fail> {
         (11, "a", "file named twice\n"),
         (11, "a.ack", "file named twice\n"),
     ] {
-        let mut words = run_with(alloc, &["a", "b"])?;
-        let Some(wrong) = words.get_mut(place) else {
-            return Err("twelve words".into());
-        };
-        *wrong = word;
-        expect(&rt, &words, &[], &[], ExitCode::from(2), "", complained)?;
+        expect_wrong_word(&rt, place, word, complained)?;
     }
     Ok(())
 }

@@ -2,28 +2,55 @@
 
 use book_calls::{CALLS, call, gives_back, holds, reply_to};
 use cwr_sheets::same;
-use refusing::{Ended, Refusing, Sweep, refuse_each};
+use refusing::{Ended, Refusing, Sweep, answered, refuse_each, refused};
 use std::test::Fail;
-use work_registry::Book;
+use work_registry::{Book, Call, Refused};
 
 /// Hands in the call with this number, which may be refused: the book is then as it was, and takes the call once there
 /// is memory. Answers whether it was refused.
 fn apply_at_last<'m>(memory: &'m Refusing, book: &mut Book<&'m Refusing>, number: u16) -> Ended {
     match book.apply(1, call(memory, number)?) {
-        Ok(reply) => {
-            same("reply", &reply, &reply_to(number))?;
-            Ok(false)
-        }
-        Err(refused) => {
-            same("given back", &gives_back(&refused, number), &true)?;
-            holds(book, 0, number.saturating_sub(1))?;
-            let Ok(reply) = book.apply(1, refused.call) else {
-                return Err(Fail::new("refused again"));
-            };
-            same("reply once there is memory", &reply, &reply_to(number))?;
-            Ok(true)
+        Ok(reply) => answered(same("reply", &reply, &reply_to(number))),
+        Err(back) => {
+            is_as_it_was(book, &back, number)?;
+            refused(apply_again(book, back.call, number))
         }
     }
+}
+
+/// The call with this number must be given back, and the book be as it was.
+fn is_as_it_was<'m>(
+    book: &Book<&'m Refusing>,
+    back: &Refused<&'m Refusing>,
+    number: u16,
+) -> Result<(), Fail> {
+    same("given back", &gives_back(back, number), &true)?;
+    expect_book(book, number.saturating_sub(1))
+}
+
+/// Hands that call in once more, which must then be taken.
+fn apply_again<'m>(
+    book: &mut Book<&'m Refusing>,
+    call: Call<&'m Refusing>,
+    number: u16,
+) -> Result<(), Fail> {
+    let reply = book.apply(1, call).ok().ok_or("refused again")?;
+    same("reply once there is memory", &reply, &reply_to(number))
+}
+
+/// The book must hold the first `count` calls, all of session 1.
+fn expect_book(book: &Book<&Refusing>, count: u16) -> Result<(), Fail> {
+    holds(book, 0, count)
+}
+
+/// All calls to this book, after each of which it must hold those so far. Answers whether one was refused.
+fn apply_all<'m>(memory: &'m Refusing, book: &mut Book<&'m Refusing>) -> Ended {
+    let mut is_refused = false;
+    for number in 1..CALLS.saturating_add(1) {
+        is_refused = apply_at_last(memory, book, number)? || is_refused;
+        expect_book(book, number)?;
+    }
+    Ok(is_refused)
 }
 
 /// All calls to one book.
@@ -32,12 +59,7 @@ struct Apply;
 impl Sweep for Apply {
     fn ends(&self, memory: &Refusing) -> Ended {
         let mut book = Book::new(memory, 100);
-        let mut is_refused = false;
-        for number in 1..CALLS.saturating_add(1) {
-            is_refused = apply_at_last(memory, &mut book, number)? || is_refused;
-            holds(&book, 0, number)?;
-        }
-        Ok(is_refused)
+        apply_all(memory, &mut book)
     }
 }
 

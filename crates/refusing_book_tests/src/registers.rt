@@ -3,8 +3,9 @@
 use book_calls::{book_of, holds};
 use cwr_sheets::{same, same_bytes};
 use refusing::{Ended, Refusing, Sweep, answered, refuse_each, refused};
+use std::alloc::Global;
 use std::test::Fail;
-use work_registry::{RegisterRefusal, audit, read_register};
+use work_registry::{Book, RegisterRefusal, audit, read_register};
 
 /// How many calls the register tells.
 const TOLD: u16 = 12;
@@ -17,10 +18,20 @@ impl Sweep for WriteRegister<'_> {
         let Some(book) = book_of(memory, TOLD)? else {
             return Ok(true);
         };
-        match book.write_register(memory) {
-            Ok(text) => answered(same_bytes("register", &text, self.0)),
-            Err(_) => refused(holds(&book, TOLD, TOLD)),
-        }
+        written(memory, &book, self.0)
+    }
+}
+
+/// The book must hold those calls, all of the opening.
+fn expect_told(book: &Book<&Refusing>) -> Result<(), Fail> {
+    holds(book, TOLD, TOLD)
+}
+
+/// The book must be written as this text, or, where that is refused, be as it was.
+fn written<'m>(memory: &'m Refusing, book: &Book<&'m Refusing>, text: &[u8]) -> Ended {
+    match book.write_register(memory) {
+        Ok(found) => answered(same_bytes("register", &found, text)),
+        Err(_) => refused(expect_told(book)),
     }
 }
 
@@ -30,7 +41,7 @@ struct ReadRegister<'a>(&'a [u8]);
 impl Sweep for ReadRegister<'_> {
     fn ends(&self, memory: &Refusing) -> Ended {
         match read_register(memory, self.0, 100) {
-            Ok(book) => answered(holds(&book, TOLD, TOLD)),
+            Ok(book) => answered(expect_told(&book)),
             Err(RegisterRefusal::Memory) => Ok(true),
             Err(RegisterRefusal::Fault { .. }) => Err(Fail::new("a fault")),
         }
@@ -50,13 +61,22 @@ impl Sweep for Audit<'_> {
     }
 }
 
+/// The register of a book of those calls.
+fn register_of(alloc: Global) -> Result<Vec<u8>, Fail> {
+    let book = book_of(alloc, TOLD)?.ok_or("no memory")?;
+    Ok(book.write_register(alloc)?)
+}
+
+/// Refuses each request of what writes, reads and audits this register.
+fn refuse_registers(alloc: Global, text: &[u8]) -> Result<(), Fail> {
+    same_bytes("line 1", text.get(..12).unwrap_or(&[]), b"REG00000012\n")?;
+    refuse_each(alloc, &WriteRegister(text))?;
+    refuse_each(alloc, &ReadRegister(text))?;
+    refuse_each(alloc, &Audit(text))
+}
+
 #[test]
 fn registers(rt: HostRuntime) -> Result<(), Fail> {
-    let alloc = rt.alloc();
-    let book = book_of(alloc, TOLD)?.ok_or("no memory")?;
-    let text = book.write_register(alloc)?;
-    same_bytes("line 1", text.get(..12).unwrap_or(&[]), b"REG00000012\n")?;
-    refuse_each(alloc, &WriteRegister(&text))?;
-    refuse_each(alloc, &ReadRegister(&text))?;
-    refuse_each(alloc, &Audit(&text))
+    let text = register_of(rt.alloc())?;
+    refuse_registers(rt.alloc(), &text)
 }

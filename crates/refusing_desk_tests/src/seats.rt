@@ -211,10 +211,15 @@ impl<T: Abort> Sweep for InsideApply<'_, T> {
         let Some((book, taken)) = applied_inside(self.rt, memory, book, call, number) else {
             return Ok(true);
         };
-        let is_refused = taken?;
-        expect_book(&book, self.works, number)?;
-        Ok(is_refused)
+        is_taken_by(&book, taken, self.works, number)
     }
+}
+
+/// The call with this number must have been taken after those of the opening. Answers whether it was refused before.
+fn is_taken_by(book: &Book<&Refusing>, taken: Taken, works: u16, number: u16) -> Ended {
+    let is_refused = taken?;
+    expect_book(book, works, number)?;
+    Ok(is_refused)
 }
 
 /// What came of a seat's turn with the call of this number. Where it was refused the call is handed in once more, and
@@ -337,10 +342,22 @@ impl<T: Wait + Abort> Sweep for HandIn<'_, T> {
         let Some((book, taken, left)) = called else {
             return Ok(true);
         };
-        let is_refused = is_one_refused(taken, left)?;
-        expect_book(&book, self.works, second)?;
-        Ok(is_refused)
+        are_both_taken(&book, taken, left, self.works, second)
     }
+}
+
+/// Both calls, of which this is the number of the second, must have been taken after those of the opening. Answers
+/// whether one was refused before.
+fn are_both_taken(
+    book: &Book<&Refusing>,
+    taken: (Taken, Taken),
+    left: (u32, u32),
+    works: u16,
+    second: u16,
+) -> Ended {
+    let is_refused = is_one_refused(taken, left)?;
+    expect_book(book, works, second)?;
+    Ok(is_refused)
 }
 
 /// How many turns both seats must have left: the one that was refused has taken one more than two, the other four.

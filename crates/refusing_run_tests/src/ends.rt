@@ -33,15 +33,27 @@ fn answer<'a>(sequence: u32, decided: Decided<'a>) -> Answer<'a> {
     decision(sequence, "NWR", number, work, status, &[])
 }
 
-/// The acknowledgement of these decisions.
-fn text_of(alloc: Global, decided: &[Decided]) -> Result<Vec<u8>, Fail> {
-    let mut answers = Vec::new(alloc);
+/// Appends the answers that tell these decisions.
+fn put_answers<'a>(answers: &mut Vec<Answer<'a>>, decided: &[Decided<'a>]) -> Result<(), Fail> {
     let mut sequence: u32 = 0;
     for one in decided {
         answers.push(answer(sequence, *one))?;
         sequence = sequence.saturating_add(1);
     }
+    Ok(())
+}
+
+/// The acknowledgement of these decisions.
+fn text_of(alloc: Global, decided: &[Decided]) -> Result<Vec<u8>, Fail> {
+    let mut answers = Vec::new(alloc);
+    put_answers(&mut answers, decided)?;
     acknowledgement(alloc, &answers)
+}
+
+/// What was written must be the acknowledgement of these decisions.
+fn is_acknowledged(alloc: Global, written: &[u8], decided: &[Decided]) -> Result<(), Fail> {
+    let wanted = text_of(alloc, decided)?;
+    same_bytes("acknowledgement", written, &wanted)
 }
 
 /// A job must have been acknowledged with these decisions, or stopped for memory with nothing written.
@@ -54,7 +66,7 @@ pub(crate) fn end_of(
     match *outcome {
         FileOutcome::Acked { transactions } => {
             same("transactions", &(transactions as usize), &decided.len())?;
-            same_bytes("acknowledgement", written, &text_of(alloc, decided)?)?;
+            is_acknowledged(alloc, written, decided)?;
             Ok((decided.len(), false))
         }
         FileOutcome::Stopped {

@@ -193,10 +193,11 @@ impl Sweep for TwiceInTurn<'_> {
 #[test]
 fn a_work_twice(rt: HostRuntime) -> Result<(), Fail> {
     let alloc = rt.alloc();
+    let stamp = stamp()?;
     let file = work_twice(alloc, SENDER)?;
     let sweep = InTurn {
         alloc,
-        stamp: stamp()?,
+        stamp,
         file: &file,
     };
     refuse_each(alloc, &sweep)
@@ -205,10 +206,11 @@ fn a_work_twice(rt: HostRuntime) -> Result<(), Fail> {
 #[test]
 fn a_file_twice(rt: HostRuntime) -> Result<(), Fail> {
     let alloc = rt.alloc();
+    let stamp = stamp()?;
     let file = three_works(alloc)?;
     let sweep = TwiceInTurn {
         alloc,
-        stamp: stamp()?,
+        stamp,
         file: &file,
     };
     refuse_each(alloc, &sweep)

@@ -16,28 +16,38 @@ use std::thread::Threads;
 /// The works of the file, in order.
 const NUMBERS: [&str; 3] = ["W1", "W2", "W3"];
 
-/// What the book says was decided on the transactions of a session's file, in order.
-fn decided_of(
-    alloc: Global,
+/// Appends what the book says was decided on the transactions of a session's file, in order.
+fn put_decided(
+    decided: &mut Vec<Decided<'static>>,
     book: &Book<&Refusing>,
     session: u32,
-) -> Result<Vec<Decided<'static>>, Fail> {
-    let mut decided = Vec::new(alloc);
+) -> Result<(), Fail> {
     for entry in book.history() {
         if entry.session() == session {
             let number = NUMBERS.get(decided.len()).ok_or("an entry too much")?;
             decided.push((*number, entry.reply()))?;
         }
     }
-    Ok(decided)
+    Ok(())
 }
 
 /// A job must have been acknowledged with what the book says, all of it, or stopped for memory with nothing written
 /// after as much as the book says. Answers how much that is, and whether it was stopped.
 fn job_of(alloc: Global, run: &RefusingRun, session: u32) -> Result<(usize, bool), Fail> {
-    let decided = decided_of(alloc, &run.book, session)?;
+    let mut decided = Vec::new(alloc);
+    put_decided(&mut decided, &run.book, session)?;
+    job_with(alloc, run, session, &decided)
+}
+
+/// The same with what the book says.
+fn job_with(
+    alloc: Global,
+    run: &RefusingRun,
+    session: u32,
+    decided: &[Decided],
+) -> Result<(usize, bool), Fail> {
     let (outcome, written) = ended(run, session.saturating_sub(1) as usize)?;
-    let (count, is_stopped) = end_of(alloc, &outcome, written, &decided)?;
+    let (count, is_stopped) = end_of(alloc, &outcome, written, decided)?;
     same("handed in", &count, &decided.len())?;
     same("the whole file", &(is_stopped || count == 3), &true)?;
     Ok((count, is_stopped))
@@ -123,15 +133,26 @@ fn served<T: Threads + Wait + Sync>(
     }
 }
 
+/// Serves the file with this request refused, which must be told.
+fn serve_refused<T: Threads + Wait + Sync>(
+    rt: &T,
+    alloc: Global,
+    stamp: &Stamp,
+    file: &[u8],
+    n: u64,
+) -> Ended {
+    let memory = Refusing::nth(alloc, n);
+    let is_refused = served(rt, &memory, alloc, stamp, file)?;
+    told_right(&memory, n, is_refused)
+}
+
 #[test]
 fn one_file_twice_at_once(rt: HostRuntime) -> Result<(), Fail> {
     let alloc = rt.alloc();
     let stamp = stamp()?;
     let file = three_works(alloc)?;
     for n in 1..201 {
-        let memory = Refusing::nth(alloc, n);
-        let is_refused = served(&rt, &memory, alloc, &stamp, &file)?;
-        told_right(&memory, n, is_refused)?;
+        serve_refused(&rt, alloc, &stamp, &file, n)?;
     }
     Ok(())
 }

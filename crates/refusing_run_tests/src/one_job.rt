@@ -107,10 +107,11 @@ impl<T: Wait> Sweep for Work<'_, T> {
 #[test]
 fn acknowledges(rt: HostRuntime) -> Result<(), Fail> {
     let alloc = rt.alloc();
+    let stamp = stamp()?;
     let file = work_twice(alloc, SENDER)?;
     let sweep = Acknowledge {
         alloc,
-        stamp: stamp()?,
+        stamp,
         file: &file,
     };
     refuse_each(alloc, &sweep)
@@ -119,11 +120,12 @@ fn acknowledges(rt: HostRuntime) -> Result<(), Fail> {
 #[test]
 fn works_at_a_seat(rt: HostRuntime) -> Result<(), Fail> {
     let alloc = rt.alloc();
+    let stamp = stamp()?;
     let file = work_twice(alloc, SENDER)?;
     let sweep = Work {
         rt: &rt,
         alloc,
-        stamp: stamp()?,
+        stamp,
         file: &file,
     };
     refuse_each(alloc, &sweep)

@@ -30,6 +30,13 @@ pub(crate) type Told = (
     [u64; 3],
 );
 
+/// The call of a transaction with these faults.
+fn call_of(alloc: Global, told: Told, faults: &[Fault]) -> Result<Call, Fail> {
+    let faults = Faults::new(faults.to_vec(alloc)?);
+    let (submitter, kind, title, number, iswc, control) = told;
+    Ok(Call::of(submitter, kind, title, number, iswc, control, faults).ok_or("no call")?)
+}
+
 /// Hands in a transaction with these faults, which must be taken.
 pub(crate) fn hand_in(
     alloc: Global,
@@ -37,18 +44,25 @@ pub(crate) fn hand_in(
     told: Told,
     faults: &[Fault],
 ) -> Result<(), Fail> {
-    let (submitter, kind, title, number, iswc, control) = told;
-    let faults = Faults::new(faults.to_vec(alloc)?);
-    let call = Call::of(submitter, kind, title, number, iswc, control, faults).ok_or("no call")?;
-    match book.apply(1, call) {
-        Ok(_) => Ok(()),
-        Err(_) => Err("the call was refused")?,
-    }
+    let call = call_of(alloc, told, faults)?;
+    book.apply(1, call).ok().ok_or("the call was refused")?;
+    Ok(())
 }
 
-/// The book of the example in the profile's section on decisions: seven transactions of two submitters on one work.
-pub(crate) fn decisions(alloc: Global) -> Result<Book, Fail> {
-    let mut book = Book::new(alloc, 100);
+/// Hands in transactions without faults, which must be taken.
+pub(crate) fn hand_in_all(
+    alloc: Global,
+    book: &mut Book,
+    transactions: &[Told],
+) -> Result<(), Fail> {
+    for told in transactions {
+        hand_in(alloc, book, *told, &[])?;
+    }
+    Ok(())
+}
+
+/// Hands in the example in the profile's section on decisions: seven transactions of two submitters on one work.
+pub(crate) fn hand_in_decisions(alloc: Global, book: &mut Book) -> Result<(), Fail> {
     let (nwr, rev, other) = (WorkKind::Nwr, WorkKind::Rev, Some(1));
     let transactions: [Told; 6] = [
         (ONE, rev, TITLE, W1, ISWC, [6000; 3]),
@@ -58,9 +72,7 @@ pub(crate) fn decisions(alloc: Global) -> Result<Book, Fail> {
         (ONE, rev, TITLE, W1, None, [5000; 3]),
         (ONE, rev, TITLE, W1, other, [5000; 3]),
     ];
-    for told in transactions {
-        hand_in(alloc, &mut book, told, &[])?;
-    }
+    hand_in_all(alloc, book, &transactions)?;
     let wrong = Fault {
         sequence: 0,
         number: 4,
@@ -68,10 +80,16 @@ pub(crate) fn decisions(alloc: Global) -> Result<Book, Fail> {
     };
     hand_in(
         alloc,
-        &mut book,
+        book,
         (ONE, rev, TITLE, W1, None, [5000; 3]),
         &[wrong],
-    )?;
+    )
+}
+
+/// The book of that example.
+pub(crate) fn decisions(alloc: Global) -> Result<Book, Fail> {
+    let mut book = Book::new(alloc, 100);
+    hand_in_decisions(alloc, &mut book)?;
     Ok(book)
 }
 

@@ -2,6 +2,7 @@
 
 use crate::books::{ONE, TITLE, W1, W7, expect_claims, expect_history, hand_in};
 use register_tables::Wanted;
+use std::alloc::{AllocError, Global};
 use std::test::Fail;
 use work_registry::{Book, Fault, WorkKind};
 
@@ -10,6 +11,20 @@ const SAID: [u8; 60] = *b"SAY, \"CAF\xc9\"                                      
 
 /// Its field.
 const QUOTED: &[u8] = b"\"SAY, \"\"CAF\xc9\"\"                                                 \"";
+
+/// Appends the line of its claim.
+fn put_line(line: &mut Vec<u8>) -> Result<(), AllocError> {
+    line.extend_from_slice(b"PB000000123,\"W,1           \",1,1,")?;
+    line.extend_from_slice(QUOTED)?;
+    line.extend_from_slice(b",,10000,10000,10000\n")
+}
+
+/// That line must be the one claim of a book.
+fn expect_line(alloc: Global, book: &Book) -> Result<(), Fail> {
+    let mut line = Vec::new(alloc);
+    put_line(&mut line)?;
+    expect_claims(alloc, book, &Wanted::all(), &line)
+}
 
 #[test]
 fn quotes_where_needed(rt: HostRuntime) -> Result<(), Fail> {
@@ -24,17 +39,11 @@ fn quotes_where_needed(rt: HostRuntime) -> Result<(), Fail> {
         [10000; 3],
     );
     hand_in(alloc, &mut book, told, &[])?;
-    let mut line = b"PB000000123,\"W,1           \",1,1,".to_vec(alloc)?;
-    line.extend_from_slice(QUOTED)?;
-    line.extend_from_slice(b",,10000,10000,10000\n")?;
-    expect_claims(alloc, &book, &Wanted::all(), &line)
+    expect_line(alloc, &book)
 }
 
-/// Faults stand with a blank between two, and so need no quotes.
-#[test]
-fn tells_each_fault(rt: HostRuntime) -> Result<(), Fail> {
-    let alloc = rt.alloc();
-    let mut book = Book::new(alloc, 100);
+/// Hands in a transaction with three faults, and one with one.
+fn hand_in_faulty(alloc: Global, book: &mut Book) -> Result<(), Fail> {
     let faults = [(0, 4, *b"NWR"), (0, 15, *b"NWR"), (12, 8, *b"SWT")];
     let faults = faults.map(|(sequence, number, rtype)| Fault {
         sequence,
@@ -42,9 +51,17 @@ fn tells_each_fault(rt: HostRuntime) -> Result<(), Fail> {
         rtype,
     });
     let told = (ONE, WorkKind::Nwr, TITLE, W1, None, [20000, 0, 5]);
-    hand_in(alloc, &mut book, told, &faults)?;
+    hand_in(alloc, book, told, &faults)?;
     let told = (ONE, WorkKind::Nwr, TITLE, W7, None, [0; 3]);
-    hand_in(alloc, &mut book, told, &faults[2..])?;
+    hand_in(alloc, book, told, &faults[2..])
+}
+
+/// Faults stand with a blank between two, and so need no quotes.
+#[test]
+fn tells_each_fault(rt: HostRuntime) -> Result<(), Fail> {
+    let alloc = rt.alloc();
+    let mut book = Book::new(alloc, 100);
+    hand_in_faulty(alloc, &mut book)?;
     expect_history(
         alloc,
         &book,

@@ -1,6 +1,9 @@
 //! Summaries of the example of the profile's decisions, of works in each band, and of more works with conflicts than are told.
 
-use crate::books::{ONE, OTHER, TITLE, Told, W1, W7, decisions, expect_summary, hand_in};
+use crate::books::{
+    ONE, OTHER, TITLE, Told, W1, W7, decisions, expect_summary, hand_in, hand_in_all,
+};
+use std::alloc::Global;
 use std::test::Fail;
 use work_registry::{Book, WorkKind};
 
@@ -31,9 +34,7 @@ fn tells_what_is_left(rt: HostRuntime) -> Result<(), Fail> {
         (ONE, WorkKind::Nwr, TITLE, W7, None, [4999, 0, 7499]),
         (ONE, WorkKind::Nwr, TITLE, W1, None, [10000, 7500, 5000]),
     ];
-    for told in transactions {
-        hand_in(alloc, &mut book, told, &[])?;
-    }
+    hand_in_all(alloc, &mut book, &transactions)?;
     expect_summary(
         alloc,
         &book,
@@ -46,21 +47,26 @@ largest conflicts:\n",
     )
 }
 
+/// Hands in eleven works, of which each has a conflict, and the last one two.
+fn hand_in_conflicts(alloc: Global, book: &mut Book) -> Result<(), Fail> {
+    for work in 1..12 {
+        let number = [64 + work as u8; 14];
+        let iswc = Some(work);
+        let told = (ONE, WorkKind::Nwr, TITLE, number, iswc, [10000; 3]);
+        hand_in(alloc, book, told, &[])?;
+        let told = (OTHER, WorkKind::Nwr, TITLE, number, iswc, [7; 3]);
+        hand_in(alloc, book, told, &[])?;
+    }
+    let told = (OTHER, WorkKind::Nwr, TITLE, W1, Some(11), [7; 3]);
+    hand_in(alloc, book, told, &[])
+}
+
 /// Eleven works have a conflict, and the last one two. Those with one stand by number, and the eleventh is not told.
 #[test]
 fn tells_ten_conflicts(rt: HostRuntime) -> Result<(), Fail> {
     let alloc = rt.alloc();
     let mut book = Book::new(alloc, 100);
-    for work in 1..12 {
-        let number = [64 + work as u8; 14];
-        let iswc = Some(work);
-        let told = (ONE, WorkKind::Nwr, TITLE, number, iswc, [10000; 3]);
-        hand_in(alloc, &mut book, told, &[])?;
-        let told = (OTHER, WorkKind::Nwr, TITLE, number, iswc, [7; 3]);
-        hand_in(alloc, &mut book, told, &[])?;
-    }
-    let told = (OTHER, WorkKind::Nwr, TITLE, W1, Some(11), [7; 3]);
-    hand_in(alloc, &mut book, told, &[])?;
+    hand_in_conflicts(alloc, &mut book)?;
     expect_summary(
         alloc,
         &book,

@@ -1,9 +1,11 @@
 //! The tables of the example in the profile's section on decisions, and of books with no work and with two.
 
 use crate::books::{
-    ISWC, ONE, TITLE, Told, W1, W7, decisions, expect_claims, expect_history, expect_works, hand_in,
+    ISWC, ONE, TITLE, Told, W1, W7, decisions, expect_claims, expect_history, expect_works,
+    hand_in_all,
 };
 use register_tables::Wanted;
+use std::alloc::Global;
 use std::test::Fail;
 use work_registry::{Book, WorkKind};
 
@@ -51,13 +53,35 @@ fn tells_every_entry(rt: HostRuntime) -> Result<(), Fail> {
     )
 }
 
+/// No table of a book has a line after its header.
+fn expect_no_lines(alloc: Global, book: &Book) -> Result<(), Fail> {
+    expect_claims(alloc, book, &Wanted::all(), b"")?;
+    expect_works(alloc, book, &Wanted::all(), b"")?;
+    expect_history(alloc, book, &Wanted::all(), b"")
+}
+
 #[test]
 fn tells_of_an_empty_book(rt: HostRuntime) -> Result<(), Fail> {
     let alloc = rt.alloc();
     let book = Book::new(alloc, 1);
-    expect_claims(alloc, &book, &Wanted::all(), b"")?;
-    expect_works(alloc, &book, &Wanted::all(), b"")?;
-    expect_history(alloc, &book, &Wanted::all(), b"")
+    expect_no_lines(alloc, &book)
+}
+
+/// The works of a book, and their claims.
+fn expect_both_works(alloc: Global, book: &Book) -> Result<(), Fail> {
+    expect_works(
+        alloc,
+        book,
+        &Wanted::all(),
+        b"1,T0345246801,7,80,900,1\n2,,0,0,0,1\n",
+    )?;
+    expect_claims(
+        alloc,
+        book,
+        &Wanted::all(),
+        b"PB000000123,W7            ,2,1,SONG ONE                                                    ,,0,0,0\n\
+PB000000123,W1            ,1,3,SONG ONE                                                    ,,7,80,900\n",
+    )
 }
 
 /// A work of which nothing is controlled is listed, and the one before it too, whose ISWC came with its second version. The three
@@ -72,20 +96,6 @@ fn tells_each_work(rt: HostRuntime) -> Result<(), Fail> {
         (ONE, WorkKind::Rev, TITLE, W1, ISWC, [4, 50, 600]),
         (ONE, WorkKind::Rev, TITLE, W1, None, [7, 80, 900]),
     ];
-    for told in transactions {
-        hand_in(alloc, &mut book, told, &[])?;
-    }
-    expect_works(
-        alloc,
-        &book,
-        &Wanted::all(),
-        b"1,T0345246801,7,80,900,1\n2,,0,0,0,1\n",
-    )?;
-    expect_claims(
-        alloc,
-        &book,
-        &Wanted::all(),
-        b"PB000000123,W7            ,2,1,SONG ONE                                                    ,,0,0,0\n\
-PB000000123,W1            ,1,3,SONG ONE                                                    ,,7,80,900\n",
-    )
+    hand_in_all(alloc, &mut book, &transactions)?;
+    expect_both_works(alloc, &book)
 }

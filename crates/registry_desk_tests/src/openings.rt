@@ -1,26 +1,33 @@
 //! A desk that is opened on a book with entries.
 
 use crate::desks::{call, expect_new};
-use registry_desk::{Book, Desk, Reply};
+use registry_desk::{Book, Call, Desk, Reply};
 use std::alloc::Global;
 use std::process::Abort;
 use std::sync::Wait;
 use std::test::Fail;
 
+/// Hands a call in at the opening.
+fn open_with(book: &mut Book, call: Call) -> Result<(), Fail> {
+    book.apply(0, call).ok().ok_or("no memory")?;
+    Ok(())
+}
+
+/// Hands both calls of the opening in.
+fn open_with_two(alloc: Global, book: &mut Book) -> Result<(), Fail> {
+    open_with(book, call(alloc, b'O', 1)?)?;
+    open_with(book, call(alloc, b'O', 2)?)
+}
+
 /// A book of two entries of the opening.
 fn opened_book(alloc: Global) -> Result<Book, Fail> {
     let mut book = Book::new(alloc, 10);
-    for number in 1..3 {
-        if book.apply(0, call(alloc, b'O', number)?).is_err() {
-            Err("no memory")?;
-        }
-    }
+    open_with_two(alloc, &mut book)?;
     Ok(book)
 }
 
 /// The book after a call for a work of its opening and one for a new work, handed in by the one seat of a desk.
-fn gone_on<R: Wait + Abort>(rt: &R, alloc: Global, book: Book) -> Result<Book, Fail> {
-    let (known, fresh) = (call(alloc, b'O', 2)?, call(alloc, b'A', 1)?);
+fn gone_on<R: Wait + Abort>(rt: &R, alloc: Global, book: Book, known: Call, fresh: Call) -> Book {
     assert!(rt; book.is_opening());
     let Ok((desk, mut opening)) = Desk::open(alloc, book, 2) else {
         panic!(rt; "no memory")
@@ -31,7 +38,7 @@ fn gone_on<R: Wait + Abort>(rt: &R, alloc: Global, book: Book) -> Result<Book, F
     let (seat, fresh) = desk.hand_in(rt, seat, fresh);
     assert!(rt; fresh.is_ok());
     desk.meet(&mut opening, seat);
-    Ok(desk.close(opening))
+    desk.close(opening)
 }
 
 /// The works of the opening, the known one, and the new one, which is numbered on.
@@ -51,12 +58,20 @@ fn expect_four(rt: &impl Abort, book: &Book) {
     expect_new(rt, 3, fresh, b'A', 1);
 }
 
+/// Opens a desk on a book with entries, after which that must hold.
+fn expect_gone_on<R: Wait + Abort>(rt: &R, alloc: Global) -> Result<(), Fail> {
+    let known = call(alloc, b'O', 2)?;
+    let fresh = call(alloc, b'A', 1)?;
+    let book = gone_on(rt, alloc, opened_book(alloc)?, known, fresh);
+    expect_four(rt, &book);
+    Ok(())
+}
+
 /// A desk that is opened on a book with entries: a work of the opening is known, and works are numbered on.
 #[test]
 fn book_with_entries(rt: HostRuntime) -> Result<(), Fail> {
     for _ in 0..100 {
-        let book = gone_on(&rt, rt.alloc(), opened_book(rt.alloc())?)?;
-        expect_four(&rt, &book);
+        expect_gone_on(&rt, rt.alloc())?;
     }
     Ok(())
 }

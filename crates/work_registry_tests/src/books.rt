@@ -56,10 +56,7 @@ pub(crate) fn call_with_fault(alloc: Global) -> Result<Call, Fail> {
 
 /// Hands a call in, which must be taken.
 pub(crate) fn reply(book: &mut Book, call: Call) -> Result<Reply, Fail> {
-    match book.apply(1, call) {
-        Ok(reply) => Ok(reply),
-        Err(_refused) => Err("the call was refused")?,
-    }
+    Ok(book.apply(1, call).ok().ok_or("the call was refused")?)
 }
 
 /// The reply to a claim that is accepted for a work, in this version.

@@ -6,7 +6,7 @@ use crate::books::{ISWC, ONE, W1, accepted, call, call_with_fault, expect_reply}
 use crate::registers::{expect_fault, expect_fault_at, whole_call};
 use crate::revisions::revise;
 use cwr_sheets::{same, same_bytes};
-use std::alloc::Global;
+use std::alloc::{AllocError, Global};
 use std::test::Fail;
 use work_registry::{Book, RegisterRefusal, Reply, WorkKind, read_register};
 
@@ -33,24 +33,24 @@ fn add_ten(book: &mut Book, alloc: Global) -> Result<(), Fail> {
     add_four(book, alloc)
 }
 
-/// The register of a book after these ten calls.
-fn register_of_ten(book: &mut Book, alloc: Global) -> Result<Vec<u8>, Fail> {
-    add_ten(book, alloc)?;
-    Ok(book.write_register(alloc)?)
-}
-
 /// Line 1 has 12 bytes, and that of an entry 174 and 13 for its fault.
 fn expect_ten(alloc: Global, text: &[u8]) -> Result<(), Fail> {
     same("its length", &text.len(), &(12 + 10 * 174 + 13))?;
     expect_fault(alloc, "ten entries", text, None)
 }
 
+/// The register of a book after these ten calls.
+fn register_of_ten(book: &mut Book, alloc: Global) -> Result<Vec<u8>, Fail> {
+    add_ten(book, alloc)?;
+    let text = book.write_register(alloc)?;
+    expect_ten(alloc, &text)?;
+    Ok(text)
+}
+
 /// The register of ten entries.
 fn text_of_ten(alloc: Global) -> Result<Vec<u8>, Fail> {
     let mut book = Book::new(alloc, 100);
-    let text = register_of_ten(&mut book, alloc)?;
-    expect_ten(alloc, &text)?;
-    Ok(text)
+    register_of_ten(&mut book, alloc)
 }
 
 /// The text with other bytes in place of so many from this index on.
@@ -61,10 +61,17 @@ fn changed(
     taken: usize,
     added: &[u8],
 ) -> Result<Vec<u8>, Fail> {
-    let mut bytes = text.get(..at).ok_or("a front")?.to_vec(alloc)?;
-    bytes.extend_from_slice(added)?;
-    bytes.extend_from_slice(text.get(at.saturating_add(taken)..).ok_or("a rest")?)?;
+    let front = text.get(..at).ok_or("a front")?;
+    let rest = text.get(at.saturating_add(taken)..).ok_or("a rest")?;
+    let mut bytes = front.to_vec(alloc)?;
+    put_both(&mut bytes, added, rest)?;
     Ok(bytes)
+}
+
+/// Appends both.
+fn put_both(bytes: &mut Vec<u8>, added: &[u8], rest: &[u8]) -> Result<(), AllocError> {
+    bytes.extend_from_slice(added)?;
+    bytes.extend_from_slice(rest)
 }
 
 /// The line and the column of the byte with this index, both from 1.
@@ -137,6 +144,14 @@ fn expect_no_form(
     expect_fault_at(alloc, at, &bytes, wanted)
 }
 
+/// The text with the byte with this index spoilt in each way.
+fn expect_spoilt(alloc: Global, text: &[u8], at: usize) -> Result<(), Fail> {
+    expect_no_form(alloc, text, at, 1, "\x1f")?;
+    expect_no_form(alloc, text, at, 1, "\n")?;
+    expect_no_form(alloc, text, at, 1, "")?;
+    expect_no_form(alloc, text, at, 0, "\x1f")
+}
+
 /// A control character or an end of line in place of a byte, a byte left out, and a control character before it: the
 /// line is not of its form.
 #[test]
@@ -144,10 +159,7 @@ fn each_byte_spoilt(rt: HostRuntime) -> Result<(), Fail> {
     let alloc = rt.alloc();
     let text = text_of_ten(alloc)?;
     for at in 0..text.len() {
-        expect_no_form(alloc, &text, at, 1, "\x1f")?;
-        expect_no_form(alloc, &text, at, 1, "\n")?;
-        expect_no_form(alloc, &text, at, 1, "")?;
-        expect_no_form(alloc, &text, at, 0, "\x1f")?;
+        expect_spoilt(alloc, &text, at)?;
     }
     Ok(())
 }
@@ -236,16 +248,19 @@ fn expect_count(alloc: Global, text: &[u8], count: &str, line: u64) -> Result<()
     expect_fault(alloc, count, &bytes, Some((2, line)))
 }
 
+fn expect_counts(alloc: Global, text: &[u8]) -> Result<(), Fail> {
+    expect_count(alloc, text, "00000009", 11)?;
+    expect_count(alloc, text, "00000011", 12)?;
+    expect_count(alloc, text, "00000000", 2)?;
+    expect_count(alloc, text, "99999999", 12)
+}
+
 /// Another number of entries than follow. One that is missing has the fault at the line after the last, one that is
 /// not counted at its own.
 #[test]
 fn other_counts(rt: HostRuntime) -> Result<(), Fail> {
-    let alloc = rt.alloc();
-    let text = text_of_ten(alloc)?;
-    expect_count(alloc, &text, "00000009", 11)?;
-    expect_count(alloc, &text, "00000011", 12)?;
-    expect_count(alloc, &text, "00000000", 2)?;
-    expect_count(alloc, &text, "99999999", 12)
+    let text = text_of_ten(rt.alloc())?;
+    expect_counts(rt.alloc(), &text)
 }
 
 /// Ten entries, and a limit of nine.
@@ -267,13 +282,18 @@ fn extent(line: u64) -> (usize, usize) {
     }
 }
 
-/// The text without this line has its fault there, and with the line twice in the next one.
-fn expect_line(alloc: Global, text: &[u8], line: u64) -> Result<(), Fail>
+/// The text without this line has its fault there.
+fn expect_left_out(alloc: Global, text: &[u8], line: u64) -> Result<(), Fail> {
+    let (at, len) = extent(line);
+    let without = changed(alloc, text, at, len, &[])?;
+    expect_fault_at(alloc, at, &without, Some((2, line)))
+}
+
+/// The text with this line twice has its fault in the next one.
+fn expect_doubled(alloc: Global, text: &[u8], line: u64) -> Result<(), Fail>
     requires { line < 100 }
 {
     let (at, len) = extent(line);
-    let without = changed(alloc, text, at, len, &[])?;
-    expect_fault_at(alloc, at, &without, Some((2, line)))?;
     let own = text.get(at..at.saturating_add(len)).ok_or("a line")?;
     let doubled = changed(alloc, text, at, 0, own)?;
     expect_fault_at(alloc, at, &doubled, Some((2, line + 1)))
@@ -286,7 +306,8 @@ fn each_line_left_out_or_doubled(rt: HostRuntime) -> Result<(), Fail> {
     let alloc = rt.alloc();
     let text = text_of_ten(alloc)?;
     for line in 2..12 {
-        expect_line(alloc, &text, line)?;
+        expect_left_out(alloc, &text, line)?;
+        expect_doubled(alloc, &text, line)?;
     }
     Ok(())
 }

@@ -44,13 +44,22 @@ fn register_of(alloc: Global, call: Call) -> Result<Vec<u8>, Fail> {
     register_after(&mut book, alloc, call)
 }
 
+/// This text, of which the audit counts one entry.
+fn expect_text(alloc: Global, text: &[u8], wanted: &str) -> Result<(), Fail> {
+    same_bytes("a register", text, wanted.as_bytes())?;
+    expect_audited(alloc, text, 1)
+}
+
+fn expect_one_entry(alloc: Global, text: &[u8]) -> Result<(), Fail> {
+    same("its length", &text.len(), &186)?;
+    expect_text(alloc, text, ONE_ENTRY)
+}
+
 /// An accepted claim, twelve bytes and 174.
 #[test]
 fn with_one_entry(rt: HostRuntime) -> Result<(), Fail> {
     let text = register_of(rt.alloc(), whole_call(rt.alloc(), W1)?)?;
-    same("its length", &text.len(), &186)?;
-    same_bytes("a register", &text, ONE_ENTRY.as_bytes())?;
-    expect_audited(rt.alloc(), &text, 1)
+    expect_one_entry(rt.alloc(), &text)
 }
 
 /// The register of one rejected call.
@@ -71,14 +80,17 @@ fn faulty_line(alloc: Global, number: &str) -> Result<String, AllocError> {
     [UP_TO_THE_FAULT, number, "SWR\n"].concat(alloc)
 }
 
+fn expect_faulty_line(alloc: Global, text: &[u8]) -> Result<(), Fail> {
+    same("its length", &text.len(), &(12 + 186 + 1))?;
+    let wanted = faulty_line(alloc, "06")?;
+    expect_text(alloc, text, &wanted)
+}
+
 /// A rejected call has its faults in the line.
 #[test]
 fn text_with_a_fault(rt: HostRuntime) -> Result<(), Fail> {
     let text = with_a_fault(rt.alloc())?;
-    same("its length", &text.len(), &(12 + 186 + 1))?;
-    let wanted = faulty_line(rt.alloc(), "06")?;
-    same_bytes("a register", &text, wanted.as_bytes())?;
-    expect_audited(rt.alloc(), &text, 1)
+    expect_faulty_line(rt.alloc(), &text)
 }
 
 /// The text with this number of the fault has this fault itself, or is a register.
@@ -197,12 +209,21 @@ fn calls_after_reading(rt: HostRuntime) -> Result<(), Fail> {
     expect_five(&mut book, rt.alloc())
 }
 
+/// The text of a refusal, which this names.
+fn expect_told(
+    alloc: Global,
+    what: &str,
+    refusal: RegisterRefusal,
+    wanted: &str,
+) -> Result<(), Fail> {
+    let told = format!(in alloc; "{refusal}")?;
+    same_text(what, &told, wanted)
+}
+
 #[test]
 fn texts_of_refusals(rt: HostRuntime) -> Result<(), Fail> {
     let fault = RegisterRefusal::Fault { number: 3, line: 2 };
-    let told = format!(in rt.alloc(); "{fault}")?;
-    same_text("a fault", &told, "refused G3 at line 2")?;
+    expect_told(rt.alloc(), "a fault", fault, "refused G3 at line 2")?;
     let memory = RegisterRefusal::Memory;
-    let told = format!(in rt.alloc(); "{memory}")?;
-    same_text("no memory", &told, "memory")
+    expect_told(rt.alloc(), "no memory", memory, "memory")
 }

@@ -1,0 +1,5 @@
+use Rattle.std.proofs.Common.{rules}
+use Rattle.byte_streams.proofs.through.write_repeatedly.Goals as goal
+
+pub loop-preserved : goal.loop-preserved
+loop-preserved g c = search rules

@@ -1,0 +1,5 @@
+use Rattle.std.proofs.Common.{rules}
+use Rattle.ticket_core.proofs.ticket_lock.Lock.next.Goals as goal
+
+pub returns : goal.returns
+returns g c = search rules
