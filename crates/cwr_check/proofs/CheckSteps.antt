@@ -3,19 +3,23 @@ use Rattle.std.proofs.Common.{◌≡◌, ◌∙◌, ℕ, ◌+◌, ◌<◌, ◌�
 use Rattle.std.specs.Prelude.{codes, ◌==◌}
 use Rattle.std.specs.List.{flat_map}
 use Rattle.std.proofs.lemmas.List.{drop_more}
-use Rattle.std.proofs.lemmas.Grind.{flat_map-append}
+use Rattle.std.proofs.lemmas.Grind.{common_steps, flat_map-append}
 use Rattle.std.proofs.lemmas.Bool.Decides.{nat_tests}
 use Rattle.std.proofs.lemmas.List.{append-nil}
 use Rattle.std.proofs.lemmas.List.Sums.{sum_by_push}
 use Rattle.cwr_field.specs.Number.{number_text}
+use Rattle.cwr_field.specs.Layout.{padded}
 use Rattle.cwr_record.specs.Kinds.{work_kind_code}
+use Rattle.cwr_record.specs.declared.works.WorkKind.{WorkKind}
+use Rattle.cwr_record.specs.declared.works.WorkKind.TheVariants.{Nwr, Rev}
+use Rattle.cwr_record.proofs.LineTexts.{whole}
 use Rattle.cwr_grammar.specs.File.{File, IsFile}
 use Rattle.cwr_grammar.specs.RawParts.{RawParts, raws_of}
 use Rattle.cwr_call.specs.declared.transaction_fault.Fault.{Fault}
 use Rattle.cwr_call.specs.Lawful.{is_none_found}
 use Rattle.cwr_check.specs.CheckText.{fault_text, verdict_text, place_text, transaction_line, faults_in, has_faults, faulty_count, check_lines, submitter_of, IsCheckOfFile}
 use Rattle.cwr_check.specs.LinesSoFar.{IsTold}
-use Rattle.cwr_field.proofs.lemmas.Pieces.{then, moved}
+use Rattle.cwr_field.proofs.lemmas.Pieces.{moved}
 
 pub fault_more : (faults : List Fault) (i : ℕ) (d : Fault) (out new total : List ℕ) → i < length faults
     → new ≡ out ++ fault_text (get_or faults i d)
@@ -25,20 +29,25 @@ fault_more faults i d out new total lt wrote so_far =
     moved out new (fault_text (get_or faults i d)) _ (flat_map fault_text (drop (i + 1) faults)) total wrote refl
     (ap (λ (fs : List Fault). out ++ flat_map fault_text fs) (sym (drop_more faults i d lt)) ∙ so_far)
 
+-- a kind, and a blank after it
+kind_padded : (kind : WorkKind) → padded 4 (work_kind_code kind) ≡ work_kind_code kind ++ codes " "
+kind_padded Nwr = refl
+kind_padded Rev = refl
+
 -- group id, transaction sequence and kind, a blank after each
-pub place_written : (t : RawParts) (out a b c d e f : List ℕ) → a ≡ out ++ number_text 5 t.group → b ≡ a ++ codes " "
-    → c ≡ b ++ number_text 8 t.sequence → d ≡ c ++ codes " " → e ≡ d ++ work_kind_code t.kind → f ≡ e ++ codes " " → f ≡ out ++ place_text t
+pub place_written : (t : RawParts) (out new bytes line empty : List ℕ) → new ≡ out ++ bytes → bytes ≡ line
+    → line ++ [] ≡ empty ++ (number_text 5 t.group ++ (codes " " ++ (number_text 8 t.sequence ++ (codes " " ++ (padded 4 (work_kind_code t.kind) ++ [])))))
+    → empty ≡ [] → new ≡ out ++ place_text t
 unfolding place_text
-place_written t out a b c d e f p q r u v w =
+place_written t out new bytes line empty wrote is fields none =
     let x = number_text 5 t.group in
     let y = number_text 8 t.sequence in
     let z = work_kind_code t.kind in
     let blank = codes " " in
-    let B = then out a b x blank p q in
-    let C = then out b c (x ++ blank) y B r in
-    let D = then out c d (x ++ blank ++ y) blank C u in
-    let E = then out d e (x ++ blank ++ y ++ blank) z D v in
-    then out e f (x ++ blank ++ y ++ blank ++ z) blank E w
+    let together : x ++ (blank ++ (y ++ (blank ++ (padded 4 z ++ [])))) ≡ x ++ blank ++ y ++ blank ++ z ++ blank =
+    ap (λ (k : List ℕ). x ++ (blank ++ (y ++ (blank ++ (k ++ []))))) (kind_padded t.kind)
+    ∙ grind (arith, common_steps) in
+    whole out new bytes line empty _ wrote is fields none ∙ ap (λ (xs : List ℕ). out ++ xs) together
 
 -- the place, the verdict and the end of a transaction's line
 pub line_written : (t : RawParts) (faults : List Fault) (out a b c : List ℕ) → a ≡ out ++ place_text t → b ≡ a ++ verdict_text faults → c ≡ b ++ 10 ∷ []

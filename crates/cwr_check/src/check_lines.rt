@@ -5,9 +5,28 @@ ghost use Rattle.cwr_check.specs.CheckText.{fault_text, verdict_text, place_text
 ghost use Rattle.cwr_check.specs.LinesSoFar.{IsPlaceOf};
 
 use cwr_call::Fault;
-use cwr_field::{Memory, put_decimal, put_digits};
-use cwr_record::WorkKind;
+use cwr_field::{Memory, put_decimal};
+use cwr_record::{Column, LineRoom, Piece, WorkKind};
 use std::alloc::Allocator;
+
+/// Of a transaction's line: its group id.
+const GROUP: Column = Column { start: 1, width: 5 };
+/// The blank behind the group id.
+const AFTER_GROUP: Column = Column { start: 6, width: 1 };
+/// Its transaction sequence.
+const SEQUENCE: Column = Column { start: 7, width: 8 };
+/// The blank behind the sequence.
+const AFTER_SEQUENCE: Column = Column {
+    start: 15,
+    width: 1,
+};
+/// Its kind, with the blank behind it.
+const KIND: Column = Column {
+    start: 16,
+    width: 4,
+};
+/// How many bytes the fields of fixed place take.
+const PLACE_WIDTH: usize = KIND.start + KIND.width - 1;
 
 /// Where a transaction stands in its file, and its kind.
 #[derive(Clone, Copy)]
@@ -41,12 +60,13 @@ fn put_place<A: Allocator>(out: &mut Vec<u8, A>, place: Place) -> Result<(), Mem
     requires sequence { place.sequence < 10 ^ 8 }
     ensures { OnOk result ((t : RawParts) → IsPlaceOf place t → out.new.items ≡ out.old.items ++ place_text t) }
 {
-    put_digits(out, place.group as u64, 5)?;
-    out.extend_from_slice(b" ")?;
-    put_digits(out, place.sequence as u64, 8)?;
-    out.extend_from_slice(b" ")?;
-    out.extend_from_slice(place.kind.code())?;
-    out.extend_from_slice(b" ")?;
+    let mut line = LineRoom::<PLACE_WIDTH>::new();
+    line.put(&Piece::Digits(place.group as u64, GROUP));
+    line.put(&Piece::Text(b" ", AFTER_GROUP));
+    line.put(&Piece::Digits(place.sequence as u64, SEQUENCE));
+    line.put(&Piece::Text(b" ", AFTER_SEQUENCE));
+    line.put(&Piece::Text(place.kind.code(), KIND));
+    out.extend_from_slice(line.bytes())?;
     Ok(())
 }
 

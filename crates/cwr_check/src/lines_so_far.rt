@@ -114,8 +114,8 @@ impl<A: Allocator + Copy> Visitor for LinesSoFar<A> {
         let Some(judge) = &self.judge else {
             unreachable!()
         };
-        let call = judge.end(self.submitter)?;
-        self.tell(call.faults())?;
+        let faults = judge.faults()?;
+        self.tell(faults.as_slice())?;
         self.judge = None;
         Ok(())
     }

@@ -5,7 +5,7 @@ ghost use Rattle.cwr_grammar.specs.RawParts.{RawParts};
 ghost use Rattle.cwr_record.specs.RecordTypes.{type_of};
 ghost use Rattle.cwr_record.specs.declared.works.WorkKind.{WorkKind};
 ghost use Rattle.cwr_rules.specs.Collected.{found_in, kept_at};
-ghost use Rattle.cwr_rules.specs.Calls.{call_of};
+ghost use Rattle.cwr_rules.specs.Calls.{call_in, call_of};
 ghost use Rattle.cwr_rules.specs.Faults.{faults_of};
 ghost use Rattle.cwr_rules.specs.KeptHead.{kept_head};
 ghost use Rattle.cwr_rules.specs.Judging.{IsJudging};
@@ -76,6 +76,16 @@ impl<A: Allocator + Copy> Judge<A> {
     {
         self.read.take(line, record_type)?;
         Ok(())
+    }
+
+    /// The faults of the transaction whose lines were taken, in order, as its call has them. Memory is asked for only
+    /// where there is one.
+    pub fn faults(&self) -> Result<Faults<A>, Memory>
+        requires open { (kind : WorkKind) × (lines : List (List ℕ)) × IsJudging self.now kind lines × (length lines ≤ most_count + 1) }
+        ensures { IfOk result (λ faults. (submitter : List ℕ) (kind : WorkKind) (lines : List (List ℕ)) → IsJudging self.now kind lines → faults ≡ (call_in submitter kind lines).faults) }
+    {
+        let faults = faults_of(self.alloc, &self.header, &self.read)?;
+        Ok(Faults::new(faults))
     }
 
     /// The call of the transaction whose lines were taken. Memory is asked for only where it has faults.

@@ -1,5 +1,4 @@
 use Rattle.std.proofs.Common.{List, [], ◌∷◌, ◌++◌, ℕ, ap, sym, subst, ◌∙◌}
-use Rattle.cwr_call.specs.CallValue.{CallValue}
 use Rattle.cwr_check.specs.LinesSoFar.{IsTold, IsJudgedAt}
 use Rattle.cwr_check.specs.declared.lines_so_far.LinesSoFar.{LinesSoFar}
 use Rattle.cwr_check.proofs.lines_so_far.LinesSoFarVisitor.end.Goals as goal
@@ -8,6 +7,6 @@ pub returns : goal.returns
 returns g c = λ first whole t kept.
     let same = ap (λ (l : LinesSoFar g.row.A.Denot). l.submitter) c.in_ok-tell.ensures.same in
     let here : IsJudgedAt c.args.self.now.place c.in-Some.judge t = rw c.in-Some.is at kept.2 in
-    let faults = c.faults.ensures.value ∙ ap (λ (x : CallValue). x.faults) (c.in_ok-call.ensures t here.judging) in
+    let faults = c.as_slice.ensures ∙ c.in_ok-faults.ensures c.args.self.now.submitter t.kind t.lines here.judging in
     let P : List ℕ → Type 0 = λ s. IsTold s c.tell.new.self.text.items c.tell.new.self.transactions c.tell.new.self.faulty (whole ++ t ∷ []) in
     (same ∙ kept.0, subst P (sym same) (c.in_ok-tell.ensures.told whole t here.place_is faults kept.1), tt)
