@@ -177,21 +177,39 @@ inline come_in() {
     od
 }
 
+/* Who left nobody behind in line calls a sleeper. */
 inline call_a_sleeper() {
     if
-    :: called == 1
-    :: atomic { called == 0 -> called = 1 }; notify_one(DOOR)
+    :: atomic { seen != LINE - 1 -> seen = 0 }
+    :: atomic { seen == LINE - 1 -> seen = 0 };
+       if
+       :: called == 1
+       :: atomic { called == 0 -> called = 1 }; notify_one(DOOR)
+       fi
     fi
 }
 
-inline make_room() {
+inline see_room() {
+    seen = free
+}
+
+inline add_room() {
     atomic { free++; ticket = 0; turns++ }
 }
 
+inline make_room() {
+    atomic { seen = free; free++; ticket = 0; turns++ }
+}
+
 inline go_out() {
-#ifdef DOOR_WAKES_FIRST
+#if defined(DOOR_WAKES_FIRST)
+    see_room();
     call_a_sleeper();
-    make_room()
+    add_room()
+#elif defined(DOOR_COUNTS_IN_TWO_STEPS)
+    see_room();
+    add_room();
+    call_a_sleeper()
 #else
     make_room();
     call_a_sleeper()

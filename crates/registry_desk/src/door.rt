@@ -12,7 +12,8 @@ const LINE: u64 = 2;
 ///
 /// It bears on time alone, since a seat is let in by the flag of its ticket. With all seats in line each turn wakes
 /// another thread, which takes many times as long as the turn. With a short line the next seat is awake when its turn
-/// comes, and the one that leaves may come again at once.
+/// comes, and the one that leaves may come again at once. So the seats that are in line go on by turns, and a sleeper is
+/// called only by one that leaves nobody behind: called at each turn, it would find the line full again.
 #[derive(Drop)]
 pub(crate) struct Door {
     /// How many more seats may stand in line.
@@ -60,10 +61,11 @@ impl Door {
         }
     }
 
-    /// Leaves the line, and calls a sleeper, unless one is called already.
+    /// Leaves the line. Who leaves nobody behind calls a sleeper, unless one is called already: whoever is left in line
+    /// calls when it leaves.
     pub(crate) fn go_out(&self) {
-        self.free.fetch_add(1, SeqCst);
-        if !self.called.swap(true, SeqCst) {
+        let free = self.free.fetch_add(1, SeqCst);
+        if free == LINE - 1 && !self.called.swap(true, SeqCst) {
             self.sleepers.notify_one();
         }
     }
