@@ -6,11 +6,20 @@ use std::alloc::{AllocError, Global};
 
 /// The program's name, what it does without words, and its commands.
 pub(crate) fn command_line<'a>(alloc: Global) -> Result<Command<'a>, AllocError> {
-    Command::new(alloc, "purvilgo")
-        .about("Acknowledges a CWR 2.2 file from standard input to standard output")
-        .subcommand(run_command(alloc)?)?
-        .subcommand(check_command(alloc)?)?
-        .subcommand(audit_command(alloc)?)
+    let line = Command::new(alloc, "purvilgo").about(
+        "Acknowledges a CWR 2.2 file from standard input to standard output",
+    );
+    let line = with_command(line, run_command(alloc))?;
+    let line = with_command(line, check_command(alloc))?;
+    with_command(line, audit_command(alloc))
+}
+
+/// A command line with a command more, where there was memory for it.
+pub(crate) fn with_command<'a>(
+    line: Command<'a>,
+    command: Result<Command<'a>, AllocError>,
+) -> Result<Command<'a>, AllocError> {
+    line.subcommand(command?)
 }
 
 /// `check [--long] [--json] [--verbose] FILE`. Its list of options leaves them out, and stays as it was.

@@ -1,6 +1,7 @@
 //! The command lines of `explain`, of the tables, of the summary and of `verify`. They stand apart, so that the list of
 //! commands that the reader prints for `--help`, its other texts and its guesses stay as they were.
 
+use crate::command_line::with_command;
 use crate::explain::{explain_command, explain_rules};
 use crate::status::bad_words;
 use crate::tables::{
@@ -26,13 +27,13 @@ pub(crate) fn names_further(words: &[String]) -> bool {
 
 /// The program's name, and these commands.
 pub(crate) fn further_line<'a>(alloc: Global) -> Result<Command<'a>, AllocError> {
-    Command::new(alloc, "purvilgo")
-        .subcommand(explain_command(alloc)?)?
-        .subcommand(claims_command(alloc)?)?
-        .subcommand(works_command(alloc)?)?
-        .subcommand(history_command(alloc)?)?
-        .subcommand(summary_command(alloc)?)?
-        .subcommand(verify_command(alloc)?)
+    let line = Command::new(alloc, "purvilgo");
+    let line = with_command(line, explain_command(alloc))?;
+    let line = with_command(line, claims_command(alloc))?;
+    let line = with_command(line, works_command(alloc))?;
+    let line = with_command(line, history_command(alloc))?;
+    let line = with_command(line, summary_command(alloc))?;
+    with_command(line, verify_command(alloc))
 }
 
 /// Runs the one that the words name.

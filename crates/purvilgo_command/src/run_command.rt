@@ -14,11 +14,6 @@ use std::process::ExitCode;
 /// `run --society NNN --name TEXT --date YYYYMMDD --time HHMMSS [--from REGISTER] [--to REGISTER] [--in-turn]
 /// [--no-clobber] [--verbose] FILE..`
 pub(crate) fn run_command<'a>(alloc: Global) -> Result<Command<'a>, AllocError> {
-    let files = Arg::new(alloc, "FILE")
-        .action(ArgAction::Append)
-        .num_args(1..)
-        .required(true)
-        .help("a CWR 2.2 file");
     Command::new(alloc, "run")
         .about("Acknowledges CWR 2.2 files, the acknowledgement of FILE in FILE.ack")
         .arg(option(alloc, "society", "NNN", "number of the society").required(true))?
@@ -30,7 +25,16 @@ pub(crate) fn run_command<'a>(alloc: Global) -> Result<Command<'a>, AllocError> 
         .arg(flag(alloc, "in-turn", "one file after another, in their order"))?
         .arg(flag(alloc, "no-clobber", "write over no acknowledgement"))?
         .arg(verbose_flag(alloc))?
-        .arg(files)
+        .arg(files_to_run(alloc))
+}
+
+/// The files of a run, one or more.
+fn files_to_run<'a>(alloc: Global) -> Arg<'a> {
+    Arg::new(alloc, "FILE")
+        .action(ArgAction::Append)
+        .num_args(1..)
+        .required(true)
+        .help("a CWR 2.2 file")
 }
 
 /// An option with one value, which is given at most once.

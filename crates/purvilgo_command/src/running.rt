@@ -1,6 +1,7 @@
 //! The command `run`: files are acknowledged at one book, each on a thread of its own or one after another.
 
-ghost use Rattle.std.specs.Prelude.{◌≡◌, ◌<◌, ◌≤◌, All, IfOk, false, length, vec_len};
+ghost use Rattle.std.specs.Prelude.{◌≡◌, ◌<◌, ◌≤◌, All, IfOk, false, true, length, vec_len};
+ghost use Rattle.work_registry.specs.Replay.{is_opening};
 
 use crate::files::InputFile;
 use crate::keeping::{Waiting, keep_run};
@@ -11,7 +12,7 @@ use crate::same_files::is_one_file_twice;
 use crate::status::{bad_words, no_memory};
 use crate::targets::Targets;
 use clap::ArgMatches;
-use cwr_desk::{FileOutcome, Job, OpenGate, Run, outcome_line, serve, serve_in_turn};
+use cwr_desk::{Book, FileOutcome, Job, OpenGate, Run, outcome_line, serve, serve_in_turn};
 use cwr_field::Memory;
 use cwr_record::Stamp;
 use kept_file::{Exclusive, FileNames};
@@ -77,9 +78,26 @@ where
     R::Dir: Send,
     requires few { length words.now.files.now < 64 }
 {
-    let Some(book) = opening_book(rt, words.from, words.verbose) else {
-        return ExitCode::FAILURE;
-    };
+    match opening_book(rt, words.from, words.verbose) {
+        Some(book) => run_at(rt, words, stamp, targets, book),
+        None => ExitCode::FAILURE,
+    }
+}
+
+/// The same at a book, all of whose entries are of the opening.
+fn run_at<R: AllocGlobal + Print + Eprint + Files + Threads + Wait + Sync>(
+    rt: &R,
+    words: &RunWords,
+    stamp: &Stamp,
+    targets: &Targets,
+    book: Book,
+) -> ExitCode
+where
+    R::File: Send,
+    R::Dir: Send,
+    requires few { length words.now.files.now < 64 }
+    requires opening { is_opening book.history ≡ true }
+{
     let made = jobs_of(rt, words.files, &targets.answers, words);
     let room = Waiting::room_for(rt.alloc(), words.files.len());
     let (Ok(jobs), Ok(waiting)) = (made, room) else {
@@ -90,9 +108,20 @@ where
     } else {
         serve(rt, rt.alloc(), jobs, book, stamp, &OpenGate)
     };
-    let Ok(run) = served else {
-        return no_memory(rt);
-    };
+    match served {
+        Ok(run) => end_run(rt, words, targets, run, waiting),
+        Err(_) => no_memory(rt),
+    }
+}
+
+/// Tells how the jobs of a run ended, and keeps what they left.
+fn end_run<'a, R: AllocGlobal + Print + Eprint + Files>(
+    rt: &'a R,
+    words: &RunWords,
+    targets: &'a Targets,
+    run: Run<InputFile<'a, R>, OutputFile<'a, R>>,
+    waiting: Waiting<'a>,
+) -> ExitCode {
     let Run {
         book,
         outcomes,
