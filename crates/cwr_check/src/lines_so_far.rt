@@ -17,6 +17,7 @@ use std::alloc::Allocator;
 #[derive(Drop)]
 pub(crate) struct LinesSoFar<A: Allocator> {
     alloc: A,
+    /// Who submits the file, for contracts: the text is told of its calls, and no fault of them depends on it.
     submitter: [u8; 11],
     text: Vec<u8, A>,
     /// How many transactions were judged.
