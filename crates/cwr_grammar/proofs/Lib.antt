@@ -25,3 +25,4 @@ pub mod RoleLaw
 pub mod Visits
 pub mod ReadFurther
 pub mod AwaitedNumbers
+pub mod NextDetail

@@ -1,9 +1,11 @@
 -- The sequence numbers that the next detail of a file is to have, as their digits.
-use Rattle.std.specs.Prelude.{ℕ, ◌+◌, ◌-◌, ◌≡◌}
+use Rattle.std.specs.Prelude.{ℕ, ◌+◌, ◌-◌, ◌≡◌, Some}
 use Rattle.std.specs.Int.{w64, from_be_bytes}
 use Rattle.cwr_field.specs.Number.{number_text}
 use Rattle.cwr_grammar.specs.declared.awaited.Awaited.{Awaited}
 use Rattle.cwr_grammar.specs.declared.file_counts.FileCounts.{FileCounts}
+use Rattle.cwr_grammar.specs.declared.role.Role.{Role}
+use Rattle.cwr_grammar.specs.declared.role.Role.TheVariants.{Detail}
 
 -- the last eight digits of a number, as one number, the first byte highest
 unfoldable pub digits_of : ℕ → ℕ
@@ -13,3 +15,7 @@ digits_of n = from_be_bytes w64 (number_text 8 n)
 pub record Awaits (counts : FileCounts) (awaited : Awaited) : Type 0 where
   pub transaction : awaited.transaction ≡ digits_of (counts.transactions - 1)
   pub detail : awaited.detail ≡ digits_of (counts.details + 1)
+
+-- the next detail of the transaction that began last
+abbrev pub next_detail : FileCounts → Role
+next_detail counts = Detail (Some (counts.transactions - 1)) (Some (counts.details + 1))

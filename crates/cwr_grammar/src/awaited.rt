@@ -3,7 +3,7 @@ ghost use Rattle.std.specs.Int.{w64, from_be_bytes};
 ghost use Rattle.cwr_field.specs.Number.{number_of};
 ghost use Rattle.cwr_record.specs.Columns.{field_at};
 ghost use Rattle.cwr_record.specs.Ranges.{is_in_line};
-ghost use Rattle.cwr_grammar.specs.Awaited.{Awaits, digits_of};
+ghost use Rattle.cwr_grammar.specs.Awaited.{Awaits, digits_of, next_detail};
 ghost use Rattle.cwr_grammar.specs.Counted.{counts_of, AreSmall};
 ghost use Rattle.cwr_grammar.specs.Roles.{role_at, detail};
 ghost use Rattle.cwr_grammar.specs.declared.role.Role.{Role};
@@ -34,27 +34,28 @@ impl Awaited {
         }
     }
 
-    /// The role of a line with a record of this type, where it is the next detail.
+    /// Whether a line with a record of this type is the next detail.
     #[inline(always)]
-    pub(crate) fn role(
-        &self,
-        counts: &FileCounts,
-        record_type: RecordType,
-        line: &[u8],
-    ) -> Option<Role>
+    pub(crate) fn is_next(&self, counts: &FileCounts, record_type: RecordType, line: &[u8]) -> bool
         requires small { AreSmall counts.now }
         requires awaits { Awaits counts.now self.now }
-        ensures { IfSome result (λ role. role ≡ role_at record_type line.now) }
+        ensures { result ≡ true → role_at record_type line.now ≡ next_detail counts.now }
     {
-        let is_next = is_detail(record_type)
+        is_detail(record_type)
             && counts.lines < MOST_COUNT as u64
             && packed_at(line, Prefix::TRANSACTION) == self.transaction
-            && packed_at(line, Prefix::DETAIL) == self.detail;
-        if !is_next {
-            return None;
-        }
-        let transaction = counts.transactions.saturating_sub(1);
-        Some(Role::Detail(Some(transaction), Some(counts.details + 1)))
+            && packed_at(line, Prefix::DETAIL) == self.detail
+    }
+
+    /// Goes past a detail, or another line that begins nothing. It is still to be counted.
+    #[inline(always)]
+    pub(crate) fn pass_line(&mut self, counts: &FileCounts)
+        requires small { AreSmall counts.now }
+        requires awaits { Awaits counts.now self.old }
+        ensures transaction { self.new.transaction ≡ self.old.transaction }
+        ensures detail { self.new.detail ≡ digits_of (counts.now.details + 2) }
+    {
+        self.detail = next_digits(self.detail, counts.details + 1);
     }
 
     /// Goes past a line of a role, which is still to be counted.
@@ -65,13 +66,13 @@ impl Awaited {
         ensures { (before : List Role) → counts.now ≡ counts_of before → Awaits (counts_of (role.now ∷ before)) self.new }
     {
         match *role {
-            Role::Detail(_, _) => self.detail = next_digits(self.detail, counts.details + 1),
+            Role::Detail(_, _) => self.pass_line(counts),
             Role::TransactionHeader(_, _, _) => {
                 self.transaction = digits_of(counts.transactions);
                 self.detail = digits_of(1);
             }
             Role::GroupHeader(_, _) => *self = Awaited::new(),
-            _ => self.detail = next_digits(self.detail, counts.details + 1),
+            _ => self.pass_line(counts),
         }
     }
 }

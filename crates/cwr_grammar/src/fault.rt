@@ -12,7 +12,7 @@ use crate::role::Role;
 use cwr_field::is_printable;
 
 /// The bytes that a line may have at most, up to the end of the file.
-const LONGEST_LINE: usize = 4096;
+pub(crate) const LONGEST_LINE: usize = 4096;
 
 /// The least fault of the next line, where the file did not end before it.
 #[inline(always)]

@@ -51,15 +51,24 @@ impl FileCounts {
         }
     }
 
-    /// FileCounts a line that has no fault.
+    /// Counts a line that has no fault, and begins and ends nothing.
+    #[inline(always)]
+    pub(crate) fn add_line(&mut self)
+        requires small { AreSmall self.old }
+        ensures { self.new ≡ record self.old { lines = self.old.lines + 1; group_lines = self.old.group_lines + 1; details = self.old.details + 1 } }
+    {
+        self.lines += 1;
+        self.group_lines += 1;
+        self.details += 1;
+    }
+
+    /// Counts a line that has no fault.
     #[inline(always)]
     pub(crate) fn add(&mut self, role: &Role)
         requires small { AreSmall self.old }
         ensures { (before : List Role) → self.old ≡ counts_of before → self.new ≡ counts_of (role.now ∷ before) }
     {
-        self.lines += 1;
-        self.group_lines += 1;
-        self.details += 1;
+        self.add_line();
         match *role {
             Role::GroupHeader(kind, _) => {
                 self.groups += 1;

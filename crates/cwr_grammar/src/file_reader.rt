@@ -1,7 +1,9 @@
 ghost use Rattle.std.specs.Prelude.{◌≡◌, ◌+◌, ◌≤◌, ◌<◌, ◌==◌, ◌^◌, ℕ, List, None, true, false, drop, length, IfOk, IfErr, OnOk};
 ghost use Rattle.std.specs.List.{position};
 ghost use Rattle.std.specs.Str.Lines.{lines};
+ghost use Rattle.cwr_grammar.specs.Awaited.{next_detail};
 ghost use Rattle.cwr_grammar.specs.FaultTests.{has_control, is_tail};
+ghost use Rattle.cwr_grammar.specs.File.{IsPlain};
 ghost use Rattle.cwr_grammar.specs.ReadUpTo.{IsNextLine, IsReadUpTo, StandsAt, HeadAfter, at_start};
 ghost use Rattle.cwr_record.specs.RecordTypes.{type_of};
 ghost use Rattle.cwr_grammar.specs.Roles.{role_of};
@@ -12,7 +14,7 @@ ghost use Rattle.cwr_grammar.specs.declared.role.Role.TheVariants.{FileHeader};
 
 use crate::awaited::Awaited;
 use crate::envelope::Envelope;
-use crate::fault::{fault_of, is_tail};
+use crate::fault::{LONGEST_LINE, fault_of, is_tail};
 use crate::file_counts::FileCounts;
 use crate::lines::first_line;
 use crate::refusal::FileRefusal;
@@ -39,6 +41,7 @@ pub struct FileReader {
 }
 
 impl Model for FileReader {
+    ghost use Rattle.std.specs.Prelude.{◌≡◌, true, false};
     ghost use Rattle.cwr_grammar.specs.Awaited.{Awaits};
     ghost use Rattle.cwr_grammar.specs.ReadUpTo.{ReaderState};
 
@@ -46,7 +49,7 @@ impl Model for FileReader {
 
     ghost view = { λ r. record { counts = r.counts; is_open = r.is_open; header = r.header; tail = r.tail } };
 
-    ghost invariant = { λ r. Awaits r.counts r.awaited };
+    ghost invariant = { λ r. Awaits r.counts r.awaited × (r.is_open ≡ true → r.counts.is_ended ≡ false) };
 }
 
 impl FileReader {
@@ -142,19 +145,58 @@ impl FileReader {
         ensures taken { OnOk result ((first : V) (text : List ℕ) (at n : ℕ) → IsNextLine line.now text at n → IsReadUpTo (V.keeps first visitor.old) self.old text at → IsReadUpTo (V.keeps first visitor.new) self.new text (at + n)) }
         ensures fault { IfErr result (λ refusal. (first : V) (text : List ℕ) (at n : ℕ) → IsNextLine line.now text at n → IsReadUpTo (V.keeps first visitor.old) self.old text at → IsRefusal (lines text) refusal) }
     {
+        // Most lines are the next detail of the open transaction.
+        if self.is_open && is_clean && line.len() <= LONGEST_LINE {
+            let record_type = type_of(line);
+            if self.awaited.is_next(&self.counts, record_type, line) {
+                return self.take_detail(visitor, line, record_type);
+            }
+        }
+        self.take_other(visitor, line, is_clean)
+    }
+
+    /// Goes past the next detail of the open transaction, which so has no fault.
+    #[inline(always)]
+    fn take_detail<V: Visitor>(
+        &mut self,
+        visitor: &mut V,
+        line: &[u8],
+        record_type: RecordType,
+    ) -> Result<(), FileRefusal>
+        requires opened { self.old.is_open ≡ true }
+        requires goes { self.old.counts.is_ended ≡ false }
+        requires plain { IsPlain line.now }
+        requires read { record_type ≡ type_of line.now }
+        requires role { role_of line.now ≡ next_detail self.old.counts }
+        requires next { (first : V) × (text : List ℕ) × (at : ℕ) × (n : ℕ) × IsReadUpTo (V.keeps first visitor.old) self.old text at × IsNextLine line.now text at n × (at + n < 2 ^ 63) }
+        ensures taken { OnOk result ((first : V) (text : List ℕ) (at n : ℕ) → IsNextLine line.now text at n → IsReadUpTo (V.keeps first visitor.old) self.old text at → IsReadUpTo (V.keeps first visitor.new) self.new text (at + n)) }
+        ensures fault { IfErr result (λ refusal. (first : V) (text : List ℕ) (at n : ℕ) → IsNextLine line.now text at n → IsReadUpTo (V.keeps first visitor.old) self.old text at → IsRefusal (lines text) refusal) }
+    {
+        visitor.detail(line, record_type)?;
+        self.awaited.pass_line(&self.counts);
+        self.counts.add_line();
+        Ok(())
+    }
+
+    /// Goes past the next line, whatever it is.
+    fn take_other<V: Visitor>(
+        &mut self,
+        visitor: &mut V,
+        line: &[u8],
+        is_clean: bool,
+    ) -> Result<(), FileRefusal>
+        requires clean { is_clean ≡ true → has_control line.now ≡ false }
+        requires next { (first : V) × (text : List ℕ) × (at : ℕ) × (n : ℕ) × IsReadUpTo (V.keeps first visitor.old) self.old text at × IsNextLine line.now text at n × (at + n < 2 ^ 63) }
+        ensures taken { OnOk result ((first : V) (text : List ℕ) (at n : ℕ) → IsNextLine line.now text at n → IsReadUpTo (V.keeps first visitor.old) self.old text at → IsReadUpTo (V.keeps first visitor.new) self.new text (at + n)) }
+        ensures fault { IfErr result (λ refusal. (first : V) (text : List ℕ) (at n : ℕ) → IsNextLine line.now text at n → IsReadUpTo (V.keeps first visitor.old) self.old text at → IsRefusal (lines text) refusal) }
+    {
         if self.counts.is_ended {
             self.take_tail(line)?;
             return Ok(());
         }
         let record_type = type_of(line);
-        // The next detail, which most lines are, has its own code.
-        match self.awaited.role(&self.counts, record_type, line) {
-            Some(role) => self.take_as(visitor, line, is_clean, record_type, role),
-            None => {
-                let role = role_at(record_type, line);
-                self.take_as(visitor, line, is_clean, record_type, role)
-            }
-        }
+        let role = role_at(record_type, line);
+        self.take_as(visitor, line, is_clean, record_type, role)
     }
 
     /// Goes past the next line, of this role, before the file's end.

@@ -5,6 +5,7 @@ use Rattle.cwr_grammar.specs.FirstFault.{role_fault}
 use Rattle.cwr_grammar.specs.ReadUpTo.{ReaderState, IsReadUpTo}
 use Rattle.cwr_grammar.specs.Roles.{role_of}
 use Rattle.cwr_grammar.proofs.Controls.{printable}
+use Rattle.cwr_grammar.proofs.NextDetail.{open_goes_on}
 use Rattle.cwr_grammar.proofs.Numbers.{fits_header, clear_role, clear_control}
 use Rattle.cwr_grammar.proofs.OneLineFurther.{going_small, line_faulty}
 use Rattle.cwr_grammar.proofs.ReadFurther.{valid_header, one_next, line_taken}
@@ -85,5 +86,8 @@ invariant_of-self g c =
     let q = c.requires.next in
     let read = subst (λ (s : ReaderState). IsReadUpTo (g.V.Visitor.keeps q.0 c.args.visitor.now) s q.1 q.2) (sym c.self.view_is) q.4 in
     let r = read.goes (ap (λ (s : ReaderState). s.counts.is_ended) c.self.view_is ∙ c.requires.goes) in
-    subst (λ (s : FileCounts). Awaits s c.pass.new.self) (sym (c.add.ensures (map role_of r.before) r.visiting.going.counted))
-    (c.pass.ensures (map role_of r.before) r.visiting.going.counted)
+    let counted = c.add.ensures (map role_of r.before) r.visiting.going.counted in
+    let goes = sym (ap (λ (s : FileCounts). s.is_ended) r.visiting.going.counted) ∙ ap (λ (s : ReaderState). s.counts.is_ended) c.self.view_is ∙ c.requires.goes in (
+      subst (λ (s : FileCounts). Awaits s c.pass.new.self) (sym counted) (c.pass.ensures (map role_of r.before) r.visiting.going.counted),
+      (λ opens. ap (λ (s : FileCounts). s.is_ended) counted ∙ open_goes_on c.args.role (map role_of r.before) goes (sym c.in_ok-self-inside.ensures.is_open ∙ opens)),
+    )

@@ -1,25 +1,11 @@
-use Rattle.std.proofs.Common.{◌∙◌, sym, ap, subst, arith}
-use Rattle.std.proofs.lemmas.Result.{err_from_is_err_and}
+use Rattle.std.proofs.Common.{sym, subst, arith}
 use Rattle.cwr_grammar.specs.ReadUpTo.{ReaderState, IsReadUpTo}
 use Rattle.cwr_grammar.proofs.OneLineFurther.{going_small}
-use Rattle.cwr_grammar.proofs.ReadFurther.{tail_taken, tail_faulty}
 use Rattle.cwr_grammar.proofs.file_reader.FileReader.take_line.Goals as goal
 
-pub returns-in_err-take_tail-clause-fault : goal.returns-in_err-take_tail-clause-fault
-returns-in_err-take_tail-clause-fault g c =
-    let p = err_from_is_err_and c.from_residual.result c.from_residual.ensures.1 in
-    let ended = ap (λ (s : ReaderState). s.counts.is_ended) (sym c.self.view_is) ∙ c.if-self.true in
-    rw (p.1, p.2) (λ first text at n here so_far.
-    rw (c.in_err-take_tail.ensures.faulty.1) (tail_faulty _ _ text at n c.args.line.now so_far ended here c.in_err-take_tail.ensures.faulty.0))
-
-pub returns-then-self-clause-taken : goal.returns-then-self-clause-taken
-returns-then-self-clause-taken g c = λ first text at n here so_far.
-    let ended = ap (λ (s : ReaderState). s.counts.is_ended) (sym c.self.view_is) ∙ c.if-self.true in
-    rw c.in_ok-take_tail.ensures.new (tail_taken _ _ _ text at n c.args.line.now so_far ended here c.in_ok-take_tail.ensures.taken (λ whole kept. kept))
-
-pub role-requires-clause-small : goal.role-requires-clause-small
-role-requires-clause-small g c =
+pub is_next-requires-clause-small : goal.is_next-requires-clause-small
+is_next-requires-clause-small g c =
     let q = c.requires.next in
     let read = subst (λ (s : ReaderState). IsReadUpTo (g.V.Visitor.keeps q.0 c.args.visitor.now) s q.1 q.2) (sym c.self.view_is) q.4 in
-    let r = read.goes c.if-self.false in
+    let r = read.goes (c.self.invariant.1 c.if-self.true) in
     going_small _ _ _ _ r.visiting.going (omega (arith, q.6))

@@ -1,0 +1,17 @@
+use Rattle.std.proofs.Common.{◌∙◌, sym, ap}
+use Rattle.std.proofs.lemmas.Result.{err_from_is_err_and}
+use Rattle.cwr_grammar.specs.ReadUpTo.{ReaderState}
+use Rattle.cwr_grammar.proofs.ReadFurther.{tail_taken, tail_faulty}
+use Rattle.cwr_grammar.proofs.file_reader.FileReader.take_other.Goals as goal
+
+pub returns-in_err-take_tail-clause-fault : goal.returns-in_err-take_tail-clause-fault
+returns-in_err-take_tail-clause-fault g c =
+    let p = err_from_is_err_and c.from_residual.result c.from_residual.ensures.1 in
+    let ended = ap (λ (s : ReaderState). s.counts.is_ended) (sym c.self.view_is) ∙ c.if-self.true in
+    rw (p.1, p.2) (λ first text at n here so_far.
+    rw (c.in_err-take_tail.ensures.faulty.1) (tail_faulty _ _ text at n c.args.line.now so_far ended here c.in_err-take_tail.ensures.faulty.0))
+
+pub returns-then-self-clause-taken : goal.returns-then-self-clause-taken
+returns-then-self-clause-taken g c = λ first text at n here so_far.
+    let ended = ap (λ (s : ReaderState). s.counts.is_ended) (sym c.self.view_is) ∙ c.if-self.true in
+    rw c.in_ok-take_tail.ensures.new (tail_taken _ _ _ text at n c.args.line.now so_far ended here c.in_ok-take_tail.ensures.taken (λ whole kept. kept))
