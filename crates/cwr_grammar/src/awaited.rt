@@ -13,6 +13,9 @@ use crate::role::Role;
 use cwr_field::{MOST_COUNT, last_digits};
 use cwr_record::{Column, Prefix, RecordType, field_at};
 
+/// How many bytes the columns have that tell a detail from another: its record type and its sequence numbers.
+pub(crate) const PREFIX_SIZE: usize = 19;
+
 /// The sequence numbers of the next detail, each as its eight digits, and these as one number, the first byte highest: a
 /// line that has just these digits is not read as numbers.
 #[derive(Clone, Copy)]

@@ -5,24 +5,31 @@ ghost use Rattle.cwr_field.specs.Layout.{is_control};
 use cwr_field::LEAST_PRINTABLE;
 use std::simd::prelude::*;
 
-/// How many of 32 bytes come before the first control byte.
+/// How many bytes are looked at together.
+const BLOCK: usize = 64;
+
+/// How many bytes of a block come before the first control byte.
 fn before_control(text: &[u8], at: usize) -> u32
-    requires { at + 32 ≤ length text.now }
-    ensures { result ≡ position_or_len is_control (take 32 (drop at text.now)) }
+    requires { at + 64 ≤ length text.now }
+    ensures { result ≡ position_or_len is_control (take 64 (drop at text.now)) }
 {
-    let mask = u8x32::from_slice(&text[at..])
-        .simd_lt(u8x32::splat(LEAST_PRINTABLE))
-        .to_bitmask();
-    if mask == 0 { 32 } else { mask.trailing_zeros() }
+    if !has_control_in(text, at) {
+        return BLOCK as u32;
+    }
+    u8x64::from_slice(&text[at..])
+        .simd_lt(u8x64::splat(LEAST_PRINTABLE))
+        .to_bitmask()
+        .trailing_zeros()
 }
 
-/// Whether some of 64 bytes is a control byte.
+/// Whether a block has a control byte: the least of its bytes, taken two by two, tell it sooner than a mask of all.
 fn has_control_in(text: &[u8], at: usize) -> bool
     requires { at + 64 ≤ length text.now }
     ensures { result ≡ false → (k : ℕ) → at ≤ k → k < at + 64 → is_control (slice_index text.now k) ≡ false }
 {
-    u8x64::from_slice(&text[at..])
-        .simd_lt(u8x64::splat(LEAST_PRINTABLE))
+    u8x32::from_slice(&text[at..])
+        .simd_min(u8x32::from_slice(&text[at + 32..]))
+        .simd_lt(u8x32::splat(LEAST_PRINTABLE))
         .any()
 }
 
@@ -31,31 +38,37 @@ pub(crate) fn first_control(text: &[u8]) -> usize
     ensures { result ≡ position_or_len is_control text.now }
 {
     let mut at = 0;
-    while text.len() - at >= 64 && !has_control_in(text, at) {
-        at += 64;
-    }
-    while text.len() - at >= 32 {
+    while text.len() - at >= BLOCK {
         let before = before_control(text, at);
-        if before < 32 {
+        if before < BLOCK as u32 {
             return at + before as usize;
         }
-        at += 32;
+        at += BLOCK;
     }
-    if text.len() >= 32 {
-        return last_control(text);
+    if text.len() >= BLOCK {
+        last_control(text)
+    } else {
+        control_of_few(text)
     }
+}
+
+/// The index of the first control byte of a text of at least a block that has none but in its last block, or the length.
+fn last_control(text: &[u8]) -> usize
+    requires long { 64 ≤ length text.now }
+    requires before { (k : ℕ) → k + 64 < length text.now → is_control (slice_index text.now k) ≡ false }
+    ensures { result ≡ position_or_len is_control text.now }
+{
+    let start = text.len() - BLOCK;
+    start + before_control(text, start) as usize
+}
+
+/// The index of the first control byte of a short text, or the length, byte by byte.
+fn control_of_few(text: &[u8]) -> usize
+    ensures { result ≡ position_or_len is_control text.now }
+{
+    let mut at = 0;
     while at < text.len() && text[at] >= LEAST_PRINTABLE {
         at += 1;
     }
     at
-}
-
-/// The index of the first control byte of a text of at least 32 bytes that has none but in its last 32, or the length.
-fn last_control(text: &[u8]) -> usize
-    requires long { 32 ≤ length text.now }
-    requires before { (k : ℕ) → k + 32 < length text.now → is_control (slice_index text.now k) ≡ false }
-    ensures { result ≡ position_or_len is_control text.now }
-{
-    let start = text.len() - 32;
-    start + before_control(text, start) as usize
 }

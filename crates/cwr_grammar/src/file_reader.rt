@@ -12,7 +12,7 @@ ghost use Rattle.cwr_grammar.specs.Visiting.{WasGiven};
 ghost use Rattle.cwr_grammar.specs.declared.refusal.FileRefusal.TheVariants.{Fault};
 ghost use Rattle.cwr_grammar.specs.declared.role.Role.TheVariants.{FileHeader};
 
-use crate::awaited::Awaited;
+use crate::awaited::{Awaited, PREFIX_SIZE};
 use crate::envelope::Envelope;
 use crate::fault::{LONGEST_LINE, fault_of, is_tail};
 use crate::file_counts::FileCounts;
@@ -145,8 +145,9 @@ impl FileReader {
         ensures taken { OnOk result ((first : V) (text : List ℕ) (at n : ℕ) → IsNextLine line.now text at n → IsReadUpTo (V.keeps first visitor.old) self.old text at → IsReadUpTo (V.keeps first visitor.new) self.new text (at + n)) }
         ensures fault { IfErr result (λ refusal. (first : V) (text : List ℕ) (at n : ℕ) → IsNextLine line.now text at n → IsReadUpTo (V.keeps first visitor.old) self.old text at → IsRefusal (lines text) refusal) }
     {
-        // Most lines are the next detail of the open transaction.
-        if self.is_open && is_clean && line.len() <= LONGEST_LINE {
+        // Most lines are the next detail of the open transaction. One that is shorter than the columns that are read here
+        // is none, and where they are all there, no test of each is made.
+        if self.is_open && is_clean && line.len() >= PREFIX_SIZE && line.len() <= LONGEST_LINE {
             let record_type = type_of(line);
             if self.awaited.is_next(&self.counts, record_type, line) {
                 return self.take_detail(visitor, line, record_type);

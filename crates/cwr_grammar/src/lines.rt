@@ -1,7 +1,8 @@
 ghost use Rattle.std.specs.Prelude.{◌≡◌, ◌<◌, ◌≤◌, ◌==◌, ◌∷◌, ◌++◌, ◌⊎◌, ℕ, List, [], None, true, false, length, take, drop, IfSome, IfNone};
 ghost use Rattle.std.specs.Iterator.{YieldsFirstRef, item_count};
-ghost use Rattle.std.specs.List.{position};
+ghost use Rattle.std.specs.List.{position, position_or_len};
 ghost use Rattle.std.specs.Str.Lines.{lines, strip_carriage_return};
+ghost use Rattle.cwr_field.specs.Layout.{is_control};
 ghost use Rattle.cwr_grammar.specs.FaultTests.{has_control};
 
 use crate::control_bytes::first_control;
@@ -79,38 +80,72 @@ pub(crate) fn first_line(text: &[u8]) -> Option<FirstLine<'_>>
     if text.is_empty() {
         return None;
     }
-    match line_end(text) {
-        (Some(end), is_clean) => Some(FirstLine {
-            bytes: without_return(&text[..end]),
-            size: end + 1,
-            is_clean,
+    // The first byte below 32 is mostly the line's end.
+    let end = first_control(text);
+    match line_end(text, end) {
+        Some(size) => Some(FirstLine {
+            bytes: &text[..end],
+            size,
+            is_clean: true,
             is_whole: true,
         }),
-        (None, _) => Some(FirstLine {
+        None => Some(other_line(text)),
+    }
+}
+
+/// How many bytes the first line has with its end, where that begins with the first byte below 32.
+fn line_end(text: &[u8], end: usize) -> Option<usize>
+    requires { end ≡ position_or_len is_control text.now }
+    ensures some { IfSome result (λ size. end < size) }
+    ensures inside { IfSome result (λ size. size ≤ length text.now) }
+    ensures line { IfSome result (λ size. lines text.now ≡ take end text.now ∷ lines (drop size text.now)) }
+    ensures whole { IfSome result (λ size. (more : List ℕ) → lines (take size text.now ++ more) ≡ take end text.now ∷ lines more) }
+    ensures clean { IfSome result (λ size. has_control (take end text.now) ≡ false) }
+{
+    if end < text.len() && text[end] == b'\n' {
+        return Some(end + 1);
+    }
+    if end < text.len() && text[end] == b'\r' && end + 1 < text.len() && text[end + 1] == b'\n' {
+        return Some(end + 2);
+    }
+    None
+}
+
+/// The first line of a text that has bytes, whatever stands in it: its LF is looked for alone.
+fn other_line(text: &[u8]) -> FirstLine<'_>
+    requires { 0 < length text.now }
+    ensures line { lines text.now ≡ result.bytes.now ∷ lines (drop result.size text.now) }
+    ensures some { 0 < result.size }
+    ensures inside { result.size ≤ length text.now }
+    ensures clean { result.is_clean ≡ true → has_control result.bytes.now ≡ false }
+
+    // Its bytes are the whole text, or are a line with its end before any other bytes too.
+    ensures whole { (length text.now ≤ result.size) ⊎ ((more : List ℕ) → lines (take result.size text.now ++ more) ≡ result.bytes.now ∷ lines more) }
+    ensures ended { result.is_whole ≡ true → (more : List ℕ) → lines (take result.size text.now ++ more) ≡ result.bytes.now ∷ lines more }
+    ensures unended { result.is_whole ≡ false → position (λ b. b == 10) text.now ≡ None }
+{
+    match newline_in(text) {
+        Some(end) => FirstLine {
+            bytes: without_return(&text[..end]),
+            size: end + 1,
+            is_clean: false,
+            is_whole: true,
+        },
+        None => FirstLine {
             bytes: text,
             size: text.len(),
             is_clean: false,
             is_whole: false,
-        }),
+        },
     }
 }
 
-/// The index of the first LF, and whether the line before it is known to have no byte below 32.
-///
-/// The first byte below 32 is mostly the line's end. Where it is not, the LF is looked for alone.
-fn line_end(text: &[u8]) -> (Option<usize>, bool)
-    ensures value { result.0 ≡ position (λ b. b == 10) text.now }
-    ensures inside { IfSome result.0 (λ end. end < length text.now) }
-    ensures clean { result.1 ≡ true → IfSome result.0 (λ end. has_control (strip_carriage_return (take end text.now)) ≡ false) }
+/// The index of the first LF.
+fn newline_in(text: &[u8]) -> Option<usize>
+    ensures value { result ≡ position (λ b. b == 10) text.now }
+    ensures inside { IfSome result (λ end. end < length text.now) }
 {
-    let end = first_control(text);
-    if end < text.len() && text[end] == b'\n' {
-        return (Some(end), true);
-    }
-    if end < text.len() && text[end] == b'\r' && end + 1 < text.len() && text[end + 1] == b'\n' {
-        return (Some(end + 1), true);
-    }
-    (text.iter().position(|byte| *byte == b'\n'), false)
+    text.iter().position(|byte| *byte == b'\n')
 }
 
 /// The bytes of a line that an LF ended, less one CR at their end.

@@ -1,8 +1,9 @@
-use Rattle.cwr_grammar.proofs.Controls.{zero_mask, some_mask}
+use Rattle.std.proofs.Common.{refl}
+use Rattle.cwr_grammar.proofs.Controls.{none_tells, mask_tells}
 use Rattle.cwr_grammar.proofs.control_bytes.before_control.Goals as goal
 
-pub returns-then-mask-eq0 : goal.returns-then-mask-eq0
-returns-then-mask-eq0 c = zero_mask c.args.text.now c.args.at c.requires c.if-mask-eq0.true
+pub returns-then-not-has_control_in : goal.returns-then-not-has_control_in
+returns-then-not-has_control_in c = none_tells c.args.text.now c.args.at c.requires (c.if-not-has_control_in.ensures refl)
 
-pub returns-else-mask-eq0 : goal.returns-else-mask-eq0
-returns-else-mask-eq0 c = some_mask c.args.text.now c.args.at c.requires c.if-mask-eq0.false
+pub returns : goal.returns
+returns c = mask_tells c.args.text.now c.args.at c.requires

@@ -7,15 +7,3 @@ invariant-loop-at l = (l.at ≤ length l.text) × ((k : ℕ) → k < l.at → is
 
 abbrev pub decreases-loop-at : goal.decreases-loop-at
 decreases-loop-at l = length l.text - l.at
-
-abbrev pub invariant-loop-at-2 : goal.invariant-loop-at-2
-invariant-loop-at-2 l = (l.at ≤ length l.text) × ((k : ℕ) → k < l.at → is_control (get_or l.text k 0) ≡ false)
-
-abbrev pub decreases-loop-at-2 : goal.decreases-loop-at-2
-decreases-loop-at-2 l = length l.text - l.at
-
-abbrev pub invariant-loop-at-3 : goal.invariant-loop-at-3
-invariant-loop-at-3 l = (l.at ≤ length l.text) × ((k : ℕ) → k < l.at → is_control (get_or l.text k 0) ≡ false)
-
-abbrev pub decreases-loop-at-3 : goal.decreases-loop-at-3
-decreases-loop-at-3 l = length l.text - l.at
