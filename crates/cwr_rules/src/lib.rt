@@ -20,6 +20,7 @@ mod position;
 mod reading;
 mod record;
 mod record_faults;
+mod share;
 mod so_far;
 mod standing;
 mod summary;

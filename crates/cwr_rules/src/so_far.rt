@@ -1,8 +1,9 @@
-ghost use Rattle.std.specs.Prelude.{◌≡◌, ◌<◌, ◌∷◌, ℕ, [], List, length, OnOk};
+ghost use Rattle.std.specs.Prelude.{◌≡◌, ◌≤◌, ◌<◌, ◌∷◌, ℕ, [], List, length, OnOk};
 ghost use Rattle.cwr_field.specs.Number.{most_count};
 ghost use Rattle.cwr_rules.specs.declared.record.Record.{Record};
 ghost use Rattle.cwr_rules.specs.Collected.{found_in, kept_at, AreSmall, AreSmallSums, value_at};
-ghost use Rattle.cwr_rules.specs.Records.{record_of, records_of};
+ghost use Rattle.cwr_rules.specs.Fronts.{last_byte};
+ghost use Rattle.cwr_rules.specs.Records.{record_as, record_of, records_of};
 ghost use Rattle.cwr_record.specs.RecordTypes.{type_of};
 ghost use Rattle.cwr_rules.specs.Parties.{kept_in};
 ghost use Rattle.cwr_rules.specs.SoFar.{IsSoFar, IsWhole};
@@ -41,12 +42,24 @@ impl<A: Allocator + Copy> SoFar<A> {
         }
     }
 
-    /// Goes past a record.
+    /// As before the first record. No memory is asked for.
     #[inline(always)]
-    fn add(&mut self, detail: &Record) -> Result<(), Memory>
+    pub(crate) fn clear(&mut self, alloc: A)
+        ensures { IsSoFar self.new.count self.new.position self.new.summary.sums (kept_in self.new.summary.parties.first self.new.summary.parties.set) (found_in self.new.summary.collected.first (kept_at self.new.summary.collected.others)) self.new.summary.collected.is_over self.new.findings.items [] }
+    {
+        self.count = 0;
+        self.position = Position::new();
+        self.summary.clear(alloc);
+        self.findings.clear();
+    }
+
+    /// Goes past a line of a type, which was read as this record.
+    #[inline(always)]
+    fn add(&mut self, line: &[u8], record_type: RecordType, detail: &Record) -> Result<(), Memory>
         requires few { self.old.count < most_count }
         requires sums { AreSmallSums self.old.summary.sums }
         requires collected { (q : ℕ) → AreSmall (value_at (found_in self.old.summary.collected.first (kept_at self.old.summary.collected.others)) q) }
+        requires read { detail.now ≡ record_as record_type line.now }
         ensures { OnOk result ((before : List Record)
             → IsSoFar self.old.count self.old.position self.old.summary.sums (kept_in self.old.summary.parties.first self.old.summary.parties.set) (found_in self.old.summary.collected.first (kept_at self.old.summary.collected.others)) self.old.summary.collected.is_over self.old.findings.items before
             → IsSoFar self.new.count self.new.position self.new.summary.sums (kept_in self.new.summary.parties.first self.new.summary.parties.set) (found_in self.new.summary.collected.first (kept_at self.new.summary.collected.others)) self.new.summary.collected.is_over self.new.findings.items (detail.now ∷ before)) }
@@ -57,6 +70,8 @@ impl<A: Allocator + Copy> SoFar<A> {
             &self.summary.parties,
             self.count,
             &self.position,
+            line,
+            record_type,
             detail,
         )?;
         self.position.add(detail);
@@ -70,12 +85,49 @@ impl<A: Allocator + Copy> SoFar<A> {
         requires few { self.old.count < most_count }
         requires sums { AreSmallSums self.old.summary.sums }
         requires collected { (q : ℕ) → AreSmall (value_at (found_in self.old.summary.collected.first (kept_at self.old.summary.collected.others)) q) }
-        requires read { record_type ≡ type_of line.now }
         ensures { OnOk result ((before : List Record)
             → IsSoFar self.old.count self.old.position self.old.summary.sums (kept_in self.old.summary.parties.first self.old.summary.parties.set) (found_in self.old.summary.collected.first (kept_at self.old.summary.collected.others)) self.old.summary.collected.is_over self.old.findings.items before
-            → IsSoFar self.new.count self.new.position self.new.summary.sums (kept_in self.new.summary.parties.first self.new.summary.parties.set) (found_in self.new.summary.collected.first (kept_at self.new.summary.collected.others)) self.new.summary.collected.is_over self.new.findings.items (record_of line.now ∷ before)) }
+            → IsSoFar self.new.count self.new.position self.new.summary.sums (kept_in self.new.summary.parties.first self.new.summary.parties.set) (found_in self.new.summary.collected.first (kept_at self.new.summary.collected.others)) self.new.summary.collected.is_over self.new.findings.items (record_as record_type line.now ∷ before)) }
     {
-        self.add(&record_as(line, record_type))?;
+        self.add(line, record_type, &record_as(line, record_type))?;
+        Ok(())
+    }
+
+    /// Goes past a line of a type that is seldom met, or past one that ends before the last of its fields.
+    #[inline(never)]
+    fn take_any(&mut self, line: &[u8], record_type: RecordType) -> Result<(), Memory>
+        requires few { self.old.count < most_count }
+        requires sums { AreSmallSums self.old.summary.sums }
+        requires collected { (q : ℕ) → AreSmall (value_at (found_in self.old.summary.collected.first (kept_at self.old.summary.collected.others)) q) }
+        ensures { OnOk result ((before : List Record)
+            → IsSoFar self.old.count self.old.position self.old.summary.sums (kept_in self.old.summary.parties.first self.old.summary.parties.set) (found_in self.old.summary.collected.first (kept_at self.old.summary.collected.others)) self.old.summary.collected.is_over self.old.findings.items before
+            → IsSoFar self.new.count self.new.position self.new.summary.sums (kept_in self.new.summary.parties.first self.new.summary.parties.set) (found_in self.new.summary.collected.first (kept_at self.new.summary.collected.others)) self.new.summary.collected.is_over self.new.findings.items (record_as record_type line.now ∷ before)) }
+    {
+        self.take_as(line, record_type)?;
+        Ok(())
+    }
+
+    /// Goes past a line of a type whose fields all end within so many bytes. Where the line has these bytes, they are
+    /// looked for once and not for each field.
+    #[inline(always)]
+    fn take_front<const N: usize>(
+        &mut self,
+        line: &[u8],
+        record_type: RecordType,
+    ) -> Result<(), Memory>
+        requires few { self.old.count < most_count }
+        requires sums { AreSmallSums self.old.summary.sums }
+        requires collected { (q : ℕ) → AreSmall (value_at (found_in self.old.summary.collected.first (kept_at self.old.summary.collected.others)) q) }
+        requires within { last_byte record_type ≤ N }
+        requires width { N ≤ 150 }
+        ensures { OnOk result ((before : List Record)
+            → IsSoFar self.old.count self.old.position self.old.summary.sums (kept_in self.old.summary.parties.first self.old.summary.parties.set) (found_in self.old.summary.collected.first (kept_at self.old.summary.collected.others)) self.old.summary.collected.is_over self.old.findings.items before
+            → IsSoFar self.new.count self.new.position self.new.summary.sums (kept_in self.new.summary.parties.first self.new.summary.parties.set) (found_in self.new.summary.collected.first (kept_at self.new.summary.collected.others)) self.new.summary.collected.is_over self.new.findings.items (record_as record_type line.now ∷ before)) }
+    {
+        match line.first_chunk::<N>() {
+            Some(front) => self.take_as(front, record_type)?,
+            None => self.take_any(line, record_type)?,
+        }
         Ok(())
     }
 
@@ -90,16 +142,17 @@ impl<A: Allocator + Copy> SoFar<A> {
             → IsSoFar self.new.count self.new.position self.new.summary.sums (kept_in self.new.summary.parties.first self.new.summary.parties.set) (found_in self.new.summary.collected.first (kept_at self.new.summary.collected.others)) self.new.summary.collected.is_over self.new.findings.items (record_of line.now ∷ before)) }
     {
         match record_type {
-            RecordType::Spu => self.take_as(line, RecordType::Spu)?,
-            RecordType::Opu => self.take_as(line, RecordType::Opu)?,
-            RecordType::Spt => self.take_as(line, RecordType::Spt)?,
-            RecordType::Swr => self.take_as(line, RecordType::Swr)?,
-            RecordType::Owr => self.take_as(line, RecordType::Owr)?,
-            RecordType::Swt => self.take_as(line, RecordType::Swt)?,
-            RecordType::Pwr => self.take_as(line, RecordType::Pwr)?,
+            RecordType::Spu => self.take_front::<136>(line, RecordType::Spu)?,
+            RecordType::Opu => self.take_front::<136>(line, RecordType::Opu)?,
+            RecordType::Spt => self.take_front::<54>(line, RecordType::Spt)?,
+            RecordType::Swr => self.take_front::<150>(line, RecordType::Swr)?,
+            RecordType::Owr => self.take_front::<150>(line, RecordType::Owr)?,
+            RecordType::Swt => self.take_front::<48>(line, RecordType::Swt)?,
+            RecordType::Pwr => self.take_front::<28>(line, RecordType::Pwr)?,
             RecordType::Alt => self.take_as(line, RecordType::Alt)?,
             RecordType::Xrf => self.take_as(line, RecordType::Xrf)?,
-            other => self.take_as(line, other)?,
+            RecordType::Carried => self.take_as(line, RecordType::Carried)?,
+            other => self.take_any(line, other)?,
         }
         Ok(())
     }
