@@ -15,5 +15,6 @@ pub mod NameLaw
 pub mod PartyKeys
 pub mod RecordLaw
 pub mod ShareWords
+pub mod CodeWords
 pub mod FrontFields
 pub mod lemmas

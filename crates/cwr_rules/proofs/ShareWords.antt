@@ -59,7 +59,7 @@ abbrev pub mask_of : List ℕ → ℕ
 mask_of bytes = mask_l (map (top (hbits w8)) (zip2 (λ a b. cond (ltb a b) (2 ^ bits w8 - 1) 0) (replicate 8 9) (lanes bytes))) % 2 ^ 64
 
 -- whether each byte is above 9, less '0'
-abbrev tests : List ℕ → List Bool
+abbrev pub tests : List ℕ → List Bool
 tests bytes = map (λ (y : ℕ). ltb 9 y) (map (λ (b : ℕ). less b 48) bytes)
 
 same_test : (b : ℕ) → b < 256 → ltb 9 (less b 48) ≡ not (is_ascii_digit b)
@@ -69,13 +69,13 @@ bit : (b : Bool) (m : ℕ) (rest : Bool) → eqb m 0 ≡ rest → eqb (cond (not
 bit true m rest e = grind (arith, nat_tests)
 bit false m rest e = grind (arith, nat_tests)
 
-no_bits : (bytes : List ℕ) → IsBytes bytes → eqb (mask_l (tests bytes)) 0 ≡ list_all is_ascii_digit bytes
+pub no_bits : (bytes : List ℕ) → IsBytes bytes → eqb (mask_l (tests bytes)) 0 ≡ list_all is_ascii_digit bytes
 no_bits [] fits = refl
 no_bits (b ∷ bytes) fits =
     ap (λ (t : Bool). eqb (cond t 1 0 + 2 * mask_l (tests bytes)) 0) (same_test b (fits 0))
     ∙ bit (is_ascii_digit b) (mask_l (tests bytes)) (list_all is_ascii_digit bytes) (no_bits bytes (λ i. fits (suc i)))
 
-mask_is : (bytes : List ℕ) → length bytes ≡ 8 → mask_of bytes ≡ mask_l (tests bytes)
+pub mask_is : (bytes : List ℕ) → length bytes ≡ 8 → mask_of bytes ≡ mask_l (tests bytes)
 mask_is bytes len =
     let is : lanes bytes ≡ map (λ b. less b 48) bytes = zip2_splat less bytes 8 48 len in
     let long : length (map (λ b. less b 48) bytes) ≡ 8 = length-map bytes (λ b. less b 48) ∙ len in
@@ -86,7 +86,7 @@ mask_is bytes len =
     ∙ mask_l-mod (tests bytes) 64 few
 
 -- the bits of the first three bytes count less than 8
-low_bits : (a b c : Bool) (m : ℕ) → ltb (cond a 1 0 + 2 * (cond b 1 0 + 2 * (cond c 1 0 + 2 * m))) 8 ≡ eqb m 0
+pub low_bits : (a b c : Bool) (m : ℕ) → ltb (cond a 1 0 + 2 * (cond b 1 0 + 2 * (cond c 1 0 + 2 * m))) 8 ≡ eqb m 0
 low_bits true true true m = grind (arith, nat_tests)
 low_bits true true false m = grind (arith, nat_tests)
 low_bits true false true m = grind (arith, nat_tests)
@@ -136,10 +136,10 @@ behind : (a b c d e f g h : ℕ) → a < 256 → b < 256 → c < 256
     → from_le_bytes w64 (a ∷ b ∷ c ∷ d ∷ e ∷ f ∷ g ∷ h ∷ []) / 16777216 ≡ joined d e f g h
 behind a b c d e f g h la lb lc = omega arith
 
-lane : (b : ℕ) → 48 ≤ b → b ≤ 57 → less b 48 ≡ b - 48
+pub lane : (b : ℕ) → 48 ≤ b → b ≤ 57 → less b 48 ≡ b - 48
 lane b low high = omega (arith, low, high)
 
-lane_fits : (b : ℕ) → less b 48 < 256
+pub lane_fits : (b : ℕ) → less b 48 < 256
 lane_fits b = omega arith
 
 abbrev horner : ℕ → ℕ → ℕ → ℕ → ℕ → ℕ
@@ -181,14 +181,14 @@ some_of bytes len fits low =
 
 -- ---- what a share is
 
-not_blank : (b : ℕ) → is_ascii_digit b ≡ true → (b == 32) ≡ false
+pub not_blank : (b : ℕ) → is_ascii_digit b ≡ true → (b == 32) ≡ false
 not_blank b h = grind (arith, nat_tests)
 
 not_blanks : (bytes : List ℕ) → 1 ≤ length bytes → list_all is_ascii_digit bytes ≡ true → is_blank bytes ≡ false
 not_blanks [] some all = absurd (omega arith)
 not_blanks (b ∷ bytes) some all = rw (not_blank b (parts (is_ascii_digit b) (list_all is_ascii_digit bytes) all).0) refl
 
-all_of : (bytes : List ℕ) (n : ℕ) (b : Bool) → list_all is_ascii_digit bytes ≡ b → cond b (Some (digits_value 10 bytes)) None ≡ Some n → b ≡ true
+pub all_of : (bytes : List ℕ) (n : ℕ) (b : Bool) → list_all is_ascii_digit bytes ≡ b → cond b (Some (digits_value 10 bytes)) None ≡ Some n → b ≡ true
 all_of bytes n true h e = refl
 all_of bytes n false h e = absurd cc
 

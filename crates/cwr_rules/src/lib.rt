@@ -8,6 +8,7 @@
 
 mod added;
 mod by_line;
+mod code;
 mod collected;
 mod finding;
 mod header;
@@ -27,6 +28,7 @@ mod summary;
 mod sums;
 mod totals;
 mod whole_faults;
+mod whole_record;
 
 pub use added::{AddedShares, Over, added_shares};
 pub use by_line::Judge;

@@ -5,12 +5,13 @@ ghost use Rattle.cwr_record.specs.Ranges.{is_in_line};
 ghost use Rattle.cwr_rules.specs.Records.{record_of, record_as, shares_from, owned_at, collected_at, territory_at};
 ghost use Rattle.cwr_call.specs.Lawful.{is_clean};
 
+use crate::code::code_of;
 use crate::record::{Record, Shares, Territory};
 use crate::share::share_at;
 use cwr_grammar::{Lines, RawTransaction};
 use cwr_record::{
     Column, Publisher, PublisherTerritory, RecordType, Writer, WriterTerritory, field_at,
-    indicator_of, party_of, publisher_of, territory_of, type_of,
+    indicator_of, party_of, publisher_of, type_of,
 };
 
 /// The header's line of a transaction, and the lines of its details.
@@ -87,7 +88,7 @@ impl Shares {
 
     /// The shares that a line of a type owns.
     #[inline(always)]
-    fn owned(line: &[u8], record_type: RecordType) -> Shares
+    pub(crate) fn owned(line: &[u8], record_type: RecordType) -> Shares
         ensures { result ≡ owned_at record_type line.now }
     {
         match record_type {
@@ -108,7 +109,7 @@ impl Shares {
 
     /// The shares that a line of a type collects.
     #[inline(always)]
-    fn collected(line: &[u8], record_type: RecordType) -> Shares
+    pub(crate) fn collected(line: &[u8], record_type: RecordType) -> Shares
         ensures { result ≡ collected_at record_type line.now }
     {
         match record_type {
@@ -130,13 +131,14 @@ impl Shares {
 
 impl Territory {
     /// The territory that a line of a type names.
-    fn of(line: &[u8], record_type: RecordType) -> Territory
+    #[inline(always)]
+    pub(crate) fn of(line: &[u8], record_type: RecordType) -> Territory
         requires { IsTrue (has_collection record_type) }
         ensures { result ≡ territory_at record_type line.now }
     {
         Territory {
             indicator: indicator_of(line, record_type),
-            code: territory_of(line, record_type),
+            code: code_of(line, record_type),
         }
     }
 }

@@ -1,8 +1,7 @@
-ghost use Rattle.std.specs.Prelude.{◌≡◌, ◌≤◌, ◌<◌, ◌∷◌, ℕ, [], List, length, OnOk};
+ghost use Rattle.std.specs.Prelude.{◌≡◌, ◌<◌, ◌∷◌, ℕ, [], List, length, IfSome, OnOk};
 ghost use Rattle.cwr_field.specs.Number.{most_count};
 ghost use Rattle.cwr_rules.specs.declared.record.Record.{Record};
 ghost use Rattle.cwr_rules.specs.Collected.{found_in, kept_at, AreSmall, AreSmallSums, value_at};
-ghost use Rattle.cwr_rules.specs.Fronts.{last_byte};
 ghost use Rattle.cwr_rules.specs.Records.{record_as, record_of, records_of};
 ghost use Rattle.cwr_record.specs.RecordTypes.{type_of};
 ghost use Rattle.cwr_rules.specs.Parties.{kept_in};
@@ -14,9 +13,12 @@ use crate::reading::record_as;
 use crate::record::Record;
 use crate::record_faults::add_findings;
 use crate::summary::Summary;
+use crate::whole_record::{
+    whole_opu, whole_owr, whole_pwr, whole_spt, whole_spu, whole_swr, whole_swt,
+};
 use cwr_field::Memory;
 use cwr_grammar::Lines;
-use cwr_record::{RecordType, type_of};
+use cwr_record::{RecordType, field_at, type_of};
 use std::alloc::Allocator;
 
 /// What is kept of a transaction's records, as far as they were read.
@@ -79,9 +81,9 @@ impl<A: Allocator + Copy> SoFar<A> {
         Ok(())
     }
 
-    /// Goes past a line of a type.
-    #[inline(always)]
-    fn take_as(&mut self, line: &[u8], record_type: RecordType) -> Result<(), Memory>
+    /// Goes past a line of a type that is seldom met, or past one that ends before the last of its fields.
+    #[inline(never)]
+    fn take_any(&mut self, line: &[u8], record_type: RecordType) -> Result<(), Memory>
         requires few { self.old.count < most_count }
         requires sums { AreSmallSums self.old.summary.sums }
         requires collected { (q : ℕ) → AreSmall (value_at (found_in self.old.summary.collected.first (kept_at self.old.summary.collected.others)) q) }
@@ -93,39 +95,24 @@ impl<A: Allocator + Copy> SoFar<A> {
         Ok(())
     }
 
-    /// Goes past a line of a type that is seldom met, or past one that ends before the last of its fields.
-    #[inline(never)]
-    fn take_any(&mut self, line: &[u8], record_type: RecordType) -> Result<(), Memory>
-        requires few { self.old.count < most_count }
-        requires sums { AreSmallSums self.old.summary.sums }
-        requires collected { (q : ℕ) → AreSmall (value_at (found_in self.old.summary.collected.first (kept_at self.old.summary.collected.others)) q) }
-        ensures { OnOk result ((before : List Record)
-            → IsSoFar self.old.count self.old.position self.old.summary.sums (kept_in self.old.summary.parties.first self.old.summary.parties.set) (found_in self.old.summary.collected.first (kept_at self.old.summary.collected.others)) self.old.summary.collected.is_over self.old.findings.items before
-            → IsSoFar self.new.count self.new.position self.new.summary.sums (kept_in self.new.summary.parties.first self.new.summary.parties.set) (found_in self.new.summary.collected.first (kept_at self.new.summary.collected.others)) self.new.summary.collected.is_over self.new.findings.items (record_as record_type line.now ∷ before)) }
-    {
-        self.take_as(line, record_type)?;
-        Ok(())
-    }
-
-    /// Goes past a line of a type whose fields all end within so many bytes. Where the line has these bytes, they are
-    /// looked for once and not for each field.
+    /// Goes past a line of a type, which was read as this record, where it has each of its fields.
     #[inline(always)]
-    fn take_front<const N: usize>(
+    fn take_whole(
         &mut self,
         line: &[u8],
         record_type: RecordType,
+        detail: Option<Record>,
     ) -> Result<(), Memory>
         requires few { self.old.count < most_count }
         requires sums { AreSmallSums self.old.summary.sums }
         requires collected { (q : ℕ) → AreSmall (value_at (found_in self.old.summary.collected.first (kept_at self.old.summary.collected.others)) q) }
-        requires within { last_byte record_type ≤ N }
-        requires width { N ≤ 150 }
+        requires read { IfSome detail (λ r. r ≡ record_as record_type line.now) }
         ensures { OnOk result ((before : List Record)
             → IsSoFar self.old.count self.old.position self.old.summary.sums (kept_in self.old.summary.parties.first self.old.summary.parties.set) (found_in self.old.summary.collected.first (kept_at self.old.summary.collected.others)) self.old.summary.collected.is_over self.old.findings.items before
             → IsSoFar self.new.count self.new.position self.new.summary.sums (kept_in self.new.summary.parties.first self.new.summary.parties.set) (found_in self.new.summary.collected.first (kept_at self.new.summary.collected.others)) self.new.summary.collected.is_over self.new.findings.items (record_as record_type line.now ∷ before)) }
     {
-        match line.first_chunk::<N>() {
-            Some(front) => self.take_as(front, record_type)?,
+        match detail {
+            Some(detail) => self.add(line, record_type, &detail)?,
             None => self.take_any(line, record_type)?,
         }
         Ok(())
@@ -142,16 +129,19 @@ impl<A: Allocator + Copy> SoFar<A> {
             → IsSoFar self.new.count self.new.position self.new.summary.sums (kept_in self.new.summary.parties.first self.new.summary.parties.set) (found_in self.new.summary.collected.first (kept_at self.new.summary.collected.others)) self.new.summary.collected.is_over self.new.findings.items (record_of line.now ∷ before)) }
     {
         match record_type {
-            RecordType::Spu => self.take_front::<136>(line, RecordType::Spu)?,
-            RecordType::Opu => self.take_front::<136>(line, RecordType::Opu)?,
-            RecordType::Spt => self.take_front::<54>(line, RecordType::Spt)?,
-            RecordType::Swr => self.take_front::<150>(line, RecordType::Swr)?,
-            RecordType::Owr => self.take_front::<150>(line, RecordType::Owr)?,
-            RecordType::Swt => self.take_front::<48>(line, RecordType::Swt)?,
-            RecordType::Pwr => self.take_front::<28>(line, RecordType::Pwr)?,
-            RecordType::Alt => self.take_as(line, RecordType::Alt)?,
-            RecordType::Xrf => self.take_as(line, RecordType::Xrf)?,
-            RecordType::Carried => self.take_as(line, RecordType::Carried)?,
+            RecordType::Spu => self.take_whole(line, RecordType::Spu, whole_spu(line))?,
+            RecordType::Opu => self.take_whole(line, RecordType::Opu, whole_opu(line))?,
+            RecordType::Spt => self.take_whole(line, RecordType::Spt, whole_spt(line))?,
+            RecordType::Swr => self.take_whole(line, RecordType::Swr, whole_swr(line))?,
+            RecordType::Owr => self.take_whole(line, RecordType::Owr, whole_owr(line))?,
+            RecordType::Swt => self.take_whole(line, RecordType::Swt, whole_swt(line))?,
+            RecordType::Pwr => self.take_whole(line, RecordType::Pwr, whole_pwr(line))?,
+            RecordType::Alt => self.add(line, RecordType::Alt, &Record::Alt)?,
+            RecordType::Xrf => self.add(line, RecordType::Xrf, &Record::Xrf)?,
+            RecordType::Carried => {
+                let name = field_at(line, RecordType::COLUMN).bytes();
+                self.add(line, RecordType::Carried, &Record::Carried(name))?;
+            }
             other => self.take_any(line, other)?,
         }
         Ok(())
