@@ -1,3 +1,4 @@
 pub mod CheckSteps
 pub mod Total
 pub mod Submitters
+pub mod OpenJudges

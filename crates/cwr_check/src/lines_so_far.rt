@@ -1,4 +1,4 @@
-ghost use Rattle.std.specs.Prelude.{◌≡◌, ◌==◌, ◌≤◌, ◌<◌, ◌^◌, ◌∷◌, ◌++◌, None, [], List, IsTrue, IfOk, OnOk};
+ghost use Rattle.std.specs.Prelude.{◌≡◌, ◌==◌, ◌≤◌, ◌<◌, ◌^◌, ◌∷◌, ◌++◌, if◌then◌else◌, false, Some, None, [], List, IsTrue, IfOk, OnOk};
 ghost use Rattle.cwr_call.specs.Lawful.{is_clean};
 ghost use Rattle.cwr_grammar.specs.RawParts.{RawParts};
 ghost use Rattle.cwr_check.specs.CheckText.{check_lines, faults_in, faulty_count};
@@ -16,7 +16,6 @@ use std::alloc::Allocator;
 /// The lines of a check, of the transactions of a file so far.
 #[derive(Drop)]
 pub(crate) struct LinesSoFar<A: Allocator> {
-    alloc: A,
     /// Who submits the file, for contracts: the text is told of its calls, and no fault of them depends on it.
     submitter: [u8; 11],
     text: Vec<u8, A>,
@@ -26,8 +25,10 @@ pub(crate) struct LinesSoFar<A: Allocator> {
     faulty: u64,
     /// Where the open transaction stands.
     place: Place,
-    /// What judges the open transaction.
-    judge: Option<Judge<A>>,
+    /// Whether a transaction is open.
+    is_open: bool,
+    /// What judges the open transaction. It stays where it is, and begins again at the next one.
+    judge: Judge<A>,
 }
 
 impl<A: Allocator + Copy> LinesSoFar<A> {
@@ -36,10 +37,9 @@ impl<A: Allocator + Copy> LinesSoFar<A> {
         requires clean { IsTrue (is_clean submitter) }
         ensures submitter { result.submitter ≡ submitter }
         ensures told { IsTold result.submitter result.text.items result.transactions result.faulty [] }
-        ensures none { result.judge ≡ None }
+        ensures none { result.is_open ≡ false }
     {
         LinesSoFar {
-            alloc,
             submitter,
             text: Vec::new(alloc),
             transactions: 0,
@@ -49,7 +49,8 @@ impl<A: Allocator + Copy> LinesSoFar<A> {
                 sequence: 0,
                 kind: WorkKind::Nwr,
             },
-            judge: None,
+            is_open: false,
+            judge: Judge::begin(alloc, WorkKind::Nwr, b""),
         }
     }
 
@@ -85,7 +86,7 @@ impl<A: Allocator + Copy> LinesSoFar<A> {
 }
 
 impl<A: Allocator + Copy> Visitor for LinesSoFar<A> {
-    ghost keeps = { λ first l whole current. (l.submitter ≡ first.submitter) × IsTold l.submitter l.text.items l.transactions l.faulty whole × IsOpenAt l.place l.judge current };
+    ghost keeps = { λ first l whole current. (l.submitter ≡ first.submitter) × IsTold l.submitter l.text.items l.transactions l.faulty whole × IsOpenAt l.place (if l.is_open then Some l.judge else None) current };
 
     fn begin(
         &mut self,
@@ -99,25 +100,20 @@ impl<A: Allocator + Copy> Visitor for LinesSoFar<A> {
             sequence,
             kind,
         };
-        self.judge = Some(Judge::begin(self.alloc, kind, head));
+        self.judge.restart(kind, head);
+        self.is_open = true;
         Ok(())
     }
 
     fn detail(&mut self, line: &[u8], record_type: RecordType) -> Result<(), Memory> {
-        let Some(judge) = &mut self.judge else {
-            unreachable!()
-        };
-        judge.take(line, record_type)?;
+        self.judge.take(line, record_type)?;
         Ok(())
     }
 
     fn end(&mut self) -> Result<(), Memory> {
-        let Some(judge) = &self.judge else {
-            unreachable!()
-        };
-        let faults = judge.faults()?;
+        let faults = self.judge.faults()?;
         self.tell(faults.as_slice())?;
-        self.judge = None;
+        self.is_open = false;
         Ok(())
     }
 }

@@ -25,7 +25,7 @@ use std::marker::Model;
 
 /// A transaction that is judged while its lines come: first the header's, then each detail's.
 ///
-/// It borrows no line. After an error it tells nothing any more.
+/// It borrows no line. After an error it tells nothing any more, until it begins again.
 #[derive(Drop)]
 pub struct Judge<A: Allocator = Global> {
     header: KeptHead,
@@ -65,6 +65,17 @@ impl<A: Allocator + Copy> Judge<A> {
             read: SoFar::new(alloc),
             alloc,
         }
+    }
+
+    /// Begins again at the line of another transaction's header. What was taken before counts no more, nor does an error
+    /// that there was. No memory is asked for.
+    #[inline(always)]
+    pub fn restart(&mut self, kind: WorkKind, head: &[u8])
+        requires clean { IsTrue (is_clean head.now) }
+        ensures { IsJudging self.new kind (head.now ∷ []) }
+    {
+        self.header = KeptHead::of(kind, head);
+        self.read.clear(self.alloc);
     }
 
     /// Goes past a detail's line, of this record type.

@@ -8,6 +8,7 @@
 
 mod added;
 mod by_line;
+mod code;
 mod collected;
 mod finding;
 mod header;
@@ -20,12 +21,14 @@ mod position;
 mod reading;
 mod record;
 mod record_faults;
+mod share;
 mod so_far;
 mod standing;
 mod summary;
 mod sums;
 mod totals;
 mod whole_faults;
+mod whole_record;
 
 pub use added::{AddedShares, Over, added_shares};
 pub use by_line::Judge;

@@ -1,14 +1,17 @@
-ghost use Rattle.std.specs.Prelude.{◌≡◌, ◌<◌, ◌∷◌, [], IsTrue, length};
+ghost use Rattle.std.specs.Prelude.{◌≡◌, ◌≤◌, ◌<◌, ◌∷◌, IsTrue, length};
 ghost use Rattle.cwr_record.specs.Parties.{has_collection};
 ghost use Rattle.cwr_field.specs.Number.{most_count};
-ghost use Rattle.cwr_rules.specs.Records.{record_of, record_as, territory_at};
+ghost use Rattle.cwr_record.specs.Ranges.{is_in_line};
+ghost use Rattle.cwr_rules.specs.Records.{record_of, record_as, shares_from, owned_at, collected_at, territory_at};
 ghost use Rattle.cwr_call.specs.Lawful.{is_clean};
 
+use crate::code::code_of;
 use crate::record::{Record, Shares, Territory};
+use crate::share::share_at;
 use cwr_grammar::{Lines, RawTransaction};
 use cwr_record::{
-    RecordType, collection_of, field_at, indicator_of, ownership_of, party_of, publisher_of,
-    territory_of, type_of,
+    Column, Publisher, PublisherTerritory, RecordType, Writer, WriterTerritory, field_at,
+    indicator_of, party_of, publisher_of, type_of,
 };
 
 /// The header's line of a transaction, and the lines of its details.
@@ -39,25 +42,25 @@ pub(crate) fn record_as(line: &[u8], record_type: RecordType) -> Record
     match record_type {
         RecordType::Spu => Record::Spu(
             party_of(line, RecordType::Spu),
-            Shares::of(ownership_of(line, RecordType::Spu)),
+            Shares::owned(line, RecordType::Spu),
         ),
         RecordType::Opu => Record::Opu(
             party_of(line, RecordType::Opu),
-            Shares::of(ownership_of(line, RecordType::Opu)),
+            Shares::owned(line, RecordType::Opu),
         ),
         RecordType::Spt => Record::Spt(
             party_of(line, RecordType::Spt),
-            Shares::of(collection_of(line, RecordType::Spt)),
+            Shares::collected(line, RecordType::Spt),
             Territory::of(line, RecordType::Spt),
         ),
         RecordType::Swr => Record::Swr(
             party_of(line, RecordType::Swr),
-            Shares::of(ownership_of(line, RecordType::Swr)),
+            Shares::owned(line, RecordType::Swr),
         ),
-        RecordType::Owr => Record::Owr(Shares::of(ownership_of(line, RecordType::Owr))),
+        RecordType::Owr => Record::Owr(Shares::owned(line, RecordType::Owr)),
         RecordType::Swt => Record::Swt(
             party_of(line, RecordType::Swt),
-            Shares::of(collection_of(line, RecordType::Swt)),
+            Shares::collected(line, RecordType::Swt),
             Territory::of(line, RecordType::Swt),
         ),
         RecordType::Pwr => Record::Pwr(publisher_of(line)),
@@ -68,28 +71,74 @@ pub(crate) fn record_as(line: &[u8], record_type: RecordType) -> Record
 }
 
 impl Shares {
-    /// The shares of the performing, the mechanical and the synchronization right.
-    fn of(shares: [Option<u16>; 3]) -> Shares
-        ensures { result.performing ∷ result.mechanical ∷ result.synchronization ∷ [] ≡ shares }
+    /// The shares in the columns of the performing, the mechanical and the synchronization right.
+    #[inline(always)]
+    fn at(line: &[u8], performing: Column, mechanical: Column, synchronization: Column) -> Shares
+        requires performing { IsTrue (is_in_line performing) × (4 ≤ performing.start) × (performing.width ≡ 5) }
+        requires mechanical { IsTrue (is_in_line mechanical) × (4 ≤ mechanical.start) × (mechanical.width ≡ 5) }
+        requires synchronization { IsTrue (is_in_line synchronization) × (4 ≤ synchronization.start) × (synchronization.width ≡ 5) }
+        ensures { result ≡ shares_from line.now (record { performing = performing; mechanical = mechanical; synchronization = synchronization }) }
     {
-        let [performing, mechanical, synchronization] = shares;
         Shares {
-            performing,
-            mechanical,
-            synchronization,
+            performing: share_at(line, performing),
+            mechanical: share_at(line, mechanical),
+            synchronization: share_at(line, synchronization),
+        }
+    }
+
+    /// The shares that a line of a type owns.
+    #[inline(always)]
+    pub(crate) fn owned(line: &[u8], record_type: RecordType) -> Shares
+        ensures { result ≡ owned_at record_type line.now }
+    {
+        match record_type {
+            RecordType::Spu | RecordType::Opu => Shares::at(
+                line,
+                Publisher::PERFORMING_OWNERSHIP,
+                Publisher::MECHANICAL_OWNERSHIP,
+                Publisher::SYNCHRONIZATION_OWNERSHIP,
+            ),
+            _ => Shares::at(
+                line,
+                Writer::PERFORMING_OWNERSHIP,
+                Writer::MECHANICAL_OWNERSHIP,
+                Writer::SYNCHRONIZATION_OWNERSHIP,
+            ),
+        }
+    }
+
+    /// The shares that a line of a type collects.
+    #[inline(always)]
+    pub(crate) fn collected(line: &[u8], record_type: RecordType) -> Shares
+        ensures { result ≡ collected_at record_type line.now }
+    {
+        match record_type {
+            RecordType::Spt => Shares::at(
+                line,
+                PublisherTerritory::PERFORMING_COLLECTION,
+                PublisherTerritory::MECHANICAL_COLLECTION,
+                PublisherTerritory::SYNCHRONIZATION_COLLECTION,
+            ),
+            _ => Shares::at(
+                line,
+                WriterTerritory::PERFORMING_COLLECTION,
+                WriterTerritory::MECHANICAL_COLLECTION,
+                WriterTerritory::SYNCHRONIZATION_COLLECTION,
+            ),
         }
     }
 }
 
 impl Territory {
     /// The territory that a line of a type names.
-    fn of(line: &[u8], record_type: RecordType) -> Territory
+    #[inline(always)]
+    pub(crate) fn of(line: &[u8], record_type: RecordType) -> Territory
         requires { IsTrue (has_collection record_type) }
         ensures { result ≡ territory_at record_type line.now }
     {
         Territory {
             indicator: indicator_of(line, record_type),
-            code: territory_of(line, record_type),
+            code: code_of(line, record_type),
         }
     }
 }

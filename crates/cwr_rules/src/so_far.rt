@@ -1,8 +1,8 @@
-ghost use Rattle.std.specs.Prelude.{◌≡◌, ◌<◌, ◌∷◌, ℕ, [], List, length, OnOk};
+ghost use Rattle.std.specs.Prelude.{◌≡◌, ◌<◌, ◌∷◌, ℕ, [], List, length, IfSome, OnOk};
 ghost use Rattle.cwr_field.specs.Number.{most_count};
 ghost use Rattle.cwr_rules.specs.declared.record.Record.{Record};
 ghost use Rattle.cwr_rules.specs.Collected.{found_in, kept_at, AreSmall, AreSmallSums, value_at};
-ghost use Rattle.cwr_rules.specs.Records.{record_of, records_of};
+ghost use Rattle.cwr_rules.specs.Records.{record_as, record_of, records_of};
 ghost use Rattle.cwr_record.specs.RecordTypes.{type_of};
 ghost use Rattle.cwr_rules.specs.Parties.{kept_in};
 ghost use Rattle.cwr_rules.specs.SoFar.{IsSoFar, IsWhole};
@@ -13,9 +13,12 @@ use crate::reading::record_as;
 use crate::record::Record;
 use crate::record_faults::add_findings;
 use crate::summary::Summary;
+use crate::whole_record::{
+    whole_opu, whole_owr, whole_pwr, whole_spt, whole_spu, whole_swr, whole_swt,
+};
 use cwr_field::Memory;
 use cwr_grammar::Lines;
-use cwr_record::{RecordType, type_of};
+use cwr_record::{RecordType, field_at, type_of};
 use std::alloc::Allocator;
 
 /// What is kept of a transaction's records, as far as they were read.
@@ -41,12 +44,24 @@ impl<A: Allocator + Copy> SoFar<A> {
         }
     }
 
-    /// Goes past a record.
+    /// As before the first record. No memory is asked for.
     #[inline(always)]
-    fn add(&mut self, detail: &Record) -> Result<(), Memory>
+    pub(crate) fn clear(&mut self, alloc: A)
+        ensures { IsSoFar self.new.count self.new.position self.new.summary.sums (kept_in self.new.summary.parties.first self.new.summary.parties.set) (found_in self.new.summary.collected.first (kept_at self.new.summary.collected.others)) self.new.summary.collected.is_over self.new.findings.items [] }
+    {
+        self.count = 0;
+        self.position = Position::new();
+        self.summary.clear(alloc);
+        self.findings.clear();
+    }
+
+    /// Goes past a line of a type, which was read as this record.
+    #[inline(always)]
+    fn add(&mut self, line: &[u8], record_type: RecordType, detail: &Record) -> Result<(), Memory>
         requires few { self.old.count < most_count }
         requires sums { AreSmallSums self.old.summary.sums }
         requires collected { (q : ℕ) → AreSmall (value_at (found_in self.old.summary.collected.first (kept_at self.old.summary.collected.others)) q) }
+        requires read { detail.now ≡ record_as record_type line.now }
         ensures { OnOk result ((before : List Record)
             → IsSoFar self.old.count self.old.position self.old.summary.sums (kept_in self.old.summary.parties.first self.old.summary.parties.set) (found_in self.old.summary.collected.first (kept_at self.old.summary.collected.others)) self.old.summary.collected.is_over self.old.findings.items before
             → IsSoFar self.new.count self.new.position self.new.summary.sums (kept_in self.new.summary.parties.first self.new.summary.parties.set) (found_in self.new.summary.collected.first (kept_at self.new.summary.collected.others)) self.new.summary.collected.is_over self.new.findings.items (detail.now ∷ before)) }
@@ -57,6 +72,8 @@ impl<A: Allocator + Copy> SoFar<A> {
             &self.summary.parties,
             self.count,
             &self.position,
+            line,
+            record_type,
             detail,
         )?;
         self.position.add(detail);
@@ -64,18 +81,40 @@ impl<A: Allocator + Copy> SoFar<A> {
         Ok(())
     }
 
-    /// Goes past a line of a type.
-    #[inline(always)]
-    fn take_as(&mut self, line: &[u8], record_type: RecordType) -> Result<(), Memory>
+    /// Goes past a line of a type that is seldom met, or past one that ends before the last of its fields.
+    #[inline(never)]
+    fn take_any(&mut self, line: &[u8], record_type: RecordType) -> Result<(), Memory>
         requires few { self.old.count < most_count }
         requires sums { AreSmallSums self.old.summary.sums }
         requires collected { (q : ℕ) → AreSmall (value_at (found_in self.old.summary.collected.first (kept_at self.old.summary.collected.others)) q) }
-        requires read { record_type ≡ type_of line.now }
         ensures { OnOk result ((before : List Record)
             → IsSoFar self.old.count self.old.position self.old.summary.sums (kept_in self.old.summary.parties.first self.old.summary.parties.set) (found_in self.old.summary.collected.first (kept_at self.old.summary.collected.others)) self.old.summary.collected.is_over self.old.findings.items before
-            → IsSoFar self.new.count self.new.position self.new.summary.sums (kept_in self.new.summary.parties.first self.new.summary.parties.set) (found_in self.new.summary.collected.first (kept_at self.new.summary.collected.others)) self.new.summary.collected.is_over self.new.findings.items (record_of line.now ∷ before)) }
+            → IsSoFar self.new.count self.new.position self.new.summary.sums (kept_in self.new.summary.parties.first self.new.summary.parties.set) (found_in self.new.summary.collected.first (kept_at self.new.summary.collected.others)) self.new.summary.collected.is_over self.new.findings.items (record_as record_type line.now ∷ before)) }
     {
-        self.add(&record_as(line, record_type))?;
+        self.add(line, record_type, &record_as(line, record_type))?;
+        Ok(())
+    }
+
+    /// Goes past a line of a type, which was read as this record, where it has each of its fields.
+    #[inline(always)]
+    fn take_whole(
+        &mut self,
+        line: &[u8],
+        record_type: RecordType,
+        detail: Option<Record>,
+    ) -> Result<(), Memory>
+        requires few { self.old.count < most_count }
+        requires sums { AreSmallSums self.old.summary.sums }
+        requires collected { (q : ℕ) → AreSmall (value_at (found_in self.old.summary.collected.first (kept_at self.old.summary.collected.others)) q) }
+        requires read { IfSome detail (λ r. r ≡ record_as record_type line.now) }
+        ensures { OnOk result ((before : List Record)
+            → IsSoFar self.old.count self.old.position self.old.summary.sums (kept_in self.old.summary.parties.first self.old.summary.parties.set) (found_in self.old.summary.collected.first (kept_at self.old.summary.collected.others)) self.old.summary.collected.is_over self.old.findings.items before
+            → IsSoFar self.new.count self.new.position self.new.summary.sums (kept_in self.new.summary.parties.first self.new.summary.parties.set) (found_in self.new.summary.collected.first (kept_at self.new.summary.collected.others)) self.new.summary.collected.is_over self.new.findings.items (record_as record_type line.now ∷ before)) }
+    {
+        match detail {
+            Some(detail) => self.add(line, record_type, &detail)?,
+            None => self.take_any(line, record_type)?,
+        }
         Ok(())
     }
 
@@ -90,16 +129,20 @@ impl<A: Allocator + Copy> SoFar<A> {
             → IsSoFar self.new.count self.new.position self.new.summary.sums (kept_in self.new.summary.parties.first self.new.summary.parties.set) (found_in self.new.summary.collected.first (kept_at self.new.summary.collected.others)) self.new.summary.collected.is_over self.new.findings.items (record_of line.now ∷ before)) }
     {
         match record_type {
-            RecordType::Spu => self.take_as(line, RecordType::Spu)?,
-            RecordType::Opu => self.take_as(line, RecordType::Opu)?,
-            RecordType::Spt => self.take_as(line, RecordType::Spt)?,
-            RecordType::Swr => self.take_as(line, RecordType::Swr)?,
-            RecordType::Owr => self.take_as(line, RecordType::Owr)?,
-            RecordType::Swt => self.take_as(line, RecordType::Swt)?,
-            RecordType::Pwr => self.take_as(line, RecordType::Pwr)?,
-            RecordType::Alt => self.take_as(line, RecordType::Alt)?,
-            RecordType::Xrf => self.take_as(line, RecordType::Xrf)?,
-            other => self.take_as(line, other)?,
+            RecordType::Spu => self.take_whole(line, RecordType::Spu, whole_spu(line))?,
+            RecordType::Opu => self.take_whole(line, RecordType::Opu, whole_opu(line))?,
+            RecordType::Spt => self.take_whole(line, RecordType::Spt, whole_spt(line))?,
+            RecordType::Swr => self.take_whole(line, RecordType::Swr, whole_swr(line))?,
+            RecordType::Owr => self.take_whole(line, RecordType::Owr, whole_owr(line))?,
+            RecordType::Swt => self.take_whole(line, RecordType::Swt, whole_swt(line))?,
+            RecordType::Pwr => self.take_whole(line, RecordType::Pwr, whole_pwr(line))?,
+            RecordType::Alt => self.add(line, RecordType::Alt, &Record::Alt)?,
+            RecordType::Xrf => self.add(line, RecordType::Xrf, &Record::Xrf)?,
+            RecordType::Carried => {
+                let name = field_at(line, RecordType::COLUMN).bytes();
+                self.add(line, RecordType::Carried, &Record::Carried(name))?;
+            }
+            other => self.take_any(line, other)?,
         }
         Ok(())
     }

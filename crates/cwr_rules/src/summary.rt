@@ -32,6 +32,16 @@ impl<A: Allocator + Copy> Summary<A> {
         }
     }
 
+    /// As of no records.
+    #[inline(always)]
+    pub(crate) fn clear(&mut self, alloc: A)
+        ensures { IsSummary self.new.sums (kept_in self.new.parties.first self.new.parties.set) (found_in self.new.collected.first (kept_at self.new.collected.others)) self.new.collected.is_over [] }
+    {
+        self.sums = Sums::new();
+        self.parties = Parties::new(alloc);
+        self.collected = Collected::new(alloc);
+    }
+
     /// Adds a record to those that were added.
     #[inline(always)]
     pub(crate) fn add(&mut self, detail: &Record) -> Result<(), Memory>

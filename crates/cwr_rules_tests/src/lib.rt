@@ -14,4 +14,6 @@ mod parties;
 #[cfg(test)]
 mod records;
 #[cfg(test)]
+mod shares;
+#[cfg(test)]
 mod totals;
