@@ -4,3 +4,4 @@ pub mod AckSteps
 pub mod AckLaw
 pub mod Puts
 pub mod AckParts
+pub mod AckLines

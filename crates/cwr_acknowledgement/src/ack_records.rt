@@ -3,14 +3,12 @@
 ghost use Rattle.std.specs.Prelude.{◌≡◌, ◌≤◌, ◌+◌, ◌%◌, ◌++◌, codes, length};
 ghost use Rattle.cwr_field.specs.Layout.{padded};
 ghost use Rattle.cwr_field.specs.Number.{number_text};
-ghost use Rattle.cwr_acknowledgement.specs.Acknowledgement.{file_start, group_start, group_end, file_end, ack_record, message_record, work_text, most_told};
+ghost use Rattle.cwr_acknowledgement.specs.Acknowledgement.{file_start, group_start, group_end, file_end, message_record, work_text, most_told};
 
-use crate::ack_item::AckItem;
 use crate::messages::message_text;
 use cwr_call::Fault;
 use cwr_field::{filled, last_digits};
-use cwr_record::{Ack, FileTrailer, GroupHead, GroupTrailer, Header, Message, Prefix, Stamp};
-use std::alloc::Allocator;
+use cwr_record::{FileTrailer, GroupHead, GroupTrailer, Header, Message, Prefix, Stamp};
 
 #[inline]
 pub(crate) fn file_start(stamp: &Stamp) -> Header
@@ -59,37 +57,9 @@ pub(crate) fn group_start() -> GroupHead
     }
 }
 
-/// The acknowledgement of an item, as the transaction `index` of its file.
-#[inline]
-pub(crate) fn ack_record<A: Allocator>(
-    stamp: &Stamp,
-    header: &Header,
-    index: u32,
-    item: &AckItem<A>,
-) -> Ack
-    ensures { result ≡ ack_record stamp.now header.now index item.now }
-{
-    Ack {
-        prefix: Prefix {
-            transaction: index,
-            detail: 0,
-        },
-        creation_date: header.creation_date,
-        creation_time: header.creation_time,
-        original_group: item.group,
-        original_transaction: item.sequence,
-        original_type: *item.kind.code(),
-        title: item.title,
-        submitter_number: filled(&item.number),
-        recipient_number: recipient_number(item.work),
-        processing_date: stamp.date(),
-        status: *item.status.code(),
-    }
-}
-
 /// The registry's number of a work in eight digits, or blanks where there is none.
 #[inline]
-fn recipient_number(work: Option<u32>) -> [u8; 20]
+pub(crate) fn recipient_number(work: Option<u32>) -> [u8; 20]
     ensures { result ≡ padded 20 (work_text work) }
 {
     match work {

@@ -10,10 +10,9 @@ ghost use Rattle.cwr_acknowledgement.specs.Acknowledgement.{file_start, group_st
 ghost use Rattle.cwr_acknowledgement.specs.Acknowledgement.{message_lines, item_lines, all_item_lines, told_count, most_told, ended, ack_text, FitsItem, FitsFault};
 ghost use Rattle.cwr_acknowledgement.specs.Outgoing.{IsPut, size_of};
 
+use crate::ack_form::AckForm;
 use crate::ack_item::AckItem;
-use crate::ack_records::{
-    ack_record, file_end, file_start, group_end, group_start, message_record,
-};
+use crate::ack_records::{file_end, file_start, group_end, group_start, message_record};
 use crate::nowhere::Nowhere;
 use crate::outgoing::Outgoing;
 use crate::stopped::AckStopped;
@@ -21,7 +20,7 @@ use byte_streams::{Sink, WriteStopped};
 use cwr_call::Fault;
 use cwr_field::Memory;
 use cwr_record::{
-    Header, Stamp, ack_line, file_trailer_line, group_head_line, group_trailer_line, header_line,
+    Header, Stamp, file_trailer_line, group_head_line, group_trailer_line, header_line,
     message_line,
 };
 use std::alloc::Allocator;
@@ -128,7 +127,7 @@ fn put_all<W: Sink, A: Allocator>(
     let told = told_count(items);
     put_file_start(out, writer, stamp)?;
     put_group_start(out, writer)?;
-    put_items(out, writer, stamp, header, items)?;
+    put_items(out, writer, &AckForm::new(stamp, header), items)?;
     put_group_end(out, writer, transactions, told)?;
     put_file_end(out, writer, transactions, told)
 }
@@ -178,8 +177,7 @@ fn put_group_start<W: Sink, A: Allocator>(
 fn put_items<W: Sink, A: Allocator>(
     out: &mut Outgoing<A>,
     writer: &mut W,
-    stamp: &Stamp,
-    header: &Header,
+    form: &AckForm,
     items: &[AckItem<A>],
 ) -> Result<(), WriteStopped>
     requires works { W.has_failed writer.old ≡ false }
@@ -187,11 +185,11 @@ fn put_items<W: Sink, A: Allocator>(
     requires few { length items.now + told_count items.now ≤ most_told }
     requires fit { AllByRecursion FitsItem items.now }
     ensures put { IsPut result (W.taken writer.old) (W.taken writer.new) out.old out.new (length items.now + told_count items.now)
-        (flat_map ended (all_item_lines stamp.now header.now 0 items.now)) }
+        (flat_map ended (all_item_lines form.now.stamp form.now.header 0 items.now)) }
     ensures fails { W.has_failed writer.new ≡ is_err result }
 {
     for (index, item) in items.iter().enumerate() {
-        put_item(out, writer, stamp, header, index as u32, item)?;
+        put_item(out, writer, form, index as u32, item)?;
     }
     Ok(())
 }
@@ -199,8 +197,7 @@ fn put_items<W: Sink, A: Allocator>(
 fn put_item<W: Sink, A: Allocator>(
     out: &mut Outgoing<A>,
     writer: &mut W,
-    stamp: &Stamp,
-    header: &Header,
+    form: &AckForm,
     index: u32,
     item: &AckItem<A>,
 ) -> Result<(), WriteStopped>
@@ -210,18 +207,17 @@ fn put_item<W: Sink, A: Allocator>(
     requires few { length (told_faults item.now) ≤ most_told }
     requires fits { FitsItem item.now }
     ensures put { IsPut result (W.taken writer.old) (W.taken writer.new) out.old out.new (1 + length (told_faults item.now))
-        (flat_map ended (item_lines stamp.now header.now index item.now)) }
+        (flat_map ended (item_lines form.now.stamp form.now.header index item.now)) }
     ensures fails { W.has_failed writer.new ≡ is_err result }
 {
-    put_ack(out, writer, stamp, header, index, item)?;
+    put_ack(out, writer, form, index, item)?;
     put_messages(out, writer, index, item.told_faults())
 }
 
 fn put_ack<W: Sink, A: Allocator>(
     out: &mut Outgoing<A>,
     writer: &mut W,
-    stamp: &Stamp,
-    header: &Header,
+    form: &AckForm,
     index: u32,
     item: &AckItem<A>,
 ) -> Result<(), WriteStopped>
@@ -230,13 +226,10 @@ fn put_ack<W: Sink, A: Allocator>(
     requires index { index < 10 ^ 8 }
     requires fits { FitsItem item.now }
     ensures put { IsPut result (W.taken writer.old) (W.taken writer.new) out.old out.new 1
-        (ended (line_of table.ack (ack_record stamp.now header.now index item.now))) }
+        (ended (line_of table.ack (ack_record form.now.stamp form.now.header index item.now))) }
     ensures fails { W.has_failed writer.new ≡ is_err result }
 {
-    out.put_line(
-        writer,
-        ack_line(&ack_record(stamp, header, index, item)).bytes(),
-    )
+    out.put_ended(writer, form.line(index, item).bytes())
 }
 
 fn put_messages<W: Sink, A: Allocator>(

@@ -3,6 +3,7 @@
 //! in it.
 #![tactic(auto)]
 
+mod ack_form;
 mod ack_item;
 mod ack_records;
 mod acknowledgement;

@@ -75,6 +75,26 @@ impl<A: Allocator> Outgoing<A> {
         Ok(())
     }
 
+    /// Puts a line that has its end already.
+    #[inline]
+    pub(crate) fn put_ended<W: Sink>(
+        &mut self,
+        writer: &mut W,
+        text: &[u8],
+    ) -> Result<(), WriteStopped>
+        requires works { W.has_failed writer.old ≡ false }
+        requires short { length text.now ≤ 187 }
+        requires size { size_of self.old + 187 < 2 ^ 63 }
+        ensures put { IsPut result (W.taken writer.old) (W.taken writer.new) self.old self.new 1 text.now }
+        ensures fails { W.has_failed writer.new ≡ is_err result }
+    {
+        self.make_room(writer, text.len())?;
+        let Ok(()) = self.held.extend_from_slice(text) else {
+            unreachable!()
+        };
+        Ok(())
+    }
+
     /// Writes out what is held, unless there is room for so many bytes more.
     fn make_room<W: Sink>(&mut self, writer: &mut W, needed: usize) -> Result<(), WriteStopped>
         requires works { W.has_failed writer.old ≡ false }

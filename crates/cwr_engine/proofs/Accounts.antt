@@ -22,8 +22,8 @@ use Rattle.cwr_engine.specs.Account.{most, Ends, Account, IsRead, IsMadeOf, IsMa
 use Rattle.cwr_source.specs.Input.{IsUnjudged}
 use Rattle.cwr_source.specs.declared.refused.SourceRefused.{SourceRefused}
 use Rattle.cwr_source.specs.declared.refused.SourceRefused.TheVariants as unjudged
-use Rattle.cwr_engine.specs.Causes.{IsCause, marked_by, outcome_of}
-use Rattle.cwr_engine.specs.Handing.{Entries, AreAnswered, IsWorked}
+use Rattle.cwr_engine.specs.Causes.{IsCause, ends_full, marked_by, outcome_of}
+use Rattle.cwr_engine.specs.Handing.{Entries, AreAnswered, IsSent, IsWorked}
 use Rattle.cwr_engine.specs.Items.{item_of, items_of, calls_in}
 use Rattle.cwr_engine.specs.Judged.{JudgedValue, judged_of, AreJudged, WasJudged}
 use Rattle.cwr_engine.specs.declared.outcome.FileOutcome.{FileOutcome}
@@ -237,3 +237,34 @@ module _ (session : ℕ) (ends : Ends) (stamp : StampParts) (before after : Entr
             front = ap (take k) told;
           },
         )
+
+-- all got replies, and their acknowledgement was sent, or its sending stopped
+module _ (session : ℕ) (ends : Ends) (stamp : StampParts) (before after : Entries) (input : List ℕ) (head : Header) (ts : List RawParts) (items : List Item)
+    (given : IfSome ends.left_before (λ bytes. input ≡ bytes)) (read_on : HasGiven ends.left_before ends.left_after)
+    (few_reads : ends.reads_after ≤ ends.reads_before + most + 2) (read : IsRead input head ts) (so_far : AreAnswered session head.sender ts items before after)
+    (all : length items ≡ length ts) where
+  pub sent : (outcome : FileOutcome) → IsSent ends.taken_before ends.taken_after ends.write_failed (ack_text stamp head items) (length items) outcome
+      → IsWorked session ends stamp outcome before after
+  sent (Acked n) h =
+      acked session ends stamp before after input head ts items given read_on few_reads read so_far n h.0 (ack_text stamp head items) all refl h.1
+  sent (Refused fault line) h = absurd h
+  sent (Stopped n Memory) h =
+      no_text session ends stamp before after input head ts items given read_on few_reads read so_far n h.0 h.1
+  sent (Stopped n Full) h = absurd h
+  sent (Stopped n Read) h = absurd h
+  sent (Stopped n TooLong) h = absurd h
+  sent (Stopped n Gate) h = absurd h
+  sent (Stopped n (Write k)) h =
+      cut_off session ends stamp before after input head ts items given read_on few_reads read so_far n h.0 (ack_text stamp head items) all refl k h.1 h.2 h.3
+
+-- none of these ends is one for a full book
+pub sent_not_full : (before after : Option (List ℕ)) (failed : Bool) (text : List ℕ) (count : ℕ) (outcome : FileOutcome) → IsSent before after failed text count outcome
+    → ends_full outcome ≡ false
+sent_not_full before after failed text count (Acked n) h = refl
+sent_not_full before after failed text count (Refused fault line) h = refl
+sent_not_full before after failed text count (Stopped n Memory) h = refl
+sent_not_full before after failed text count (Stopped n Full) h = absurd h
+sent_not_full before after failed text count (Stopped n Read) h = refl
+sent_not_full before after failed text count (Stopped n TooLong) h = refl
+sent_not_full before after failed text count (Stopped n Gate) h = refl
+sent_not_full before after failed text count (Stopped n (Write k)) h = refl

@@ -1,5 +1,6 @@
 -- Transactions handed in at a window: what becomes of the entries of its session and of the history.
-use Rattle.std.specs.Prelude.{◌≡◌, ℕ, List, [], ◌∷◌, ◌++◌, length, take, Option, Some, None, ⊤}
+use Rattle.std.specs.Prelude.{◌≡◌, ◌<◌, ℕ, Bool, true, List, [], ◌∷◌, ◌++◌, length, take, Option, Some, None, ⊤}
+use Rattle.std.specs.Io.KnownBytes.{Appends}
 use Rattle.cwr_acknowledgement.specs.AckItem.{Item}
 use Rattle.cwr_acknowledgement.specs.Acknowledgement.{FitsItem, most_told}
 use Rattle.cwr_grammar.specs.RawParts.{RawParts}
@@ -11,6 +12,8 @@ use Rattle.work_registry.specs.declared.reply.Reply.{Reply}
 use Rattle.cwr_engine.specs.Account.{Ends, IsAccount}
 use Rattle.cwr_engine.specs.Items.{item_of, items_of, calls_in}
 use Rattle.cwr_engine.specs.declared.outcome.FileOutcome.{FileOutcome}
+use Rattle.cwr_engine.specs.declared.outcome.FileOutcome.TheVariants.{Acked, Refused, Stopped}
+use Rattle.cwr_engine.specs.declared.outcome.Why.TheVariants.{Memory, Full, Read, TooLong, Gate, Write}
 
 -- the most transactions that a job hands in: as many as its acknowledgement can tell
 abbrev pub most_handed : ℕ
@@ -53,3 +56,16 @@ pub record IsWorked (session : ℕ) (ends : Ends) (stamp : StampParts) (outcome 
   pub made : List EntryValue
   pub gained : HasGained session made before after
   pub account : IsAccount ends stamp outcome made
+
+-- how a job ends whose transactions, so many, all got replies: the text that acknowledges them was written whole; or there
+-- was no memory for it, and nothing was written; or a write failed, and its first bytes were written
+abbrev pub IsSent : Option (List ℕ) → Option (List ℕ) → Bool → List ℕ → ℕ → FileOutcome → Type 0
+IsSent before after failed text count (Acked n) = (n ≡ count) × Appends before after text
+IsSent before after failed text count (Refused fault line) = ⊥
+IsSent before after failed text count (Stopped n Memory) = (n ≡ count) × Appends before after []
+IsSent before after failed text count (Stopped n Full) = ⊥
+IsSent before after failed text count (Stopped n Read) = ⊥
+IsSent before after failed text count (Stopped n TooLong) = ⊥
+IsSent before after failed text count (Stopped n Gate) = ⊥
+IsSent before after failed text count (Stopped n (Write sent)) =
+    (n ≡ count) × Appends before after (take sent text) × (sent < length text) × (failed ≡ true)

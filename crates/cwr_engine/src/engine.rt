@@ -2,11 +2,11 @@
 ghost use Rattle.std.specs.Prelude.{◌≡◌, ◌+◌, ◌<◌, ◌≤◌, ◌^◌, ℕ, List, [], false, length, map, vec_capacity, IfSome, OnOk, OnErr, IfErr};
 ghost use Rattle.std.specs.List.{AllByRecursion};
 ghost use Rattle.byte_streams.specs.GivenBytes.{HasGiven};
-ghost use Rattle.cwr_acknowledgement.specs.Acknowledgement.{FitsItem};
+ghost use Rattle.cwr_acknowledgement.specs.Acknowledgement.{FitsItem, ack_text, most_told, told_count};
 ghost use Rattle.cwr_grammar.specs.RawParts.{RawParts, IsPlaced};
 ghost use Rattle.cwr_engine.specs.Account.{most, Ends, IsRead, ends_of, read_ends, write_ends};
 ghost use Rattle.cwr_engine.specs.Causes.{ends_full, is_for_full, marked_by, outcome_of, IsCause};
-ghost use Rattle.cwr_engine.specs.Handing.{AreAnswered, IsWorked, most_handed};
+ghost use Rattle.cwr_engine.specs.Handing.{AreAnswered, IsSent, IsWorked, most_handed};
 ghost use Rattle.cwr_engine.specs.Judged.{AreJudged, judged_of};
 
 use crate::decision::{InHand, decide};
@@ -17,7 +17,7 @@ use crate::outcome::{FileOutcome, Why};
 use crate::window::Window;
 use byte_streams::{Sink, Source};
 use cwr_acknowledgement::{AckItem, AckStopped, send_ack};
-use cwr_record::Stamp;
+use cwr_record::{Header, Stamp};
 use cwr_source::{SourceRefused, WINDOW};
 use std::alloc::Allocator;
 use work_registry::Call;
@@ -105,14 +105,31 @@ fn work_judged<H: Window<Call<A>>, G: Gate, W: Sink, A: Allocator + Copy + Drop>
         return (window, stopped(0, Why::Memory));
     };
     let (window, done) = hand_in_all(alloc, window, gate, worker, transactions, &mut items);
-    let handed = items.len() as u32;
-    if let Err(why) = done {
-        return (window, stopped(handed, why));
+    match done {
+        Ok(()) => (window, answer(alloc, writer, stamp, &header, &items)),
+        Err(why) => (window, stopped(items.len() as u32, why)),
     }
-    match send_ack(alloc, writer, stamp, &header, &items) {
-        Ok(()) => (window, acked(handed)),
-        Err(AckStopped::Memory) => (window, stopped(handed, Why::Memory)),
-        Err(AckStopped::Write { sent }) => (window, stopped(handed, Why::Write { sent })),
+}
+
+/// Writes the acknowledgement of a file whose transactions all got replies, and tells how its job ends.
+fn answer<W: Sink, A: Allocator + Copy>(
+    alloc: A,
+    writer: &mut W,
+    stamp: &Stamp,
+    header: &Header,
+    items: &[AckItem<A>],
+) -> FileOutcome
+    requires writes { W.has_failed writer.old ≡ false }
+    requires few { length items.now + told_count items.now ≤ most_told }
+    requires fit { AllByRecursion FitsItem items.now }
+    ensures { IsSent (W.taken writer.old) (W.taken writer.new) (W.has_failed writer.new)
+        (ack_text stamp.now header.now items.now) (length items.now) result }
+{
+    let handed = items.len() as u32;
+    match send_ack(alloc, writer, stamp, header, items) {
+        Ok(()) => acked(handed),
+        Err(AckStopped::Memory) => stopped(handed, Why::Memory),
+        Err(AckStopped::Write { sent }) => stopped(handed, Why::Write { sent }),
     }
 }
 

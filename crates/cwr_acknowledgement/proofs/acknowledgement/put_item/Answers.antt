@@ -19,7 +19,7 @@ put_messages-requires-clause-size g c =
 
 pub returns-clause-put : goal.returns-clause-put
 returns-clause-put g c =
-    let ack = ended (line_of table.ack (ack_record c.args.stamp.now c.args.header.now c.args.index c.args.item.now)) in
+    let ack = ended (line_of table.ack (ack_record c.args.form.now.stamp c.args.form.now.header c.args.index c.args.item.now)) in
     then_whole c.put_messages.result _ _ _ _ _ _ 1 _ _ _ _ _ c.in_ok-put_ack.ensures.put c.put_messages.ensures.put
     (ap (λ (fs : List Fault). 1 + length fs) c.told_faults.ensures)
     (ap (λ (fs : List Fault). ack ++ flat_map ended (message_lines c.args.index 1 fs)) c.told_faults.ensures)

@@ -18,7 +18,7 @@ pub returns-in_err-put_item-clause-put : goal.returns-in_err-put_item-clause-put
 returns-in_err-put_item-clause-put g c =
     cut_put c.from_residual.result c.in_err-put_item.field-0.0 _ _ _ _ _ _ c.from_residual.ensures.1
     (front_cut _ _ _ _ _ _ _ _ _ _ _ c.loop-index.invariant.put
-    (item_next c.args.stamp.now c.args.header.now c.args.items.now c.loop-index.index c.index-items-index.result c.loop-index-test.true c.index-items-index.is)
+    (item_next c.args.form.now.stamp c.args.form.now.header c.args.items.now c.loop-index.index c.index-items-index.result c.loop-index-test.true c.index-items-index.is)
     c.in_err-put_item.ensures.put)
 
 pub loop-index-preserved : goal.loop-index-preserved
@@ -26,6 +26,6 @@ loop-index-preserved g c = record {
   works = search rules;
   put =
       front_more _ _ _ _ _ _ _ _ _ _ _ _ _ c.loop-index.invariant.put
-      (item_next c.args.stamp.now c.args.header.now c.args.items.now c.loop-index.index c.index-items-index.result c.loop-index-test.true c.index-items-index.is)
+      (item_next c.args.form.now.stamp c.args.form.now.header c.args.items.now c.loop-index.index c.index-items-index.result c.loop-index-test.true c.index-items-index.is)
       (lines_more c.args.items.now c.loop-index.index c.index-items-index.result c.loop-index-test.true c.index-items-index.is) c.in_ok-put_item.ensures.put;
 }
