@@ -17,6 +17,7 @@ pub mod RegisterEntries
 pub mod RegisterLines
 pub mod RegisterFirstLine
 pub mod RegisterNextLine
+pub mod Audited
 pub mod NumberedReplies
 pub mod RegisterAgain
 pub mod RegisterLaws

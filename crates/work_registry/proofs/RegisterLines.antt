@@ -1,6 +1,7 @@
 -- The lines of a text, by the place of its first LF.
-use Rattle.std.proofs.Common.{◌≡◌, ◌∙◌, ℕ, ◌+◌, ◌<◌, ◌≤◌, ◌^◌, ltb, Bool, true, false, cond, List, [], ◌∷◌, ◌++◌, length, take, drop, get_or, Some, None, arith, ap, sym, subst, refl, inl, inr}
+use Rattle.std.proofs.Common.{◌≡◌, ◌∙◌, ℕ, ◌+◌, ◌<◌, ◌≤◌, ◌^◌, ltb, Bool, true, false, cond, List, [], ◌∷◌, ◌++◌, length, take, drop, get_or, Option, Some, None, arith, ap, sym, subst, refl, inl, inr}
 use Rattle.std.specs.Prelude.{◌==◌, ◌⊎◌, if◌then◌else◌}
+use Rattle.memchr.specs.Find.{IsFirstByte, is_byte}
 use Rattle.std.specs.List.{position, position_or_len}
 use Rattle.std.proofs.lemmas.List.{take_all, drop_more, take-append-drop, get_or-take, length-take, append_cancel_right}
 use Rattle.std.proofs.lemmas.List.Folds.{list_any_none}
@@ -53,6 +54,39 @@ missing xs e = by (ltb (position_or_len is_end xs) (length xs)) refl e
     by true inside h = absurd (let some : None ≡ Some (position_or_len is_end xs) = h in cc)
     by false past h = grind (arith, nat_tests)
 
+-- a search that answers the first such byte
+pub first_found : (xs : List ℕ) (r : Option ℕ) → IsFirstByte (is_byte 10) xs r → r ≡ position is_end xs
+first_found xs None h = by (ltb (position_or_len is_end xs) (length xs)) refl
+  where
+    by : (b : Bool) → ltb (position_or_len is_end xs) (length xs) ≡ b → None ≡ cond b (Some (position_or_len is_end xs)) None
+    by true inside =
+        let lt : position_or_len is_end xs < length xs = grind (arith, nat_tests) in
+        absurd (h (position_or_len is_end xs) (omega arith) lt (passes_at_first is_end xs 0 lt))
+    by false past = refl
+first_found xs (Some k) h =
+    let lt = h.0.high in
+    let low : k ≤ position_or_len is_end xs = no_later (ltb (position_or_len is_end xs) k) refl in
+    let high : position_or_len is_end xs ≤ k = no_sooner (ltb k (position_or_len is_end xs)) refl in
+    let same : position_or_len is_end xs ≡ k = omega (arith, low, high) in
+    by same (ltb (position_or_len is_end xs) (length xs)) refl
+  where
+    no_later : (b : Bool) → ltb (position_or_len is_end xs) k ≡ b → k ≤ position_or_len is_end xs
+    no_later true sooner =
+        let before : position_or_len is_end xs < k = grind (arith, nat_tests) in
+        let inside = h.0.high in
+        absurd (h.0.before (position_or_len is_end xs) (omega arith) before (passes_at_first is_end xs 0 (omega (arith, before, inside))))
+    no_later false e = grind (arith, nat_tests)
+
+    no_sooner : (b : Bool) → ltb k (position_or_len is_end xs) ≡ b → position_or_len is_end xs ≤ k
+    no_sooner true later =
+        let before : k < position_or_len is_end xs = grind (arith, nat_tests) in
+        absurd (let never : true ≡ false = sym h.1 ∙ fails_before_first is_end xs k 0 before in cc)
+    no_sooner false e = grind (arith, nat_tests)
+
+    by : position_or_len is_end xs ≡ k → (b : Bool) → ltb (position_or_len is_end xs) (length xs) ≡ b → Some k ≡ cond b (Some (position_or_len is_end xs)) None
+    by same true inside = ap Some (sym same)
+    by same false past = absurd (let lt = h.0.high in let far : length xs ≤ position_or_len is_end xs = grind (arith, nat_tests) in omega (arith, lt, far, same))
+
 no_end : (xs : List ℕ) (i : ℕ) → i ≤ position_or_len is_end xs → has_end (take i xs) ≡ false
 no_end xs i le =
     list_any_none is_end (take i xs) (All-from_get_or (λ b. is_end b ≡ false) (take i xs) 0
@@ -70,11 +104,12 @@ cut_at text i e =
     sym (take-append-drop i text) ∙ ap (λ (xs : List ℕ). take i text ++ xs) (drop_more text i 0 lt ∙ ap (λ (b : ℕ). b ∷ drop (i + 1) text) at)
 
 pub cut_lines : (text line rest : List ℕ) (i : ℕ) → Some i ≡ position is_end text → line ≡ take i text → rest ≡ drop (i + 1) text
-    → (text ≡ line ++ 10 ∷ rest) × (lines text ≡ (line ++ 10 ∷ []) ∷ lines rest)
+    → (text ≡ line ++ 10 ∷ rest) × (lines text ≡ (line ++ 10 ∷ []) ∷ lines rest) × (has_end line ≡ false)
 cut_lines text line rest i e p q =
     let split : text ≡ line ++ 10 ∷ rest = cut_at text i e ∙ ap (λ (xs : List ℕ). xs ++ 10 ∷ drop (i + 1) text) (sym p) ∙ ap (λ (xs : List ℕ). line ++ 10 ∷ xs) (sym q) in
     let first = (found text i e).0 in
-    (split, ap lines split ∙ lines_first line rest (ap has_end p ∙ no_end text i (omega (arith, first))))
+    let one = ap has_end p ∙ no_end text i (omega (arith, first)) in
+    (split, ap lines split ∙ lines_first line rest one, one)
 
 pub unended : (text : List ℕ) → None ≡ position is_end text → has_end text ≡ false
 unended text e =

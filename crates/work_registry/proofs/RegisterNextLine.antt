@@ -1,6 +1,6 @@
 -- The line after those that were read: its faults, and what follows where it has none.
 use Rattle.std.proofs.Common.{◌≡◌, ◌∙◌, ℕ, ◌+◌, ◌<◌, ◌≤◌, Bool, true, false, List, [], ◌∷◌, ◌++◌, length, Option, Some, None, arith, ap, sym, subst, refl, append_assoc, inl, inr, eq-eqb}
-use Rattle.std.specs.Prelude.{◌⊎◌, ◌==◌, ◌&&◌, if◌then◌else◌}
+use Rattle.std.specs.Prelude.{◌⊎◌, ◌↔◌, ◌==◌, ◌&&◌, IsTrue, if◌then◌else◌}
 use Rattle.cwr_call.specs.CallValue.{CallValue}
 use Rattle.std.specs.List.{flat_map, AllByRecursion}
 use Rattle.std.proofs.lemmas.List.{length_push, append-nil}
@@ -18,10 +18,14 @@ use Rattle.work_registry.specs.Replay.{is_opening}
 use Rattle.work_registry.specs.RegisterLine.{EntryLine, IsEntryLine, head, head_of, fault}
 use Rattle.work_registry.specs.Told.{status_in}
 use Rattle.work_registry.specs.Register.{work_of, version_of, line_for, entry_line, entry_lines, count_line, register_text, IsWholeEntry}
-use Rattle.work_registry.specs.RegisterFaults.{in_front, lines, has_end, IsNoEntry, Tells, HasNumber, HasFaultAfter, IsFault, IsLeastFault}
+use Rattle.work_registry.specs.RegisterFaults.{in_front, lines, has_end, IsNoEntry, Tells, HasNumber, HasFaultAfter, IsFault, IsLeastFault, IsRefusal}
 use Rattle.work_registry.specs.RegisterReading.{IsReadTo}
+use Rattle.std.proofs.lemmas.Bool.Decides.{nat_tests}
 use Rattle.cwr_field.proofs.lemmas.Tests.{both}
-use Rattle.work_registry.proofs.RegisterFirstLine.{later, has_last}
+use Rattle.work_registry.specs.declared.register.refusal.RegisterRefusal.{RegisterRefusal}
+use Rattle.work_registry.specs.declared.register.refusal.RegisterRefusal.TheVariants.{Fault}
+use Rattle.work_registry.proofs.RegisterLines.{lines_last}
+use Rattle.work_registry.proofs.RegisterFirstLine.{later, has_last, no_line, no_count, unended_count}
 
 -- a line without LF says nothing
 pub unended_entry : (line : List ℕ) → has_end line ≡ false → IsNoEntry line
@@ -243,6 +247,19 @@ pub unended_line : (limit count number : ℕ) (text rest : List ℕ) (h : List E
 unended_line limit count number text rest h e (inl none) ends some counted r = absurd (let l = ap length none in omega (arith, l, some))
 unended_line limit count number text rest h e (inr one) ends some counted r = numbered limit number 1 text h e (one_fault limit count text rest rest h [] r one counted (unended_entry rest ends))
 
+-- where no LF ends a line, why there is none more
+pub absent_line : (limit count number : ℕ) (text rest : List ℕ) (h : List EntryValue) (r : RegisterRefusal) → number ≡ length h + 2 → has_end rest ≡ false
+    → (length rest ≡ 0 → r ≡ Fault 2 number) → (0 < length rest → r ≡ Fault 1 number) → length h < count → IsReadTo limit text count h rest → IsRefusal limit text r
+absent_line limit count number text [] h r e ends missing unended counted read =
+    rw (missing refl) (missing_line limit count number text [] h e refl counted read)
+absent_line limit count number text (b ∷ rest) h r e ends missing unended counted read =
+    rw (unended (omega arith)) (unended_line limit count number text (b ∷ rest) h e (inr (lines_last b rest ends)) ends (omega arith) counted read)
+
+pub absent_first : (limit : ℕ) (text : List ℕ) (r : RegisterRefusal) → has_end text ≡ false → (length text ≡ 0 → r ≡ Fault 2 1) → (0 < length text → r ≡ Fault 1 1) → IsRefusal limit text r
+absent_first limit [] r ends missing unended = rw (missing refl) (no_line limit [] refl)
+absent_first limit (b ∷ text) r ends missing unended =
+    rw (unended (omega arith)) (no_count limit (b ∷ text) (b ∷ text) [] (lines_last b text ends) (unended_count (b ∷ text) ends))
+
 pub silent_line : (limit count number : ℕ) (text rest line : List ℕ) (more : List (List ℕ)) (h : List EntryValue) (o : Option EntryLine) → number ≡ length h + 2 → lines rest ≡ line ∷ more → o ≡ None
     → ((x : EntryLine) → IsEntryLine line x → o ≡ Some x) → length h < count → IsReadTo limit text count h rest → IsLeastFault limit text number 1
 silent_line limit count number text rest line more h o e first none only counted r =
@@ -270,7 +287,26 @@ lawful_line limit count number text rest line more h later o x e split first say
     let P : List EntryValue → Type 0 = λ es. IsReadTo limit text count es more in
     subst P (sym grown) (next_read limit count text rest line more h x r split first counted says (only_one (line ++ 10 ∷ []) o x is only) (omega (arith, place, e)) tells)
 
+-- what a line is found to tell, seen as the entry that it says
+pub told_by : (x y : EntryLine) (b : Bool) (h : List EntryValue) (reply : Reply) → y ≡ x → reply ≡ reply_to (rows_of h) y.call
+    → ((z : EntryLine) → z.status ≡ y.status → z.work ≡ y.work → z.version ≡ y.version → IsTrue b ↔ Tells z reply) → IsTrue b ↔ Tells x (reply_to (rows_of h) x.call)
+told_by x y b h reply same is f =
+    let P : Reply → Type 0 = λ r. IsTrue b ↔ Tells y r in
+    let Q : EntryLine → Type 0 = λ z. IsTrue b ↔ Tells z (reply_to (rows_of h) z.call) in
+    subst Q same (subst P is (f y refl refl refl))
+
+pub entry_of_line : (x y : EntryLine) (h later : List EntryValue) (reply : Reply) → y ≡ x → reply ≡ reply_to (rows_of h) y.call → later ≡ h ++ entry_of 0 y.call reply ∷ []
+    → later ≡ h ++ entry_of 0 x.call (reply_to (rows_of h) x.call) ∷ []
+entry_of_line x y h later reply same is grown =
+    grown ∙ ap (λ (r : Reply). h ++ entry_of 0 y.call r ∷ []) is ∙ ap (λ (z : EntryLine). h ++ entry_of 0 z.call (reply_to (rows_of h) z.call) ∷ []) same
+
 -- bytes after the last entry, or none
+
+pub some_left : (n : ℕ) (b : Bool) → b ≡ (n == 0) → b ≡ false → 0 < n
+some_left n b is e = grind (arith, nat_tests)
+
+pub none_left : (n : ℕ) (b : Bool) → b ≡ (n == 0) → b ≡ true → n ≡ 0
+none_left n b is e = grind (arith, nat_tests)
 
 pub tail_line : (limit count number : ℕ) (text rest : List ℕ) (h : List EntryValue) → IsReadTo limit text count h rest → 0 < length rest → length h ≡ count → number ≡ count + 2 → IsLeastFault limit text number 2
 tail_line limit count number text rest h r some full e =

@@ -1,4 +1,5 @@
 pub mod EntryValue
+pub mod Past
 pub mod BookValue
 pub mod Refusals
 pub mod Rows
@@ -16,3 +17,4 @@ pub mod RegisterColumns
 pub mod Register
 pub mod RegisterFaults
 pub mod RegisterReading
+pub mod Auditing

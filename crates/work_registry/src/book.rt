@@ -10,21 +10,22 @@ ghost use Rattle.work_registry.specs.History.{IsHistory, IsShared, IsNamedOnce};
 ghost use Rattle.work_registry.specs.Replay.{is_opening};
 ghost use Rattle.work_registry.specs.Register.{opened};
 ghost use Rattle.work_registry.specs.Refusals.{is_full};
-ghost use Rattle.work_registry.specs.Indexes.{decision_on, kept_claim};
+ghost use Rattle.work_registry.specs.Indexes.{decision_on};
 ghost use Rattle.work_registry.specs.declared.refused.WhyRefused.TheVariants.{Memory};
 
 use crate::claim::Claim;
+use crate::deciding::{self, Known};
 use crate::entry::Entry;
-use crate::indexes::{Decision, Indexes, KeptClaim};
+use crate::indexes::{Decision, Indexes};
 use crate::key::Key;
+use crate::ledger::Ledger;
+use crate::past::Past;
 use crate::refused::{Refused, WhyRefused};
 use crate::reply::Reply;
 use cwr_call::Call;
-use indexmap::IndexMap;
 use std::alloc::{Allocator, Global};
 use std::marker::Model;
-
-mod deciding;
+use std::snapshot::Snapshot;
 
 /// A registry of works: every call that it answered, in order, with its reply.
 ///
@@ -63,15 +64,33 @@ impl<A: Allocator + Copy + Drop> Book<A> {
         requires most { limit ≤ most_entries }
         ensures { result ≡ record { history = []; limit = limit } }
     {
+        Book::opening_of(Vec::new(alloc), Ledger::new(alloc), limit)
+    }
+
+    /// The book of these entries, all of the opening, with this limit, from their ledger. No memory is asked for.
+    pub(crate) fn opening_of(history: Vec<Entry<A>, A>, ledger: Ledger<A>, limit: u32) -> Book<A>
+        requires same { history.items ≡ ledger }
+        requires opening { is_opening ledger ≡ true }
+        requires fits { length ledger ≤ limit }
+        requires least { 1 ≤ limit }
+        requires most { limit ≤ most_entries }
+        ensures { result ≡ record { history = ledger; limit = limit } }
+    {
         Book {
-            history: Vec::new(alloc),
-            kept: Indexes {
-                claims: IndexMap::new(alloc),
-                iswcs: IndexMap::new(alloc),
-                works: Vec::new(alloc),
-            },
+            history,
+            kept: ledger.kept,
             limit,
             opening: true,
+        }
+    }
+
+    /// What its indexes know of its history.
+    fn known(&self) -> Known<'_, A>
+        ensures { result ≡ self.now.history }
+    {
+        Known {
+            past: Snapshot::of(&Past::of(&self.history)),
+            kept: &self.kept,
         }
     }
 
@@ -96,7 +115,7 @@ impl<A: Allocator + Copy + Drop> Book<A> {
                 why: WhyRefused::Full,
             });
         }
-        let decision = self.decide(&call);
+        let decision = self.known().decide(&call);
         self.append(session, call, decision)?;
         Ok(decision.reply)
     }
@@ -191,28 +210,18 @@ impl<A: Allocator + Copy + Drop> Book<A> {
     pub fn claim(&self, submitter: &[u8; 11], number: &[u8; 14]) -> Option<Claim>
         ensures { result ≡ claim_of (record { submitter = submitter.now; number = number.now }) (rows_of self.now.history) }
     {
-        let kept = self.claim_under(&Key {
+        let kept = self.known().claim_under(&Key {
             submitter: *submitter,
             number: *number,
         })?;
         Some(kept.told())
     }
 
-    /// What is kept of the claim under a key.
-    fn claim_under(&self, key: &Key) -> Option<KeptClaim>
-        ensures { result ≡ kept_claim key.now (rows_of self.now.history) }
-    {
-        self.kept.claims.get(key).copied()
-    }
-
     /// The work that has an ISWC, given as the number of its nine digits.
     pub fn work_of_iswc(&self, iswc: u64) -> Option<u32>
         ensures { result ≡ work_of_iswc iswc (rows_of self.now.history) }
     {
-        // Looking at it tells the check what holds in every book.
-        let _ = &self.history;
-        let iswc = u32::try_from(iswc).ok()?;
-        self.kept.iswcs.get(&iswc).copied()
+        self.known().work_of_iswc(iswc)
     }
 
     /// The control of a work: what all submitters' claims on it own together of the performing, the mechanical and the
@@ -220,7 +229,7 @@ impl<A: Allocator + Copy + Drop> Book<A> {
     pub fn control_of(&self, work: u32) -> [u64; 3]
         ensures { result ≡ control_of work (rows_of self.now.history) }
     {
-        self.work(work).control()
+        self.known().work(work).control()
     }
 }
 

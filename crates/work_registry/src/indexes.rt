@@ -1,4 +1,4 @@
-ghost use Rattle.std.specs.Prelude.{◌≡◌, ◌≤◌, ◌<◌, ◌+◌, ◌-◌, OnOk, vec_len, vec_capacity, nat_eq, slice_index, Some, MatchOption, IfSome};
+ghost use Rattle.std.specs.Prelude.{◌≡◌, ◌≤◌, ◌<◌, ◌+◌, ◌-◌, [], OnOk, vec_len, vec_capacity, nat_eq, slice_index, Some, MatchOption, IfSome};
 ghost use Rattle.indexmap.specs.IndexMap.{get, IsUnchanged, Updates, spare};
 ghost use Rattle.work_registry.specs.Rows.{same_key};
 ghost use Rattle.work_registry.specs.Reply.{most_control};
@@ -93,6 +93,19 @@ pub(crate) fn narrow(control: [u64; 3]) -> [u16; 3]
 }
 
 impl<A: Allocator + Copy + Drop> Indexes<A> {
+    /// Those of no history. No memory is asked for.
+    pub(crate) fn new(alloc: A) -> Indexes<A>
+        ensures claims { result.claims.entries ≡ [] }
+        ensures iswcs { result.iswcs.entries ≡ [] }
+        ensures works { result.works.items ≡ [] }
+    {
+        Indexes {
+            claims: IndexMap::new(alloc),
+            iswcs: IndexMap::new(alloc),
+            works: Vec::new(alloc),
+        }
+    }
+
     /// Makes room for one more of each. What is kept stays as it is, also where memory is refused.
     pub(crate) fn make_room(&mut self) -> Result<(), AllocError>
         ensures claims { IsUnchanged self.old.claims self.new.claims }

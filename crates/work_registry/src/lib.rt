@@ -6,10 +6,13 @@
 
 mod book;
 mod claim;
+mod deciding;
 mod entry;
 mod indexes;
 mod key;
 pub mod laws;
+mod ledger;
+mod past;
 mod refused;
 mod register;
 mod reply;
@@ -20,5 +23,5 @@ pub use cwr_call::{Call, Fault, Faults, Memory, WorkKind};
 pub use cwr_record::Status;
 pub use entry::Entry;
 pub use refused::{Refused, WhyRefused};
-pub use register::{RegisterRefusal, audit, read_register};
+pub use register::{Auditor, RegisterRefusal, audit, read_register};
 pub use reply::Reply;

@@ -14,6 +14,7 @@ ghost use Rattle.work_registry.specs.declared.register.refusal.RegisterRefusal.T
 ghost use Rattle.std.specs.List.{AllByRecursion};
 ghost use Rattle.work_registry.specs.RegisterFaults.{IsRefusal};
 
+mod auditor;
 mod columns;
 mod entry_line;
 mod faults;
@@ -25,7 +26,8 @@ mod refusal;
 mod writing;
 
 use crate::book::Book;
-use cwr_field::{MOST_COUNT, Memory};
+pub use auditor::Auditor;
+use cwr_field::Memory;
 use reading::book_from;
 pub use refusal::RegisterRefusal;
 use std::alloc::Allocator;
@@ -74,11 +76,11 @@ pub fn read_register<A: Allocator + Copy + Drop>(
 
 /// How many entries a register has, where it is one of a history of one registry.
 ///
-/// Any other text gives its first fault: of its faulty lines the first, and of that line's faults the least.
+/// Any other text gives its first fault: of its faulty lines the first, and of that line's faults the least. No entry is
+/// kept, but what decides on the next one.
 pub fn audit<A: Allocator + Copy + Drop>(alloc: A, bytes: &[u8]) -> Result<u64, RegisterRefusal>
     ensures entries { IfOk result (IsAudited bytes.now) }
     ensures fault { IfErr result (IsRefusal most_entries bytes.now) }
 {
-    let book = read_register(alloc, bytes, MOST_COUNT)?;
-    Ok(book.len() as u64)
+    Auditor::new(alloc).finish(bytes)
 }

@@ -7,18 +7,20 @@ ghost use Rattle.work_registry.specs.RegisterFaults.{lines, has_end};
 
 use super::columns::{self, COUNT_WIDTH};
 use cwr_record::{digits_at, field_at};
+use memchr::memchr;
 
 /// The index of the first LF.
 fn first_end(text: &[u8]) -> Option<usize>
     ensures { result ≡ position (λ b. b == 10) text.now }
 {
-    text.iter().position(|byte| *byte == b'\n')
+    memchr(b'\n', text)
 }
 
 /// The first line of a text, without the LF at its end, and what follows that; `None` where no LF ends a line.
 pub(super) fn cut_line(text: &[u8]) -> Option<(&[u8], &[u8])>
     ensures text { IfSome result (λ cut. text.now ≡ cut.0.now ++ 10 ∷ cut.1.now) }
     ensures lines { IfSome result (λ cut. lines text.now ≡ (cut.0.now ++ 10 ∷ []) ∷ lines cut.1.now) }
+    ensures one { IfSome result (λ cut. has_end cut.0.now ≡ false) }
     ensures none { IfNone result ((text.now ≡ []) ⊎ (lines text.now ≡ text.now ∷ [])) }
     ensures unended { IfNone result (has_end text.now ≡ false) }
 {

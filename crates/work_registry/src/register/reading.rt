@@ -1,6 +1,6 @@
-//! A register is read line by line into a book, which decides on each call anew.
+//! A register is read line by line into a ledger, which decides on each call anew.
 
-ghost use Rattle.std.specs.Prelude.{◌≡◌, ◌≤◌, ◌<◌, ◌^◌, ◌∷◌, ◌++◌, [], ℕ, List, true, length, IsTrue, ◌↔◌, ◌+◌, OnOk, IfOk, IfErr};
+ghost use Rattle.std.specs.Prelude.{◌≡◌, ◌≤◌, ◌<◌, ◌^◌, ◌∷◌, ◌++◌, [], ℕ, List, true, false, length, IsTrue, ◌↔◌, ◌+◌, OnOk, IfOk, IfErr};
 ghost use Rattle.work_registry.specs.EntryValue.{EntryValue, entry_of};
 ghost use Rattle.work_registry.specs.Rows.{rows_of};
 ghost use Rattle.work_registry.specs.Reply.{reply_to};
@@ -9,7 +9,7 @@ ghost use Rattle.work_registry.specs.Numbers.{most_entries};
 ghost use Rattle.work_registry.specs.Replay.{is_opening};
 ghost use Rattle.work_registry.specs.Register.{count_line, register_text, IsWholeEntry};
 ghost use Rattle.std.specs.List.{AllByRecursion};
-ghost use Rattle.work_registry.specs.RegisterFaults.{lines, Tells, IsRefusal};
+ghost use Rattle.work_registry.specs.RegisterFaults.{lines, has_end, Tells, IsRefusal};
 ghost use Rattle.work_registry.specs.RegisterReading.{IsReadTo, IsStep, IsStop};
 ghost use Rattle.work_registry.specs.declared.register.refusal.RegisterRefusal.TheVariants as refusal;
 
@@ -17,16 +17,44 @@ use super::entry_line::{ReadEntry, read_entry};
 use super::lines::{count_in, cut_line};
 use super::refusal::RegisterRefusal;
 use crate::book::Book;
-use crate::refused::WhyRefused;
+use crate::entry::Entry;
+use crate::ledger::Ledger;
 use crate::reply::Reply;
-use cwr_field::Memory;
 use cwr_record::Status;
 use std::alloc::Allocator;
 
-fn fault(number: u8, line: u64) -> RegisterRefusal
+pub(super) fn fault(number: u8, line: u64) -> RegisterRefusal
     ensures { result ≡ refusal.Fault number line }
 {
     RegisterRefusal::Fault { number, line }
+}
+
+/// Why a text has no line more, of this number: it is at its end, or no LF ends the line.
+pub(super) fn no_line(text: &[u8], number: u64) -> RegisterRefusal
+    ensures missing { length text.now ≡ 0 → result ≡ refusal.Fault 2 number }
+    ensures unended { 0 < length text.now → result ≡ refusal.Fault 1 number }
+{
+    if text.is_empty() {
+        fault(2, number)
+    } else {
+        fault(1, number)
+    }
+}
+
+/// The number of entries that the first line tells, which has no LF at its end here.
+pub(super) fn first_count(line: &[u8], limit: u32) -> Result<u32, RegisterRefusal>
+    requires { has_end line.now ≡ false }
+    ensures count { IfOk result (λ count. (more : List ℕ) → IsReadTo limit (line.now ++ 10 ∷ more) count [] more) }
+    ensures within { IfOk result (λ count. count ≤ limit) }
+    ensures fault { IfErr result (λ refusal. (more : List ℕ) → IsRefusal limit (line.now ++ 10 ∷ more) refusal) }
+{
+    let Some(count) = count_in(line) else {
+        return Err(fault(1, 1));
+    };
+    if count > limit {
+        return Err(fault(4, 1));
+    }
+    Ok(count)
 }
 
 /// The number of entries that the first line tells, and the text after that line.
@@ -35,19 +63,13 @@ fn read_count(text: &[u8], limit: u32) -> Result<(u32, &[u8]), RegisterRefusal>
     ensures within { IfOk result (λ start. start.0 ≤ limit) }
     ensures fault { IfErr result (IsRefusal limit text.now) }
 {
-    if text.is_empty() {
-        return Err(fault(2, 1));
-    }
     let Some((line, rest)) = cut_line(text) else {
-        return Err(fault(1, 1));
+        return Err(no_line(text, 1));
     };
-    let Some(count) = count_in(line) else {
-        return Err(fault(1, 1));
-    };
-    if count > limit {
-        return Err(fault(4, 1));
+    match first_count(line, limit) {
+        Ok(count) => Ok((count, rest)),
+        Err(refusal) => Err(refusal),
     }
-    Ok((count, rest))
 }
 
 /// Whether a status, a work and a version tell a reply.
@@ -59,16 +81,35 @@ fn is_told(status: Status, work: u32, version: u32, reply: Reply) -> bool
         && version == reply.version().unwrap_or(0)
 }
 
-/// Hands the call of a line in, and says whether the book replies what the line tells.
-fn is_answered<A: Allocator + Copy + Drop>(
-    book: &mut Book<A>,
-    entry: ReadEntry<A>,
-) -> Result<bool, Memory>
-    requires { length book.old.history < book.old.limit }
-    ensures told { IfOk result (λ b. IsTrue b ↔ Tells entry (reply_to (rows_of book.old.history) entry.call)) }
-    ensures entry { OnOk result (book.new.history ≡ book.old.history ++ entry_of 0 entry.call (reply_to (rows_of book.old.history) entry.call) ∷ []) }
-    ensures limit { book.new.limit ≡ book.old.limit }
+/// The number of the line after those of a ledger's entries.
+pub(super) fn next_number<A: Allocator + Copy + Drop>(ledger: &Ledger<A>) -> u64
+    ensures { result ≡ length ledger.now + 2 }
 {
+    ledger.len() as u64 + 2
+}
+
+/// Reads the next line, without the LF at its end, as an entry, on which the ledger decides anew.
+///
+/// With a refusal the ledger may hold the entry.
+pub(super) fn read_line<A: Allocator + Copy + Drop>(
+    alloc: A,
+    ledger: &mut Ledger<A>,
+    line: &[u8],
+) -> Result<Entry<A>, RegisterRefusal>
+    requires room { length ledger.old < most_entries }
+    requires one { has_end line.now ≡ false }
+    ensures read { OnOk result ((more : List ℕ) → IsStep ledger.old (line.now ++ 10 ∷ more) ledger.new more) }
+    ensures entry { IfOk result (λ entry. ledger.new ≡ ledger.old ++ entry ∷ []) }
+    ensures few { length ledger.new ≤ length ledger.old + 1 }
+    ensures fault { IfErr result (λ refusal. (more : List ℕ) → IsStop ledger.old (line.now ++ 10 ∷ more) refusal) }
+{
+    let number = next_number(ledger);
+    let Some(entry) = read_entry(alloc, line)? else {
+        return Err(fault(1, number));
+    };
+    if entry.index as u64 + 1 != number {
+        return Err(fault(2, number));
+    }
     let ReadEntry {
         index: _,
         call,
@@ -76,47 +117,37 @@ fn is_answered<A: Allocator + Copy + Drop>(
         work,
         version,
     } = entry;
-    match book.apply(0, call) {
-        Ok(reply) => Ok(is_told(status, work, version, reply)),
-        Err(refused) => match refused.why {
-            WhyRefused::Full => unreachable!(),
-            WhyRefused::Memory => Err(Memory),
-        },
-    }
-}
-
-/// Reads the next line, of this number, as an entry, on which the book decides anew. Gives the text after it.
-///
-/// With a refusal the book may hold the entry.
-fn read_next<'a, A: Allocator + Copy + Drop>(
-    alloc: A,
-    book: &mut Book<A>,
-    number: u64,
-    rest: &'a [u8],
-) -> Result<&'a [u8], RegisterRefusal>
-    requires number { number ≡ length book.old.history + 2 }
-    requires room { length book.old.history < book.old.limit }
-    ensures read { IfOk result (λ more. IsStep book.old.history rest.now book.new.history more.now) }
-    ensures one_more { OnOk result (length book.new.history ≡ length book.old.history + 1) }
-    ensures limit { book.new.limit ≡ book.old.limit }
-    ensures fault { IfErr result (IsStop book.old.history rest.now) }
-{
-    if rest.is_empty() {
-        return Err(fault(2, number));
-    }
-    let Some((line, more)) = cut_line(rest) else {
-        return Err(fault(1, number));
-    };
-    let Some(entry) = read_entry(alloc, line)? else {
-        return Err(fault(1, number));
-    };
-    if entry.index as u64 + 1 != number {
-        return Err(fault(2, number));
-    }
-    if !is_answered(book, entry)? {
+    let reply = ledger.answer(&call)?;
+    if !is_told(status, work, version, reply) {
         return Err(fault(3, number));
     }
-    Ok(more)
+    Ok(Entry {
+        session: 0,
+        call,
+        reply,
+    })
+}
+
+/// Reads the next line as an entry. Gives that and the text after it.
+///
+/// With a refusal the ledger may hold the entry.
+fn read_next<'a, A: Allocator + Copy + Drop>(
+    alloc: A,
+    ledger: &mut Ledger<A>,
+    rest: &'a [u8],
+) -> Result<(Entry<A>, &'a [u8]), RegisterRefusal>
+    requires room { length ledger.old < most_entries }
+    ensures read { IfOk result (λ next. IsStep ledger.old rest.now ledger.new next.1.now) }
+    ensures entry { IfOk result (λ next. ledger.new ≡ ledger.old ++ next.0 ∷ []) }
+    ensures fault { IfErr result (IsStop ledger.old rest.now) }
+{
+    let Some((line, more)) = cut_line(rest) else {
+        return Err(no_line(rest, next_number(ledger)));
+    };
+    match read_line(alloc, ledger, line) {
+        Ok(entry) => Ok((entry, more)),
+        Err(refusal) => Err(refusal),
+    }
 }
 
 /// The book with the history that a register tells.
@@ -134,12 +165,17 @@ pub(super) fn book_from<A: Allocator + Copy + Drop>(
     ensures fault { IfErr result (IsRefusal limit text.now) }
 {
     let (count, mut rest) = read_count(text, limit)?;
-    let mut book = Book::new(alloc, limit);
-    for before in 0..count {
-        rest = read_next(alloc, &mut book, before as u64 + 2, rest)?;
+    let mut ledger = Ledger::new(alloc);
+    let mut history = Vec::new(alloc);
+    for _ in 0..count {
+        let (entry, more) = read_next(alloc, &mut ledger, rest)?;
+        rest = more;
+        let Ok(_) = history.push(entry) else {
+            return Err(RegisterRefusal::Memory);
+        };
     }
     if !rest.is_empty() {
-        return Err(fault(2, count as u64 + 2));
+        return Err(fault(2, next_number(&ledger)));
     }
-    Ok(book)
+    Ok(Book::opening_of(history, ledger, limit))
 }

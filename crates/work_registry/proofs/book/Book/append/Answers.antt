@@ -2,14 +2,13 @@ use Rattle.std.proofs.Common.{◌≡◌, ◌<◌, ◌∙◌, ◌++◌, ◌∷◌
 use Rattle.std.specs.Prelude.{◌==◌, ◌&&◌}
 use Rattle.indexmap.specs.IndexMap.{get}
 use Rattle.work_registry.specs.EntryValue.{EntryValue, entry_of}
-use Rattle.work_registry.specs.Rows.{rows_of, rows_of_entry, same_key}
-use Rattle.work_registry.specs.Reply.{reply_to}
+use Rattle.work_registry.specs.Rows.{rows_of, same_key}
 use Rattle.work_registry.specs.Indexes.{AreIndexes, decision_on}
 use Rattle.work_registry.proofs.SoundRows.{IsSound}
-use Rattle.work_registry.proofs.SoundHistories.{sound, rows_of-push}
-use Rattle.work_registry.proofs.KeptRows.{indexes-step, indexes-room, step-place}
+use Rattle.work_registry.proofs.SoundHistories.{sound}
+use Rattle.work_registry.proofs.KeptRows.{indexes-room, step-place}
 use Rattle.work_registry.proofs.Decided.{decided-change}
-use Rattle.work_registry.proofs.GrowingBooks.{book-push, opening-push}
+use Rattle.work_registry.proofs.GrowingBooks.{book-push, indexes-push, opening-push}
 use Rattle.work_registry.proofs.book.Book.append.Goals as goal
 
 pub invariant_of-self-then-is_err-2 : goal.invariant_of-self-then-is_err-2
@@ -34,15 +33,12 @@ invariant_of-self-2 g c =
     let grown : c.store_entry.new.history.items ≡ h ++ e ∷ [] = c.store_entry.ensures ∙ ap (λ l. l ++ e ∷ []) c.reserve.ensures.items in
     let decided : c.args.decision ≡ decision_on (rows_of h) c.args.call = rw (← c.self.view_is) at c.requires.decided in
     let room_left : length h < c.self.inside.limit = rw (← c.self.view_is) at c.requires.not_full in
-    let is : reply ≡ reply_to (rows_of h) c.args.call = ap (λ d. d.reply) decided in
-    let room = indexes-room (rows_of h) c.self.inside.kept.claims c.make_room.new.self.claims c.self.inside.kept.iswcs c.make_room.new.self.iswcs c.self.inside.kept.works.items c.make_room.new.self.works.items
-    c.self.invariant.1 c.make_room.ensures.claims c.make_room.ensures.iswcs c.make_room.ensures.works in
     let nine_digits = rw c.iswc.ensures.value at c.iswc.ensures.nine_digits in
     let claims = rw c.key.ensures at c.store.ensures.claims in
     let iswcs = rw c.iswc.ensures.value at c.store.ensures.iswcs in
-    let kept : AreIndexes (rows_of h ++ rows_of_entry c.args.call reply) (get same_key c.store.new.self.claims) (get nat_eq c.store.new.self.iswcs) c.store.new.self.works.items =
-    indexes-step (rows_of h) c.args.call reply c.args.decision.change c.make_room.new.self.claims c.store.new.self.claims c.make_room.new.self.iswcs c.store.new.self.iswcs c.make_room.new.self.works.items c.store.new.self.works.items
-    (sound h c.self.invariant.0.lawful) nine_digits is (decided-change (rows_of h) c.args.call c.args.decision decided) room claims iswcs c.store.ensures.works in
-    let kept' : AreIndexes (rows_of (h ++ e ∷ [])) (get same_key c.store.new.self.claims) (get nat_eq c.store.new.self.iswcs) c.store.new.self.works.items = rw (rows_of-push h e) kept in
+    let kept : AreIndexes (rows_of (h ++ e ∷ [])) (get same_key c.store.new.self.claims) (get nat_eq c.store.new.self.iswcs) c.store.new.self.works.items =
+    indexes-push h c.args.session c.args.call c.args.decision c.self.inside.kept.claims c.make_room.new.self.claims c.store.new.self.claims c.self.inside.kept.iswcs c.make_room.new.self.iswcs c.store.new.self.iswcs
+    c.self.inside.kept.works.items c.make_room.new.self.works.items c.store.new.self.works.items
+    c.self.invariant.0.lawful nine_digits decided c.self.invariant.1 c.make_room.ensures.claims c.make_room.ensures.iswcs c.make_room.ensures.works claims iswcs c.store.ensures.works in
     let opening = c.is_still_opening-self-inside.ensures ∙ ap (λ b. b && (c.args.session == 0)) c.self.invariant.2 ∙ sym (opening-push h e) in
-    rw grown (book-push h e c.self.inside.limit c.self.invariant.0 room_left is, kept', opening)
+    rw grown (book-push h e c.self.inside.limit c.self.invariant.0 room_left (ap (λ d. d.reply) decided), kept, opening)

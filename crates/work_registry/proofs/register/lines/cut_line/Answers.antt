@@ -15,3 +15,6 @@ returns-clause-lines c = (cut_lines c.args.text.now _ _ c.in_ok-end.end c.in_ok-
 
 pub returns-clause-text : goal.returns-clause-text
 returns-clause-text c = (cut_lines c.args.text.now _ _ c.in_ok-end.end c.in_ok-end.ensures refl (take_rest c.args.text.now (c.in_ok-end.end + 1))).0
+
+pub returns-clause-one : goal.returns-clause-one
+returns-clause-one c = (cut_lines c.args.text.now _ _ c.in_ok-end.end c.in_ok-end.ensures refl (take_rest c.args.text.now (c.in_ok-end.end + 1))).2

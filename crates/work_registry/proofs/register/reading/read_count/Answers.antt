@@ -1,10 +1,18 @@
-use Rattle.work_registry.proofs.RegisterFirstLine.{above_limit, first_read}
+use Rattle.std.proofs.Common.{List, ℕ, [], sym, subst}
+use Rattle.work_registry.specs.RegisterFaults.{IsRefusal}
+use Rattle.work_registry.specs.RegisterReading.{IsReadTo}
+use Rattle.work_registry.proofs.RegisterNextLine.{absent_first}
 use Rattle.work_registry.proofs.register.reading.read_count.Goals as goal
 
-pub returns-then-count-limit-clause-fault : goal.returns-then-count-limit-clause-fault
-returns-then-count-limit-clause-fault c =
-    rw c.fault-then-count-limit.ensures (above_limit c.args.limit c.in-Some-count_in.count c.args.text.now c.in-Some.line.now _ c.in-Some.ensures.lines c.in-Some-count_in.ensures.fits c.in-Some-count_in.ensures.some c.if-count-limit.true)
+pub returns-in-Ok-clause-count : goal.returns-in-Ok-clause-count
+returns-in-Ok-clause-count c =
+    let P : List ℕ → Type 0 = λ xs. IsReadTo c.args.limit xs c.in-Ok.count [] c.in-Some.rest.now in
+    subst P (sym c.in-Some.ensures.text) (c.in-Ok.ensures.count c.in-Some.rest.now)
 
-pub returns-clause-count : goal.returns-clause-count
-returns-clause-count c =
-    first_read c.args.limit c.in-Some-count_in.count c.args.text.now c.in-Some.line.now c.in-Some.rest.now c.in-Some.ensures.text c.in-Some.ensures.lines c.in-Some-count_in.ensures.fits c.in-Some-count_in.ensures.some c.if-count-limit.false
+pub returns-in-Err-clause-fault : goal.returns-in-Err-clause-fault
+returns-in-Err-clause-fault c =
+    let P : List ℕ → Type 0 = λ xs. IsRefusal c.args.limit xs c.in-Err.refusal in
+    subst P (sym c.in-Some.ensures.text) (c.in-Err.ensures.fault c.in-Some.rest.now)
+
+pub returns-in_default-clause-fault : goal.returns-in_default-clause-fault
+returns-in_default-clause-fault c = absent_first c.args.limit c.args.text.now c.no_line.result c.in_default.ensures.unended c.no_line.ensures.missing c.no_line.ensures.unended

@@ -1,0 +1,51 @@
+//! Registers that come a piece at a time.
+
+ghost use Rattle.std.specs.Prelude.{◌<◌};
+
+use crate::registers::ONE_ENTRY;
+use cwr_sheets::same;
+use std::alloc::Global;
+use std::test::Fail;
+use work_registry::{Auditor, RegisterRefusal};
+
+/// What the audit of a text answers that comes in pieces of this size.
+fn audit_in_pieces(
+    alloc: Global,
+    text: &[u8],
+    size: usize,
+) -> Result<Result<u64, RegisterRefusal>, Fail>
+    requires { 0 < size }
+{
+    let mut auditor = Auditor::new(alloc);
+    let mut held = Vec::new(alloc);
+    for piece in text.chunks(size) {
+        held.extend_from_slice(piece)?;
+        match auditor.take_lines(&held) {
+            Ok(taken) => held = held[taken..].to_vec(alloc)?,
+            Err(refusal) => return Ok(Err(refusal)),
+        }
+    }
+    Ok(auditor.finish(&held))
+}
+
+/// One entry, and the same with a byte behind it, in pieces of each size.
+#[test]
+fn each_size(rt: HostRuntime) -> Result<(), Fail> {
+    let one = ONE_ENTRY.as_bytes();
+    let mut more = one.to_vec(rt.alloc())?;
+    more.push(b'X')?;
+    let refused = RegisterRefusal::Fault { number: 2, line: 3 };
+    for size in 1..190usize {
+        same(
+            "a size, and the answer",
+            &(size, audit_in_pieces(rt.alloc(), one, size)?),
+            &(size, Ok(1)),
+        )?;
+        same(
+            "a size, and the answer with a byte more",
+            &(size, audit_in_pieces(rt.alloc(), &more, size)?),
+            &(size, Err(refused)),
+        )?;
+    }
+    Ok(())
+}
