@@ -160,6 +160,33 @@ fn is_entry<A: Allocator>(entry: &Entry<A>, before: u16, number: u16) -> Result<
     same("its call", &is_call(entry.call(), number), &true)
 }
 
+/// The entries of the book must be those of the first `count` calls, where those after the first `before` are of session 1.
+fn holds_entries<A: Allocator + Copy + Drop>(
+    book: &Book<A>,
+    before: u16,
+    count: u16,
+) -> Result<(), Fail>
+    ensures length { OnOk result (length book.now.history ≡ count) }
+    ensures entries { OnOk result ((k : ℕ) (d : EntryValue) → k < count → slice_index_or book.now.history k d ≡ entry_numbered before (k + 1)) }
+{
+    same("length", &book.len(), &(count as usize))?;
+    let mut number: u16 = 0;
+    for entry in book.history() {
+        number = number.saturating_add(1);
+        is_entry(entry, before, number)?;
+    }
+    same("entries", &number, &count)?;
+    Ok(())
+}
+
+/// What the book must tell of each work after the first `count` calls, and of no work more.
+fn knows_works<A: Allocator + Copy + Drop>(book: &Book<A>, count: u16) -> Result<(), Fail> {
+    for work in 1..12 {
+        knows(book, work, count)?;
+    }
+    Ok(())
+}
+
 /// The book, whose limit is 100, must hold the first `count` calls and their replies, those after the first `before` of
 /// session 1, the others of the opening; and it must tell what follows from them, and of no work more.
 ///
@@ -174,18 +201,9 @@ pub fn holds<A: Allocator + Copy + Drop>(
     ensures entries { OnOk result ((k : ℕ) (d : EntryValue) → k < count → slice_index_or book.now.history k d ≡ entry_numbered before (k + 1)) }
 {
     same("limit", &book.limit(), &100)?;
-    same("length", &book.len(), &(count as usize))?;
     same("opening", &book.is_opening(), &(before >= count))?;
-    let mut number: u16 = 0;
-    for entry in book.history() {
-        number = number.saturating_add(1);
-        is_entry(entry, before, number)?;
-    }
-    same("entries", &number, &count)?;
-    for work in 1..12 {
-        knows(book, work, count)?;
-    }
-    Ok(())
+    holds_entries(book, before, count)?;
+    knows_works(book, count)
 }
 
 /// A book with the first `count` calls, of the opening; `None` where memory was refused.

@@ -12,7 +12,6 @@ mod faults;
 mod fields;
 #[cfg(test)]
 mod lines;
-pub mod read_back;
 #[cfg(test)]
 mod single_fields;
 #[cfg(test)]

@@ -1,7 +1,7 @@
 use Rattle.std.proofs.Common.{ℕ, ◌≡◌, ◌<◌, ◌+◌, slice_index_or}
 use Rattle.work_registry.specs.EntryValue.{EntryValue}
 use Rattle.book_calls.specs.Calls.{entry_numbered}
-use Rattle.book_calls.proofs.books.holds.Given as goal
+use Rattle.book_calls.proofs.books.holds_entries.Given as goal
 
 -- the entries so far are counted, and are those of the first calls
 abbrev pub invariant-loop-entry : goal.invariant-loop-entry

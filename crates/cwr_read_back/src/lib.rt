@@ -1,4 +1,5 @@
 //! What was written is read back, for each type of record: it follows from what the writer and the reader promise.
+#![tactic(auto)]
 
 ghost use Rattle.std.specs.Prelude.{◌≡◌, IfOk, Ok};
 ghost use Rattle.cwr_record.specs.Lines.{Fits};

@@ -1,16 +1,14 @@
-use Rattle.std.proofs.Common.{◌≡◌, ◌<◌, ◌+◌, List, length, get_or, rules, arith, sym, ap, ◌∙◌}
+use Rattle.std.proofs.Common.{◌≡◌, ◌+◌, List, length, get_or, rules, arith, sym, ap, ◌∙◌}
 use Rattle.std.proofs.lemmas.List.{get_or_read}
 use Rattle.work_registry.specs.EntryValue.{EntryValue}
 use Rattle.book_calls.specs.Calls.{entry_numbered}
 use Rattle.book_calls.proofs.Numbered.{numbered_more}
-use Rattle.book_calls.proofs.books.holds.Goals as goal
+use Rattle.book_calls.proofs.books.holds_entries.Goals as goal
 
 pub loop-entry-preserved : goal.loop-entry-preserved
 loop-entry-preserved g c =
-    let hundred : c.limit.result ≡ 100 = search (rules, c.same.ensures.0, c.in_ok-same.was) in
-    let limited : c.args.book.now.limit ≡ 100 = sym c.limit.ensures.value ∙ hundred in
-    let few : c.loop-entry.entry-index < 100 = omega (arith, c.loop-entry-test.true, c.history-entry-items.ensures.fits, limited, ap (λ (h : List EntryValue). length h) c.history-entry-items.ensures.entries) in
-    let counted : c.saturating_add-number.result ≡ c.loop-entry.entry-index + 1 = omega (arith, c.saturating_add-number.ensures, c.loop-entry.invariant.counted, few) in
+    let told : c.len.result ≡ c.args.count = search (rules, c.same.ensures.0, c.in_ok-same.was) in
+    let counted : c.saturating_add-number.result ≡ c.loop-entry.entry-index + 1 = omega (arith, c.saturating_add-number.ensures, c.loop-entry.invariant.counted, c.loop-entry-test.true, told, c.len.ensures.value, ap (λ (h : List EntryValue). length h) c.history-entry-items.ensures.entries) in
     record {
       counted = counted;
       entries =
