@@ -1,12 +1,13 @@
 //! A text takes the place of a file, and then the drafts of the followers take theirs.
 
-ghost use Rattle.std.specs.Prelude.{◌≡◌, ◌≤◌, ◌⊎◌, Some, true, false, length, take, IfSome, IfErr, IsErr, OnOk};
-ghost use Rattle.kept_file.specs.Names.{Names, with_file, placing, HasNoneBeside};
-ghost use Rattle.kept_file.specs.Looking.{Only, Becomes, MayBecome};
+ghost use Rattle.std.specs.Prelude.{◌≡◌, ◌<◌, ◌≤◌, ◌^◌, ◌⊎◌, Some, true, false, length, take, IfOk, IfSome, IfErr, IsErr, OnOk};
+ghost use Rattle.kept_file.specs.Names.{Names, with_file, drafting, placing, HasNoneBeside};
+ghost use Rattle.kept_file.specs.Looking.{Only, Becomes, MayBecome, Stays};
 ghost use Rattle.kept_file.specs.Keeping.{OldOrNew, FileFirst, SinceThen, Leads, MayFollow, AreFollowing};
 
 use crate::following::{drop_followers, put_followers};
-use crate::{CallFailed, NotKept, Place};
+use crate::pieces::OnePiece;
+use crate::{CallFailed, NotKept, Pieces, Place};
 
 /// Replaces the file under the name by this text, and then puts each follower in place.
 ///
@@ -32,7 +33,35 @@ pub fn keep<P: Place>(place: &mut P, text: &[u8]) -> Result<(), NotKept>
     ensures sent { IfErr result (λ e. Leads (λ s t. t.draft ≡ take e.sent text.now) (P.told place.old) (P.told place.new)) }
     ensures failed { IsErr result → P.has_failed place.new ≡ true }
 {
-    match replace(place, text) {
+    keep_pieces(place, &mut OnePiece::new(text))
+}
+
+/// Replaces the file under the name by a text that comes in pieces, and then puts each follower in place, as [`keep`]
+/// does.
+///
+/// The file has the text's bytes that are still to come. Not even the first of them shows under the name before the last
+/// is in the draft.
+pub fn keep_pieces<P: Place, T: Pieces>(place: &mut P, text: &mut T) -> Result<(), NotKept>
+    requires works { P.has_failed place.old ≡ false }
+    // What lies under the names is on the disk.
+    requires settled { IfSome (P.told place.old) (λ s. Only s.names (P.may_find place.old)) }
+    requires short { length (T.left text.old) < 2 ^ 63 }
+    // Whoever looks, and whenever, finds all as it was, or the whole text and each follower as it was or whole.
+    ensures any_moment { IfSome (P.told place.old) (λ s. SinceThen (P.found place.old) (P.found place.new) (FileFirst s.names (T.left text.old))) }
+    ensures whole { IfSome (P.told place.old) (λ s. SinceThen (P.found place.old) (P.found place.new) (λ c. (c ≡ s.names) ⊎ MayFollow s (with_file (T.left text.old) s.names) c)) }
+    // At `Ok` the text is there, and no crash takes it away.
+    ensures kept { OnOk result (Leads (λ s t. t.names.file ≡ Some (T.left text.old)) (P.told place.old) (P.told place.new)) }
+    ensures stays { OnOk result (IfSome (P.told place.old) (λ s. (c : Names) → P.may_find place.new c → c.file ≡ Some (T.left text.old))) }
+    // At `Ok` each follower is in place, or it is told that it is not; else none is, and none of their drafts is left.
+    ensures each { OnOk result (Leads (λ s t. AreFollowing (length s.waiting) (record s { names = with_file (T.left text.old) s.names; draft = T.left text.old }) t) (P.told place.old) (P.told place.new)) }
+    ensures withheld { IsErr result → IfSome (P.told place.old) (λ s. SinceThen (P.found place.old) (P.found place.new) (λ c. c.followers ≡ s.names.followers)) }
+    ensures dropped { IsErr result → Leads (λ _ t. HasNoneBeside t) (P.told place.old) (P.told place.new) }
+    // Of a text that was not kept, just so many bytes went into the draft. It does not give up by itself.
+    ensures few { IfErr result (λ e. e.sent ≤ length (T.left text.old)) }
+    ensures sent { IfErr result (λ e. Leads (λ s t. t.draft ≡ take e.sent (T.left text.old)) (P.told place.old) (P.told place.new)) }
+    ensures failed { IsErr result → P.has_failed place.new ≡ true }
+{
+    match replace_pieces(place, text) {
         Ok(()) => {
             put_followers(place);
             Ok(())
@@ -63,39 +92,92 @@ pub fn replace<P: Place>(place: &mut P, text: &[u8]) -> Result<(), NotKept>
     ensures sent { IfErr result (λ e. Leads (λ s t. t.draft ≡ take e.sent text.now) (P.told place.old) (P.told place.new)) }
     ensures failed { IsErr result → P.has_failed place.new ≡ true }
 {
-    if let Err(stopped) = write_draft(place, text) {
-        place.drop_draft();
-        return Err(stopped);
-    }
-    match place_draft(place, text) {
+    replace_pieces(place, &mut OnePiece::new(text))
+}
+
+/// Replaces the file under the name by a text that comes in pieces, as [`replace`] does. The followers stay as they are.
+///
+/// The file has the text's bytes that are still to come.
+pub fn replace_pieces<P: Place, T: Pieces>(place: &mut P, text: &mut T) -> Result<(), NotKept>
+    requires works { P.has_failed place.old ≡ false }
+    // What lies under the names is on the disk.
+    requires settled { IfSome (P.told place.old) (λ s. Only s.names (P.may_find place.old)) }
+    requires short { length (T.left text.old) < 2 ^ 63 }
+    // Whoever looks, and whenever, finds the old file or the new one, each whole.
+    ensures any_moment { IfSome (P.told place.old) (λ s. SinceThen (P.found place.old) (P.found place.new) (OldOrNew s.names (T.left text.old))) }
+    ensures after { IfSome (P.told place.old) (λ s. (c : Names) → P.may_find place.new c → OldOrNew s.names (T.left text.old) c) }
+    // At `Ok` the new one is there, and no crash takes it away.
+    ensures kept { OnOk result (Leads (λ s t. t ≡ record s { names = with_file (T.left text.old) s.names; draft = T.left text.old }) (P.told place.old) (P.told place.new)) }
+    ensures stays { OnOk result (IfSome (P.told place.old) (λ s. (c : Names) → P.may_find place.new c → c.file ≡ Some (T.left text.old))) }
+    ensures went_on { OnOk result (P.has_failed place.new ≡ false) }
+    // Of a text that was not kept, just so many bytes went into the draft. It does not give up by itself.
+    ensures few { IfErr result (λ e. e.sent ≤ length (T.left text.old)) }
+    ensures sent { IfErr result (λ e. Leads (λ s t. t.draft ≡ take e.sent (T.left text.old)) (P.told place.old) (P.told place.new)) }
+    ensures failed { IsErr result → P.has_failed place.new ≡ true }
+{
+    let sent = match write_draft(place, text) {
+        Ok(all) => all,
+        Err(stopped) => {
+            place.drop_draft();
+            return Err(stopped);
+        }
+    };
+    match place_draft(place) {
         Ok(()) => Ok(()),
         Err(CallFailed) => {
             place.drop_draft();
-            Err(NotKept {
-                sent: text.len() as u64,
-            })
+            Err(NotKept { sent })
         }
     }
 }
 
-/// Makes the draft anew, of this text.
-fn write_draft<P: Place>(place: &mut P, text: &[u8]) -> Result<(), NotKept>
+/// Makes the draft anew, of this text, and answers how many bytes that are.
+fn write_draft<P: Place, T: Pieces>(place: &mut P, text: &mut T) -> Result<u64, NotKept>
     requires works { P.has_failed place.old ≡ false }
     requires settled { IfSome (P.told place.old) (λ s. Only s.names (P.may_find place.old)) }
+    requires short { length (T.left text.old) < 2 ^ 63 }
     ensures any_moment { IfSome (P.told place.old) (λ s. SinceThen (P.found place.old) (P.found place.new) (λ c. c ≡ s.names)) }
     ensures after { IfSome (P.told place.old) (λ s. Only s.names (P.may_find place.new)) }
-    ensures whole { OnOk result (Becomes (λ s. record s { draft = text.now }) (P.told place.old) (P.told place.new)) }
+    ensures whole { OnOk result (Becomes (λ s. record s { draft = T.left text.old }) (P.told place.old) (P.told place.new)) }
+    ensures all { IfOk result (λ n. n ≡ length (T.left text.old)) }
     ensures went_on { OnOk result (P.has_failed place.new ≡ false) }
-    ensures few { IfErr result (λ e. e.sent ≤ length text.now) }
-    ensures sent { IfErr result (λ e. Becomes (λ s. record s { draft = take e.sent text.now }) (P.told place.old) (P.told place.new)) }
+    ensures few { IfErr result (λ e. e.sent ≤ length (T.left text.old)) }
+    ensures sent { IfErr result (λ e. Becomes (λ s. record s { draft = take e.sent (T.left text.old) }) (P.told place.old) (P.told place.new)) }
     ensures failed { IsErr result → P.has_failed place.new ≡ true }
 {
     if let Err(CallFailed) = place.begin_draft() {
         return Err(NotKept { sent: 0 });
     }
     let mut sent = 0;
-    while sent < text.len() {
-        match place.write_some(&text[sent..]) {
+    loop {
+        text.advance();
+        let piece = text.piece();
+        if piece.is_empty() {
+            return Ok(sent);
+        }
+        if let Err(stopped) = write_piece(place, piece) {
+            return Err(NotKept {
+                sent: sent + stopped.sent,
+            });
+        }
+        sent += piece.len() as u64;
+    }
+}
+
+/// Writes a piece of the text at the end of the draft.
+fn write_piece<P: Place>(place: &mut P, piece: &[u8]) -> Result<(), NotKept>
+    requires works { P.has_failed place.old ≡ false }
+    ensures now { Stays (P.may_find place.old) (P.may_find place.new) }
+    ensures time { SinceThen (P.found place.old) (P.found place.new) (P.may_find place.old) }
+    ensures whole { OnOk result (Becomes (drafting piece.now) (P.told place.old) (P.told place.new)) }
+    ensures went_on { OnOk result (P.has_failed place.new ≡ false) }
+    ensures few { IfErr result (λ e. e.sent ≤ length piece.now) }
+    ensures sent { IfErr result (λ e. Becomes (drafting (take e.sent piece.now)) (P.told place.old) (P.told place.new)) }
+    ensures failed { IsErr result → P.has_failed place.new ≡ true }
+{
+    let mut sent = 0;
+    while sent < piece.len() {
+        match place.write_some(&piece[sent..]) {
             Ok(0) | Err(_) => return Err(NotKept { sent: sent as u64 }),
             Ok(n) => sent += n,
         }
@@ -104,15 +186,14 @@ fn write_draft<P: Place>(place: &mut P, text: &[u8]) -> Result<(), NotKept>
 }
 
 /// Puts a whole draft in the place of the file. A draft that is not on the disk gets no name.
-fn place_draft<P: Place>(place: &mut P, text: &[u8]) -> Result<(), CallFailed>
-    requires draft { IfSome (P.told place.old) (λ s. s.draft ≡ text.now) }
+fn place_draft<P: Place>(place: &mut P) -> Result<(), CallFailed>
     requires works { P.has_failed place.old ≡ false }
     requires settled { IfSome (P.told place.old) (λ s. Only s.names (P.may_find place.old)) }
-    ensures any_moment { IfSome (P.told place.old) (λ s. SinceThen (P.found place.old) (P.found place.new) (OldOrNew s.names text.now)) }
-    ensures after { IfSome (P.told place.old) (λ s. (c : Names) → P.may_find place.new c → OldOrNew s.names text.now c) }
+    ensures any_moment { IfSome (P.told place.old) (λ s. SinceThen (P.found place.old) (P.found place.new) (OldOrNew s.names s.draft)) }
+    ensures after { IfSome (P.told place.old) (λ s. (c : Names) → P.may_find place.new c → OldOrNew s.names s.draft c) }
     ensures told { MayBecome placing (P.told place.old) (P.told place.new) }
     ensures kept { OnOk result (Becomes placing (P.told place.old) (P.told place.new)) }
-    ensures stays { OnOk result (IfSome (P.told place.old) (λ s. (c : Names) → P.may_find place.new c → c.file ≡ Some text.now)) }
+    ensures stays { OnOk result (IfSome (P.told place.old) (λ s. (c : Names) → P.may_find place.new c → c.file ≡ Some s.draft)) }
     ensures went_on { OnOk result (P.has_failed place.new ≡ false) }
     ensures failed { IsErr result → P.has_failed place.new ≡ true }
 {
