@@ -1,7 +1,7 @@
 -- The first control byte, 64 bytes at a time.
 use Rattle.std.proofs.Common.{◌≡◌, ℕ, zero, suc, ◌+◌, ◌-◌, ◌≤◌, ◌<◌, ◌^◌, ◌%◌, ltb, eqb, Bool, true, false, cond, List, [], ◌∷◌, ◌++◌, length, map, take, drop, get_or, replicate, Some, None, arith, refl, sym, ap, ◌∙◌, w8, ⊎_elim}
 use Rattle.std.specs.List.{position_or_len, position}
-use Rattle.std.proofs.lemmas.Simd.{bitmask_splat, first_set_mask_l, leading_from_mask_l, tops_compared, run_in_chunk_fails, run_in_chunk_stops, get_or-chunk, get_or-zip2, length-zip2, get_or-sel_l, length-sel_l}
+use Rattle.std.proofs.lemmas.Simd.{bitmask_splat, first_set_mask_l, leading_from_mask_l, none_from_empty_mask, tops_compared, run_in_chunk_fails, run_in_chunk_stops, get_or-chunk, get_or-zip2, length-zip2, get_or-sel_l, length-sel_l}
 use Rattle.std.proofs.lemmas.List.{length-take, length-drop}
 use Rattle.std.proofs.lemmas.List.Sums.{position_or_len_is, prefix_len-le-length}
 use Rattle.std.proofs.lemmas.Bool.Decides.{nat_tests}
@@ -104,6 +104,19 @@ none_in_block text at le e k low high =
     ⊎_elim (λ (near : k < at + 32). let place : at + (k - at) ≡ k = omega (arith, low) in ap (λ (j : ℕ). is_control (get_or text j 0)) (sym place) ∙ (none_in_pair text at le e (k - at) (omega (arith, low, near))).0)
     (λ (far : at + 32 ≤ k). let place : at + 32 + (k - (at + 32)) ≡ k = omega (arith, far) in ap (λ (j : ℕ). is_control (get_or text j 0)) (sym place) ∙ (none_in_pair text at le e (k - (at + 32)) (omega (arith, far, high))).1)
     (cases_lt k (at + 32))
+
+-- where no lane of 32 bytes tells one, no byte of them is a control byte
+pub none_in_half : (text : List ℕ) (at : ℕ) → at + 32 ≤ length text
+    → not (eqb (mask_l (map (top (hbits w8)) (zip2 (λ a b. cond (ltb a b) (2 ^ bits w8 - 1) 0) (take 32 (drop at text)) (replicate 32 least_printable))) % 2 ^ 64) 0) ≡ false
+    → (k : ℕ) → at ≤ k → k < at + 32 → is_control (get_or text k 0) ≡ false
+none_in_half text at le e k low high =
+    let long : length (take 32 (drop at text)) ≡ 32 = omega (arith, le, length-take 32 (drop at text), length-drop at text) in
+    none_from_empty_mask is_control text at 32 0 le (sym (bitmask_splat w8 ltb (take 32 (drop at text)) 32 least_printable long (omega arith)) ∙ is_empty _ e) k low high
+
+-- a run of bytes that begins before and ends with the last ones that were looked at
+pub clean_to : (text : List ℕ) (at start end : ℕ) → start ≤ at → ((k : ℕ) → k < at → is_control (get_or text k 0) ≡ false) → ((k : ℕ) → start ≤ k → k < end → is_control (get_or text k 0) ≡ false)
+    → (k : ℕ) → k < end → is_control (get_or text k 0) ≡ false
+clean_to text at start end le before here k lt = ⊎_elim (λ l. before k l) (λ ge. here k (omega (arith, le, ge)) lt) (cases_lt k at)
 
 -- no control byte in one block more
 pub block_passes : (text : List ℕ) (at n : ℕ) → at + 64 ≤ length text → n ≡ position_or_len is_control (take 64 (drop at text)) → 64 ≤ n → ((k : ℕ) → k < at → is_control (get_or text k 0) ≡ false)

@@ -61,6 +61,18 @@ impl Awaited {
         self.detail = next_digits(self.detail, counts.details + 1);
     }
 
+    /// The digits of the transaction that begins next.
+    fn next_transaction(&self, counts: &FileCounts) -> u64
+        requires small { AreSmall counts.now }
+        requires awaits { Awaits counts.now self.now }
+        ensures { result ≡ digits_of counts.now.transactions }
+    {
+        if counts.transactions == 0 {
+            return digits_of(0);
+        }
+        next_digits(self.transaction, counts.transactions - 1)
+    }
+
     /// Goes past a line of a role, which is still to be counted.
     #[inline(always)]
     pub(crate) fn pass(&mut self, counts: &FileCounts, role: &Role)
@@ -71,7 +83,7 @@ impl Awaited {
         match *role {
             Role::Detail(_, _) => self.pass_line(counts),
             Role::TransactionHeader(_, _, _) => {
-                self.transaction = digits_of(counts.transactions);
+                self.transaction = self.next_transaction(counts);
                 self.detail = digits_of(1);
             }
             Role::GroupHeader(_, _) => *self = Awaited::new(),

@@ -6,7 +6,10 @@ use cwr_field::LEAST_PRINTABLE;
 use std::simd::prelude::*;
 
 /// How many bytes are looked at together.
-const BLOCK: usize = 64;
+pub(crate) const BLOCK: usize = 64;
+
+/// And how many of them together, where there are fewer.
+pub(crate) const HALF: usize = 32;
 
 /// How many bytes of a block come before the first control byte.
 fn before_control(text: &[u8], at: usize) -> u32
@@ -23,12 +26,24 @@ fn before_control(text: &[u8], at: usize) -> u32
 }
 
 /// Whether a block has a control byte: the least of its bytes, taken two by two, tell it sooner than a mask of all.
-fn has_control_in(text: &[u8], at: usize) -> bool
+pub(crate) fn has_control_in(text: &[u8], at: usize) -> bool
     requires { at + 64 ≤ length text.now }
     ensures { result ≡ false → (k : ℕ) → at ≤ k → k < at + 64 → is_control (slice_index text.now k) ≡ false }
 {
+    let front = u8x32::from_slice(&text[at..]);
+    let back = u8x32::from_slice(&text[at + HALF..]);
+    front
+        .simd_min(back)
+        .simd_lt(u8x32::splat(LEAST_PRINTABLE))
+        .any()
+}
+
+/// Whether half a block has a control byte.
+pub(crate) fn has_control_in_half(text: &[u8], at: usize) -> bool
+    requires { at + 32 ≤ length text.now }
+    ensures { result ≡ false → (k : ℕ) → at ≤ k → k < at + 32 → is_control (slice_index text.now k) ≡ false }
+{
     u8x32::from_slice(&text[at..])
-        .simd_min(u8x32::from_slice(&text[at + 32..]))
         .simd_lt(u8x32::splat(LEAST_PRINTABLE))
         .any()
 }

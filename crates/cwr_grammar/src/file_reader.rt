@@ -16,7 +16,8 @@ use crate::awaited::{Awaited, PREFIX_SIZE};
 use crate::envelope::Envelope;
 use crate::fault::{LONGEST_LINE, fault_of, is_tail};
 use crate::file_counts::FileCounts;
-use crate::lines::first_line;
+use crate::line_lengths::LineLengths;
+use crate::lines::first_line_near;
 use crate::refusal::FileRefusal;
 use crate::role::{Role, role_at};
 use crate::visitor::{Visitor, give};
@@ -81,11 +82,13 @@ impl FileReader {
         ensures taken { IfOk result (λ n. (first : V) (text : List ℕ) (at : ℕ) → StandsAt bytes.now text at → IsReadUpTo (V.keeps first visitor.old) self.old text at → IsReadUpTo (V.keeps first visitor.new) self.new text (at + n)) }
         ensures fault { IfErr result (λ refusal. (first : V) (text : List ℕ) (at : ℕ) → StandsAt bytes.now text at → IsReadUpTo (V.keeps first visitor.old) self.old text at → IsRefusal (lines text) refusal) }
     {
+        let mut lengths = LineLengths::new();
         let mut at = 0;
-        while let Some(line) = first_line(&bytes[at..]) {
+        while let Some(line) = first_line_near(&bytes[at..], lengths.guess(&bytes[at..])) {
             if !line.is_whole {
                 return Ok(at);
             }
+            lengths.pass(line.bytes);
             self.take_line(visitor, line.bytes, line.is_clean)?;
             at += line.size;
         }
@@ -106,8 +109,10 @@ impl FileReader {
             → WasGiven (V.keeps first visitor.new) text envelope.header envelope.groups envelope.records) }
         ensures fault { IfErr result (λ refusal. (first : V) (text : List ℕ) (at : ℕ) → drop at text ≡ last.now → IsReadUpTo (V.keeps first visitor.old) self text at → IsRefusal (lines text) refusal) }
     {
+        let mut lengths = LineLengths::new();
         let mut at = 0;
-        while let Some(line) = first_line(&last[at..]) {
+        while let Some(line) = first_line_near(&last[at..], lengths.guess(&last[at..])) {
+            lengths.pass(line.bytes);
             self.take_line(visitor, line.bytes, line.is_clean)?;
             at += line.size;
         }
@@ -232,7 +237,7 @@ impl FileReader {
             &role,
             &self.counts,
         )?;
-        self.header = head_after(self.header, &role, line);
+        keep_header(&mut self.header, &role, line);
         self.awaited.pass(&self.counts, &role);
         self.counts.add(&role);
         Ok(())
@@ -256,18 +261,18 @@ impl FileReader {
     }
 }
 
-/// The header that is kept after a line.
+/// Keeps the header, where a line is one.
 #[inline(always)]
-fn head_after(head: Option<Header>, role: &Role, line: &[u8]) -> Option<Header>
+fn keep_header(head: &mut Option<Header>, role: &Role, line: &[u8])
     requires read { role.now ≡ role_of line.now }
     requires valid { role.now ≡ FileHeader false → ⊥ }
-    ensures { HeadAfter head role.now line.now result }
+    ensures { HeadAfter head.old role.now line.now head.new }
 {
     let Role::FileHeader(_) = *role else {
-        return head;
+        return;
     };
     let Ok(header) = read_header(line) else {
         unreachable!()
     };
-    Some(header)
+    *head = Some(header);
 }

@@ -8,11 +8,13 @@
 
 mod awaited;
 mod control_bytes;
+mod control_near;
 mod envelope;
 mod fault;
 mod file_counts;
 mod file_reader;
 pub mod laws;
+mod line_lengths;
 mod lines;
 mod refusal;
 mod role;

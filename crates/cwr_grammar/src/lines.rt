@@ -5,7 +5,7 @@ ghost use Rattle.std.specs.Str.Lines.{lines, strip_carriage_return};
 ghost use Rattle.cwr_field.specs.Layout.{is_control};
 ghost use Rattle.cwr_grammar.specs.FaultTests.{has_control};
 
-use crate::control_bytes::first_control;
+use crate::control_near::first_control_near;
 use std::iter::FusedIterator;
 use std::marker::Model;
 
@@ -77,11 +77,28 @@ pub(crate) fn first_line(text: &[u8]) -> Option<FirstLine<'_>>
     ensures ended { IfSome result (λ x. x.is_whole ≡ true → (more : List ℕ) → lines (take x.size text.now ++ more) ≡ x.bytes.now ∷ lines more) }
     ensures unended { IfSome result (λ x. x.is_whole ≡ false → position (λ b. b == 10) text.now ≡ None) }
 {
+    first_line_near(text, 0)
+}
+
+/// The first line of a text, which may have so many bytes.
+#[inline(always)]
+pub(crate) fn first_line_near(text: &[u8], guess: usize) -> Option<FirstLine<'_>>
+    ensures none { IfNone result (text.now ≡ []) }
+    ensures line { IfSome result (λ x. lines text.now ≡ x.bytes.now ∷ lines (drop x.size text.now)) }
+    ensures some { IfSome result (λ x. 0 < x.size) }
+    ensures inside { IfSome result (λ x. x.size ≤ length text.now) }
+    ensures clean { IfSome result (λ x. x.is_clean ≡ true → has_control x.bytes.now ≡ false) }
+
+    // Its bytes are the whole text, or are a line with its end before any other bytes too.
+    ensures whole { IfSome result (λ x. (length text.now ≤ x.size) ⊎ ((more : List ℕ) → lines (take x.size text.now ++ more) ≡ x.bytes.now ∷ lines more)) }
+    ensures ended { IfSome result (λ x. x.is_whole ≡ true → (more : List ℕ) → lines (take x.size text.now ++ more) ≡ x.bytes.now ∷ lines more) }
+    ensures unended { IfSome result (λ x. x.is_whole ≡ false → position (λ b. b == 10) text.now ≡ None) }
+{
     if text.is_empty() {
         return None;
     }
     // The first byte below 32 is mostly the line's end.
-    let end = first_control(text);
+    let end = first_control_near(text, guess);
     match line_end(text, end) {
         Some(size) => Some(FirstLine {
             bytes: &text[..end],

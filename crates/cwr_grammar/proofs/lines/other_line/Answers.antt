@@ -1,4 +1,4 @@
-use Rattle.std.proofs.Common.{arith, inl, inr, sym, ◌∙◌}
+use Rattle.std.proofs.Common.{inr, sym}
 use Rattle.std.proofs.Math.Seq.{drop-length}
 use Rattle.cwr_grammar.proofs.FirstLine.{lines-ended, lines-unended, lines-take_ended}
 use Rattle.cwr_grammar.proofs.lines.other_line.Goals as goal

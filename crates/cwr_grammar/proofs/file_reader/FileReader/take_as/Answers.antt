@@ -49,8 +49,8 @@ give-requires-clause-kept g c =
     (c.in_default.ensures r.before r.visiting.going.counted) (omega (arith, q.6)) in
     (q.0, h.0, h.1, h.2, h.3, h.4)
 
-pub head_after-self-inside-requires-clause-valid : goal.head_after-self-inside-requires-clause-valid
-head_after-self-inside-requires-clause-valid g c = λ is.
+pub keep_header-requires-clause-valid : goal.keep_header-requires-clause-valid
+keep_header-requires-clause-valid g c = λ is.
     let q = c.requires.next in
     let read = subst (λ (s : ReaderState). IsReadUpTo (g.V.Visitor.keeps q.0 c.args.visitor.now) s q.1 q.2) (sym c.self.view_is) q.4 in
     let r = read.goes (ap (λ (s : ReaderState). s.counts.is_ended) c.self.view_is ∙ c.requires.goes) in
@@ -72,7 +72,7 @@ returns-clause-taken g c = λ first text at n here so_far.
     let one = one_next text r.before at n c.args.line.now c.args.role c.add.new.self here role_is (c.in_default.ensures r.before r.visiting.going.counted)
     (c.add.ensures (map role_of r.before) r.visiting.going.counted) in
     line_taken (g.V.Visitor.keeps first c.args.visitor.now) (g.V.Visitor.keeps first c.give.new.visitor) _ text at n c.args.line.now c.args.role c.add.new.self _ _
-    read r one c.in_ok-self-inside.ensures.is_open (c.in_ok-self-inside.ensures.kept first) c.head_after-self-inside.ensures
+    read r one c.in_ok-self-inside.ensures.is_open (c.in_ok-self-inside.ensures.kept first) c.keep_header.ensures
 
 pub pass-requires-clause-small : goal.pass-requires-clause-small
 pass-requires-clause-small g c =

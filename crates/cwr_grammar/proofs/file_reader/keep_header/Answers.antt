@@ -1,7 +1,7 @@
 use Rattle.std.proofs.Common.{◌≡◌, ◌∙◌, Bool, true, false, refl, sym, ap}
 use Rattle.cwr_grammar.specs.declared.role.Role.TheVariants.{FileHeader}
 use Rattle.cwr_grammar.proofs.HeaderLine.{header_readable}
-use Rattle.cwr_grammar.proofs.file_reader.head_after.Goals as goal
+use Rattle.cwr_grammar.proofs.file_reader.keep_header.Goals as goal
 
 is_valid : (valid : Bool) → (valid ≡ false → ⊥) → valid ≡ true
 is_valid true h = refl
