@@ -3,7 +3,6 @@ pub mod Order
 pub mod Totals
 pub mod LastBlock
 pub mod Rules
-pub mod Fronts
 pub mod Head
 pub mod KeptHead
 pub mod Faults
