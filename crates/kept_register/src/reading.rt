@@ -8,6 +8,7 @@ ghost use Rattle.work_registry.specs.Replay.{is_opening};
 ghost use Rattle.work_registry.specs.declared.register.refusal.RegisterRefusal.{RegisterRefusal};
 ghost use Rattle.work_registry.specs.declared.register.refusal.RegisterRefusal.TheVariants.{Memory as refused};
 ghost use Rattle.kept_register.specs.declared.reading.NoBook.{NoBook};
+ghost use Rattle.kept_register.specs.Auditing.{answer_for};
 
 use byte_streams::{ReadRefused, Source, read_file};
 use cwr_field::MOST_COUNT;
@@ -68,13 +69,22 @@ pub fn read_book<S: Source, A: Allocator + Copy + Drop>(
 {
     let bytes = match read_file(alloc, reader, MOST_REGISTER_BYTES) {
         Ok(bytes) => bytes,
-        Err(ReadRefused::Memory) => return Err(NoBook::Memory),
-        Err(ReadRefused::Read) => return Err(NoBook::Read),
-        Err(ReadRefused::TooLong) => return Err(NoBook::TooLong),
+        Err(stopped) => return Err(unread(stopped)),
     };
     match read_register(alloc, &bytes, MOST_COUNT) {
         Ok(book) => Ok(book),
         Err(RegisterRefusal::Memory) => Err(NoBook::Memory),
         Err(refusal) => Err(NoBook::Refused(refusal)),
+    }
+}
+
+/// What is answered where a register was not read.
+pub(crate) fn unread(stopped: ReadRefused) -> NoBook
+    ensures { result ≡ answer_for stopped }
+{
+    match stopped {
+        ReadRefused::Memory => NoBook::Memory,
+        ReadRefused::Read => NoBook::Read,
+        ReadRefused::TooLong => NoBook::TooLong,
     }
 }
