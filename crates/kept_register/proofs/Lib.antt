@@ -1,1 +1,4 @@
 mod Given
+mod Windows
+mod Stops
+mod Audits
