@@ -16,9 +16,9 @@
 #define FLAGS WORKERS
 #endif
 
-/* How many workers may stand in line. */
-#ifndef LINE
-#define LINE 2
+/* How many workers, the first ones, come to the line beside the door. */
+#ifndef BESIDE
+#define BESIDE 0
 #endif
 
 /* How many sleeps, in all, may end for no reason. */
@@ -31,7 +31,8 @@ byte next;
 bit flag[FLAGS];
 
 /* The door, but for its sleepers. */
-byte free = LINE;
+bit shut;
+byte looking;
 bit called;
 
 /* The event counts: one for each flag, and behind these the door's. */
@@ -140,79 +141,104 @@ inline notify_one(at) {
 
 /* The door. */
 
+/* A look that finds the door open and takes it. One that finds it shut, or that another one was faster than, changes
+   nothing. */
+inline take_the_door() {
+    atomic { shut == 0 -> shut = 1 }
+}
+
+inline take_back_the_call() {
+    called = 0
+}
+
 inline sleep_at_door() {
 #ifdef DOOR_LOOKS_FIRST
     if
-    :: free != 0
-    :: free == 0 ->
+    :: shut == 0
+    :: shut == 1 ->
+       looking--;
        prepare_wait(DOOR);
-       called = 0;
+       take_back_the_call();
        wait(DOOR);
-       called = 0
+       looking++;
+       take_back_the_call()
     fi
 #else
     prepare_wait(DOOR);
 #ifndef DOOR_KEEPS_AN_OLD_CALL
-    called = 0;
+    take_back_the_call();
+#endif
+#if !defined(DOOR_COUNTS_THE_LAST_LOOK) && !defined(DOOR_COUNTS_SLEEPERS)
+    looking--;
 #endif
     if
-    :: free != 0 -> drop_key(DOOR)
-    :: free == 0 ->
-       wait(DOOR);
+    :: shut == 0 ->
+#ifdef DOOR_COUNTS_THE_LAST_LOOK
+       looking--;
+#endif
+       drop_key(DOOR)
+    :: shut == 1 ->
+#ifdef DOOR_COUNTS_THE_LAST_LOOK
+       looking--;
+#endif
+       wait(DOOR)
+    fi;
+#ifndef DOOR_COUNTS_SLEEPERS
+    looking++;
+#endif
 #ifndef DOOR_KEEPS_THE_CALL
-       called = 0
+    take_back_the_call()
 #endif
-    fi
 #endif
+}
+
+/* Whoever is awake at the door looks a few times, and sleeps where the last look did not let it in. */
+inline look_at_the_door() {
+    looking++;
+    do
+    :: take_the_door() -> break
+    :: shut == 1 -> sleep_at_door()
+    od;
+    looking--
 }
 
 inline come_in() {
-    do
-    :: free == 0 -> sleep_at_door()
-    :: atomic { free != 0 -> seen = free };
-       if
-       :: atomic { free == seen -> free--; seen = 0 }; break
-       :: atomic { free != seen -> seen = 0 }
-       fi
-    od
-}
-
-/* Who left nobody behind in line calls a sleeper. */
-inline call_a_sleeper() {
     if
-    :: atomic { seen != LINE - 1 -> seen = 0 }
-    :: atomic { seen == LINE - 1 -> seen = 0 };
-       if
-       :: called == 1
-       :: atomic { called == 0 -> called = 1 }; notify_one(DOOR)
-       fi
+    :: take_the_door()
+    :: shut == 1 -> look_at_the_door()
     fi
 }
 
-inline see_room() {
-    seen = free
+inline open_the_door() {
+    atomic { shut = 0; ticket = 0; turns++ }
 }
 
-inline add_room() {
-    atomic { free++; ticket = 0; turns++ }
-}
-
-inline make_room() {
-    atomic { seen = free; free++; ticket = 0; turns++ }
+/* Who leaves with nobody looking calls a sleeper. */
+inline call_a_sleeper() {
+    if
+    :: called == 1
+    :: atomic { called == 0 -> called = 1 }; notify_one(DOOR)
+    fi
 }
 
 inline go_out() {
-#if defined(DOOR_WAKES_FIRST)
-    see_room();
-    call_a_sleeper();
-    add_room()
-#elif defined(DOOR_COUNTS_IN_TWO_STEPS)
-    see_room();
-    add_room();
-    call_a_sleeper()
+#if defined(DOOR_CALLS_FIRST)
+    if
+    :: looking != 0
+    :: looking == 0 -> call_a_sleeper()
+    fi;
+    open_the_door()
+#elif defined(DOOR_SEES_WHO_LOOKS_FIRST)
+    if
+    :: looking != 0 -> open_the_door()
+    :: looking == 0 -> open_the_door(); call_a_sleeper()
+    fi
 #else
-    make_room();
-    call_a_sleeper()
+    open_the_door();
+    if
+    :: looking != 0
+    :: looking == 0 -> call_a_sleeper()
+    fi
 #endif
 }
 
@@ -283,14 +309,22 @@ inline leave() {
 #endif
 }
 
+/* One turn of a worker that comes to the line beside the door. */
+inline turn_beside_the_door() {
+    enter();
+    leave();
+    atomic { ticket = 0; turns++ }
+}
+
 proctype worker(byte me) {
-    byte turns, seen, ticket;
+    byte turns, ticket;
     do
-    :: turns < TURNS ->
+    :: turns < TURNS && me >= BESIDE ->
        come_in();
        enter();
        leave();
        go_out()
+    :: turns < TURNS && me < BESIDE -> turn_beside_the_door()
     :: turns == TURNS -> break
     od;
     atomic {
@@ -298,7 +332,8 @@ proctype worker(byte me) {
         if
         :: ended == WORKERS ->
            assert(entries == WORKERS * TURNS);
-           assert(free == LINE);
+           assert(shut == 0);
+           assert(looking == 0);
            assert(taken == 0)
         :: else
         fi

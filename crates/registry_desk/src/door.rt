@@ -1,23 +1,32 @@
 //! The door to the line at the desk.
 
+use crossbeam_utils::Backoff;
 use crossbeam_utils::sync::EventCount;
 use std::sync::Wait;
 use std::sync::atomic::Ordering::SeqCst;
 use std::sync::atomic::{AtomicBool, AtomicU64};
+use std::thread;
 
-/// How many seats stand in line: the one that is inside, and the next.
-const LINE: u64 = 2;
+/// How often a seat looks at the door before it sleeps there.
+const FEW_LOOKS: u32 = 30;
 
-/// The door to the line. Where the line is full, whoever comes sleeps at the door, and is let in by no certain order.
+/// How many of these looks follow each other within some microseconds, as long as a few turns take. Before each of the
+/// others any thread that waits for the processor goes on.
+const FIRST_LOOKS: u32 = 7;
+
+/// The door to the line, which lets one seat in at a time. Where it is shut, whoever comes looks a few times and then
+/// sleeps, and is let in by no certain order.
 ///
-/// It bears on time alone, since a seat is let in by the flag of its ticket. With all seats in line each turn wakes
-/// another thread, which takes many times as long as the turn. With a short line the next seat is awake when its turn
-/// comes, and the one that leaves may come again at once. So the seats that are in line go on by turns, and a sleeper is
-/// called only by one that leaves nobody behind: called at each turn, it would find the line full again.
+/// It bears on time alone, since a seat takes its turn by the flag of its ticket. With more seats in line each turn goes
+/// to a certain thread, to which the book has to be brought, and which has to be woken where it fell asleep, turn after
+/// turn. At the door whoever looks first goes in, most often the one that left last, and the others come in between. A
+/// sleeper is called only by one that leaves with nobody looking: called at each turn, it would find the door shut again.
 #[derive(Drop)]
 pub(crate) struct Door {
-    /// How many more seats may stand in line.
-    free: AtomicU64,
+    /// Whether a seat is in line.
+    taken: AtomicBool,
+    /// How many seats are awake at the door and look.
+    looking: AtomicU64,
     /// Whether a sleeper was called and has not looked yet.
     called: AtomicBool,
     sleepers: EventCount,
@@ -26,46 +35,71 @@ pub(crate) struct Door {
 impl Door {
     pub(crate) fn new() -> Door {
         Door {
-            free: AtomicU64::new(LINE),
+            taken: AtomicBool::new(false),
+            looking: AtomicU64::new(0),
             called: AtomicBool::new(false),
             sleepers: EventCount::new(),
         }
     }
 
-    /// Stands in line, as soon as there is room.
+    /// Stands in line, as soon as the door lets it in.
     pub(crate) fn come_in(&self, rt: &impl Wait) {
-        for _ in rt.forever() {
-            let free = self.free.load(SeqCst);
-            if free == 0 {
-                self.sleep(rt);
-            } else if self
-                .free
-                .compare_exchange(free, free - 1, SeqCst, SeqCst)
-                .is_ok()
-            {
-                return;
-            }
+        if self.lets_in() {
+            return;
         }
+        self.looking.fetch_add(1, SeqCst);
+        for _ in rt.forever() {
+            if self.lets_in_soon() {
+                break;
+            }
+            self.sleep(rt);
+        }
+        self.looking.fetch_sub(1, SeqCst);
     }
 
-    /// Sleeps until called, unless there is room by now.
+    /// Looks, and answers whether the door was open and is taken now.
+    fn lets_in(&self) -> bool {
+        !self.taken.load(SeqCst) && !self.taken.swap(true, SeqCst)
+    }
+
+    /// Looks a few times, at growing distances, and answers whether it is let in.
+    fn lets_in_soon(&self) -> bool {
+        let backoff = Backoff::new();
+        for look in 0..FEW_LOOKS {
+            if self.lets_in() {
+                return true;
+            }
+            backoff.spin();
+            if look >= FIRST_LOOKS {
+                thread::yield_now();
+            }
+        }
+        false
+    }
+
+    /// Sleeps until called, unless the door is open by now.
     ///
-    /// It announces its sleep and takes back any call before it looks, so whoever leaves the line after that look calls
-    /// anew; and takes back the call that woke it, so that the next one to leave calls the next sleeper.
+    /// It announces its sleep, takes back any call and is no longer counted before it looks, so whoever leaves after that
+    /// look calls anew; and once it is counted again it takes back the call that woke it, so that the next one to leave
+    /// with nobody looking calls the next sleeper.
     fn sleep(&self, rt: &impl Wait) {
         let sleep = self.sleepers.prepare_wait();
         self.called.store(false, SeqCst);
-        if self.free.load(SeqCst) == 0 {
+        self.looking.fetch_sub(1, SeqCst);
+        if self.taken.load(SeqCst) {
             sleep.wait(rt);
-            self.called.store(false, SeqCst);
+        } else {
+            drop(sleep);
         }
+        self.looking.fetch_add(1, SeqCst);
+        self.called.store(false, SeqCst);
     }
 
-    /// Leaves the line. Who leaves nobody behind calls a sleeper, unless one is called already: whoever is left in line
-    /// calls when it leaves.
+    /// Leaves the line. Who leaves with nobody looking calls a sleeper, unless one is called already: whoever looks is let
+    /// in, or looks once more before it sleeps.
     pub(crate) fn go_out(&self) {
-        let free = self.free.fetch_add(1, SeqCst);
-        if free == LINE - 1 && !self.called.swap(true, SeqCst) {
+        self.taken.store(false, SeqCst);
+        if self.looking.load(SeqCst) == 0 && !self.called.swap(true, SeqCst) {
             self.sleepers.notify_one();
         }
     }
