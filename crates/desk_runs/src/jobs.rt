@@ -20,7 +20,7 @@ pub struct Input<'a> {
 /// What a run over files in memory leaves.
 pub type MemoryRun<'a> = Run<Feed<'a>, Room>;
 
-type MemoryJob<'a> = Job<Feed<'a>, Room>;
+pub(crate) type MemoryJob<'a> = Job<Feed<'a>, Room>;
 
 /// A file whose reader does not fail, with room for its acknowledgement.
 pub fn whole(bytes: &[u8]) -> Input<'_> {

@@ -1,9 +1,10 @@
 //! Files worked into a book.
-ghost use Rattle.std.specs.Prelude.{◌≡◌, true};
+ghost use Rattle.std.specs.Prelude.{◌≡◌, ◌<◌, true, false, All, IfOk, vec_len};
 ghost use Rattle.work_registry.specs.Replay.{is_opening};
 
-use crate::jobs::{Input, MemoryRun, jobs_of, with_room};
-use cwr_desk::{Book, Gate, serve, serve_in_turn};
+use crate::jobs::{Input, MemoryJob, MemoryRun, jobs_of, with_room};
+use byte_streams::{Feed, Room};
+use cwr_desk::{Book, Gate, ServeRefused, Stamp, serve, serve_in_turn};
 use cwr_sheets::stamp;
 use std::alloc::Global;
 use std::sync::Wait;
@@ -13,6 +14,28 @@ use std::thread::Threads;
 /// The most files that a run takes.
 const MOST: usize = 63;
 
+/// The jobs of a run of these files, and the stamp of their acknowledgements.
+fn prepared<'a>(alloc: Global, inputs: &[Input<'a>]) -> Result<(Vec<MemoryJob<'a>>, Stamp), Fail>
+    ensures few { IfOk result (λ it. vec_len it.0 < 64) }
+    ensures works { IfOk result (λ it. All (λ j. (j.reader.has_failed ≡ false) × (j.writer.has_failed ≡ false)) it.0.items) }
+{
+    if inputs.len() > MOST {
+        return Err(Fail::new("too many files"));
+    }
+    let stamp = stamp()?;
+    Ok((jobs_of(alloc, inputs)?, stamp))
+}
+
+/// The run, which was not to be refused for want of memory.
+fn whole_run<'a>(
+    ended: Result<MemoryRun<'a>, ServeRefused<Feed<'a>, Room>>,
+) -> Result<MemoryRun<'a>, Fail> {
+    match ended {
+        Ok(run) => Ok(run),
+        Err(_) => Err(Fail::new("memory")),
+    }
+}
+
 /// Works files in turn.
 pub fn run_in_turn<'a>(
     alloc: Global,
@@ -21,14 +44,8 @@ pub fn run_in_turn<'a>(
 ) -> Result<MemoryRun<'a>, Fail>
     requires opening { is_opening book.history ≡ true }
 {
-    if inputs.len() > MOST {
-        return Err(Fail::new("too many files"));
-    }
-    let jobs = jobs_of(alloc, inputs)?;
-    match serve_in_turn(alloc, jobs, book, &stamp()?) {
-        Ok(run) => Ok(run),
-        Err(_) => Err(Fail::new("memory")),
-    }
+    let (jobs, stamp) = prepared(alloc, inputs)?;
+    whole_run(serve_in_turn(alloc, jobs, book, &stamp))
 }
 
 /// Works files at the desk, each on a thread of its own.
@@ -41,14 +58,8 @@ pub fn run_at_desk<'a, T: Threads + Wait + Sync, G: Gate + Sync>(
 ) -> Result<MemoryRun<'a>, Fail>
     requires opening { is_opening book.history ≡ true }
 {
-    if inputs.len() > MOST {
-        return Err(Fail::new("too many files"));
-    }
-    let jobs = jobs_of(alloc, inputs)?;
-    match serve(rt, alloc, jobs, book, &stamp()?, gate) {
-        Ok(run) => Ok(run),
-        Err(_) => Err(Fail::new("memory")),
-    }
+    let (jobs, stamp) = prepared(alloc, inputs)?;
+    whole_run(serve(rt, alloc, jobs, book, &stamp, gate))
 }
 
 /// Works these files at the desk, each on a thread of its own, each with room for so many bytes of its acknowledgement.
