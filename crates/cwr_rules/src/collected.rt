@@ -56,7 +56,6 @@ impl<A: Allocator + Copy> Collected<A> {
     }
 
     /// What is collected at a code that did not come first.
-    #[inline(never)]
     fn at_other(&self, code: u16) -> Totals
         ensures { result ≡ value_at (kept_at self.now.others) code }
     {
