@@ -16,5 +16,6 @@ pub mod PartyKeys
 pub mod RecordLaw
 pub mod ShareWords
 pub mod CodeWords
+pub mod NineDigits
 pub mod FrontFields
 pub mod lemmas

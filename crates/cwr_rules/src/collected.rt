@@ -80,6 +80,19 @@ impl<A: Allocator + Copy> Collected<A> {
         }
     }
 
+    /// Puts what is collected at a code that did not come first in the place of what was. Few transactions have one.
+    #[inline(never)]
+    fn put_other(&mut self, code: u16, totals: Totals) -> Result<(), Memory>
+        ensures found { OnOk result ((q : ℕ) → kept_at self.new.others q ≡ (if code == q then Some totals else kept_at self.old.others q)) }
+        ensures first { OnOk result (self.new.first ≡ self.old.first) }
+        ensures same { OnOk result (self.new.is_over ≡ self.old.is_over) }
+    {
+        let mut map = self.take_others();
+        map.insert(code, totals)?;
+        self.others = Some(map);
+        Ok(())
+    }
+
     /// Puts what is collected at a code in the place of what was.
     fn put(&mut self, code: u16, totals: Totals) -> Result<(), Memory>
         ensures found { OnOk result ((q : ℕ) → found_in self.new.first (kept_at self.new.others) q
@@ -92,9 +105,7 @@ impl<A: Allocator + Copy> Collected<A> {
                 if first == code {
                     self.first = Some((code, totals));
                 } else {
-                    let mut map = self.take_others();
-                    map.insert(code, totals)?;
-                    self.others = Some(map);
+                    self.put_other(code, totals)?;
                 }
             }
         }

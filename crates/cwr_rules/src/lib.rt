@@ -12,6 +12,7 @@ mod code;
 mod collected;
 mod finding;
 mod header;
+mod iswc;
 mod judging;
 mod last_block;
 pub mod laws;
