@@ -1,4 +1,4 @@
--- The ACK line with its end.
+-- Lines that are put together with their ends.
 use Rattle.std.proofs.Common.{◌≡◌, ◌∙◌, ℕ, ◌≤◌, List, [], ◌∷◌, ◌++◌, length, ap, sym, append_assoc, append-nil, refl}
 use Rattle.cwr_field.specs.Layout.{padded}
 use Rattle.cwr_field.specs.Number.{number_text}
@@ -10,7 +10,10 @@ use Rattle.cwr_record.specs.Acknowledgement as table
 use Rattle.cwr_record.specs.declared.control.Header.{Header}
 use Rattle.cwr_record.proofs.lemmas.RoundTrip.{length-padded, padded_full}
 use Rattle.cwr_acknowledgement.specs.AckItem.{Item}
-use Rattle.cwr_acknowledgement.specs.Acknowledgement.{ack_record, ended, work_text}
+use Rattle.cwr_call.specs.declared.transaction_fault.Fault.{Fault}
+use Rattle.cwr_acknowledgement.specs.Acknowledgement.{ack_record, ended, message_record, work_text}
+use Rattle.cwr_acknowledgement.specs.Messages.{message_text}
+use Rattle.cwr_acknowledgement.proofs.AckValues.{length-message_text}
 
 -- the texts of the rows, and the end behind them
 abbrev rows_ended : {X : Type 0} → List (Part X) → X → List ℕ
@@ -43,3 +46,16 @@ ack_ended stamp header i item line empty date time day kind work status is none 
     ++ (number_text 5 item.group ++ (number_text 8 item.sequence ++ (padded 3 (kind_is j) ++ (padded 60 item.title ++ (numbers j ++ (padded 20 (work_is j)
     ++ (days j ++ (padded 2 (status_is j) ++ (13 ∷ 10 ∷ [])))))))))))))))
     ∙ ended_rows table.ack (ack_record stamp header i item))
+
+-- the same of a message
+pub message_ended : (i k : ℕ) (fault : Fault) (line empty text : List ℕ)
+    → line ++ [] ≡ empty ++ (padded 3 (77 ∷ 83 ∷ 71 ∷ []) ++ (number_text 8 i ++ (number_text 8 k ++ (padded 1 (84 ∷ []) ++ (number_text 8 fault.sequence
+    ++ (padded 3 fault.rtype ++ (padded 1 (84 ∷ []) ++ (number_text 3 fault.number ++ (padded 150 text ++ (padded 2 (13 ∷ 10 ∷ []) ++ []))))))))))
+    → empty ≡ [] → text ≡ message_text fault.number → line ≡ ended (line_of table.message (message_record i k fault))
+message_ended i k fault line empty text is none text_is =
+    let short = length-message_text fault.number in
+    let texts : padded 150 text ≡ padded 150 (padded 150 (message_text fault.number)) =
+    ap (padded 150) text_is ∙ sym (padded_full 150 (padded 150 (message_text fault.number)) (length-padded 150 (message_text fault.number) short)) in
+    sym (append-nil line) ∙ is ∙ ((λ j. none j ++ (padded 3 (77 ∷ 83 ∷ 71 ∷ []) ++ (number_text 8 i ++ (number_text 8 k ++ (padded 1 (84 ∷ [])
+    ++ (number_text 8 fault.sequence ++ (padded 3 fault.rtype ++ (padded 1 (84 ∷ []) ++ (number_text 3 fault.number ++ (texts j ++ (13 ∷ 10 ∷ [])))))))))))
+    ∙ ended_rows table.message (message_record i k fault))

@@ -1,6 +1,6 @@
 //! The ACK lines of an acknowledgement.
 
-ghost use Rattle.std.specs.Prelude.{◌≡◌, ◌<◌, ◌^◌, length};
+ghost use Rattle.std.specs.Prelude.{◌≡◌, ◌<◌, ◌^◌, []};
 ghost use Rattle.cwr_record.specs.Lines.{line_of};
 ghost use Rattle.cwr_record.specs.Acknowledgement as table;
 ghost use Rattle.cwr_acknowledgement.specs.Acknowledgement.{FitsItem, ack_record, ended};
@@ -57,14 +57,14 @@ impl<'a> AckForm<'a> {
         }
     }
 
-    /// The line that acknowledges an item, as the transaction `index` of its file, with its end.
+    /// Puts the line that acknowledges an item, as the transaction `index` of its file, with its end.
     #[inline]
-    pub(crate) fn line<A: Allocator>(&self, index: u32, item: &AckItem<A>) -> LineRoom<161>
+    pub(crate) fn fill<A: Allocator>(&self, line: &mut LineRoom<161>, index: u32, item: &AckItem<A>)
+        requires none { line.old ≡ [] }
         requires index { index < 10 ^ 8 }
         requires fits { FitsItem item.now }
-        ensures { result ≡ ended (line_of table.ack (ack_record self.now.stamp self.now.header index item.now)) }
+        ensures { line.new ≡ ended (line_of table.ack (ack_record self.now.stamp self.now.header index item.now)) }
     {
-        let mut line = LineRoom::<161>::new();
         line.put(&Piece::Text(b"ACK", RecordType::COLUMN));
         line.put(&Piece::Digits(index as u64, Prefix::TRANSACTION));
         line.put(&Piece::Text(b"00000000", Prefix::DETAIL));
@@ -79,6 +79,5 @@ impl<'a> AckForm<'a> {
         line.put(&Piece::Text(&self.processing_date, Ack::PROCESSING_DATE));
         line.put(&Piece::Text(item.status.code(), Ack::STATUS));
         line.put(&Piece::Text(b"\r\n", LINE_END));
-        line
     }
 }

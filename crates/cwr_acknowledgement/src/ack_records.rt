@@ -3,12 +3,10 @@
 ghost use Rattle.std.specs.Prelude.{◌≡◌, ◌≤◌, ◌+◌, ◌%◌, ◌++◌, codes, length};
 ghost use Rattle.cwr_field.specs.Layout.{padded};
 ghost use Rattle.cwr_field.specs.Number.{number_text};
-ghost use Rattle.cwr_acknowledgement.specs.Acknowledgement.{file_start, group_start, group_end, file_end, message_record, work_text, most_told};
+ghost use Rattle.cwr_acknowledgement.specs.Acknowledgement.{file_start, group_start, group_end, file_end, work_text, most_told};
 
-use crate::messages::message_text;
-use cwr_call::Fault;
 use cwr_field::{filled, last_digits};
-use cwr_record::{FileTrailer, GroupHead, GroupTrailer, Header, Message, Prefix, Stamp};
+use cwr_record::{FileTrailer, GroupHead, GroupTrailer, Header, Stamp};
 
 #[inline]
 pub(crate) fn file_start(stamp: &Stamp) -> Header
@@ -65,26 +63,6 @@ pub(crate) fn recipient_number(work: Option<u32>) -> [u8; 20]
     match work {
         Some(work) => filled(&last_digits::<8>(work as u64)),
         None => [b' '; 20],
-    }
-}
-
-/// The message that tells a fault, as the record `detail` of the transaction `index`.
-#[inline]
-pub(crate) fn message_record(index: u32, detail: u32, fault: &Fault) -> Message
-    requires { (1 ≤ fault.now.number) × (fault.now.number ≤ 15) }
-    ensures { result ≡ message_record index detail fault.now }
-{
-    Message {
-        prefix: Prefix {
-            transaction: index,
-            detail,
-        },
-        message_type: *b"T",
-        original_record: fault.sequence,
-        record_type: fault.rtype,
-        message_level: *b"T",
-        validation_number: fault.number as u16,
-        text: filled(message_text(fault.number)),
     }
 }
 

@@ -12,16 +12,16 @@ ghost use Rattle.cwr_acknowledgement.specs.Outgoing.{IsPut, size_of};
 
 use crate::ack_form::AckForm;
 use crate::ack_item::AckItem;
-use crate::ack_records::{file_end, file_start, group_end, group_start, message_record};
+use crate::ack_records::{file_end, file_start, group_end, group_start};
 use crate::nowhere::Nowhere;
 use crate::outgoing::Outgoing;
 use crate::stopped::AckStopped;
+use crate::told::fill_told;
 use byte_streams::{Sink, WriteStopped};
 use cwr_call::Fault;
 use cwr_field::Memory;
 use cwr_record::{
-    Header, Stamp, file_trailer_line, group_head_line, group_trailer_line, header_line,
-    message_line,
+    Header, LineRoom, Stamp, file_trailer_line, group_head_line, group_trailer_line, header_line,
 };
 use std::alloc::Allocator;
 
@@ -229,7 +229,9 @@ fn put_ack<W: Sink, A: Allocator>(
         (ended (line_of table.ack (ack_record form.now.stamp form.now.header index item.now))) }
     ensures fails { W.has_failed writer.new ≡ is_err result }
 {
-    out.put_ended(writer, form.line(index, item).bytes())
+    let mut line = LineRoom::new();
+    form.fill(&mut line, index, item);
+    out.put_ended(writer, line.bytes())
 }
 
 fn put_messages<W: Sink, A: Allocator>(
@@ -269,10 +271,9 @@ fn put_message<W: Sink, A: Allocator>(
         (ended (line_of table.message (message_record index detail fault.now))) }
     ensures fails { W.has_failed writer.new ≡ is_err result }
 {
-    out.put_line(
-        writer,
-        message_line(&message_record(index, detail, fault)).bytes(),
-    )
+    let mut line = LineRoom::new();
+    fill_told(&mut line, index, detail, fault);
+    out.put_ended(writer, line.bytes())
 }
 
 fn put_group_end<W: Sink, A: Allocator>(

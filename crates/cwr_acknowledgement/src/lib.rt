@@ -12,6 +12,7 @@ mod messages;
 mod nowhere;
 mod outgoing;
 mod stopped;
+mod told;
 
 pub use ack_item::AckItem;
 pub use acknowledgement::{ack_file, send_ack};

@@ -1,5 +1,6 @@
 -- A call that was refused, and whether the book is full.
-use Rattle.std.proofs.Common.{◌≡◌, ◌↔◌, ◌≤◌, true, false, length, refl, sym, subst, arith}
+use Rattle.std.proofs.Common.{◌≡◌, ◌↔◌, ℕ, ◌<◌, ◌≤◌, Bool, true, false, cond, length, refl, sym, subst, arith}
+use Rattle.std.specs.Prelude.{nat_le}
 use Rattle.std.proofs.lemmas.Bool.Decides.{nat_tests}
 use Rattle.work_registry.specs.BookValue.{BookValue}
 use Rattle.work_registry.specs.Refusals.{is_for_limit}
@@ -16,3 +17,10 @@ full_exactly why told before after as_told is same few =
       by Full is = (λ e. (let all : length before.history ≡ before.limit = is.1 refl in grind (arith, nat_tests)), λ e. refl)
       by Memory is =
           (λ e. absurd cc, λ e. absurd (let more : before.limit ≤ length before.history = grind (arith, nat_tests) in let none : false ≡ true = is.0 (omega (arith, more, few)) in cc))
+
+-- a window at a book takes calls just of a session that a book knows
+pub known_session : (session : ℕ) → 0 < cond (nat_le session 63) 4294967295 0 → session ≤ 63
+known_session session some = by (nat_le session 63) refl some where
+  by : (known : Bool) → nat_le session 63 ≡ known → 0 < cond known 4294967295 0 → session ≤ 63
+  by true is some = grind (arith, nat_tests)
+  by false is some = absurd (omega arith)

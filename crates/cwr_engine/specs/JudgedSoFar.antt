@@ -16,8 +16,8 @@ pub record IsJudgedAt (group sequence : ℕ) (judge : JudgeState) (t : RawParts)
   pub sequence_is : sequence ≡ t.sequence
   pub judging : IsJudging judge t.kind t.lines
 
+-- of the judge nothing is said while no transaction is open: it is the one of the last transaction
 abbrev pub IsOpenAt : ℕ → ℕ → Option JudgeState → Option RawParts → Type 0
-IsOpenAt group sequence None None = Unit {0}
+IsOpenAt group sequence judge None = Unit {0}
 IsOpenAt group sequence None (Some t) = ⊥
-IsOpenAt group sequence (Some judge) None = ⊥
 IsOpenAt group sequence (Some judge) (Some t) = IsJudgedAt group sequence judge t

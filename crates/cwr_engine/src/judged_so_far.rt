@@ -18,7 +18,7 @@ pub(crate) struct JudgedSoFar<A: Allocator> {
     /// The group id and the transaction sequence of the open transaction.
     group: u32,
     sequence: u32,
-    /// What judges the open transaction.
+    /// What judges the open transaction. It stays until the next one is opened.
     judge: Option<Judge<A>>,
 }
 
@@ -78,7 +78,6 @@ impl<A: Allocator + Copy> Visitor for JudgedSoFar<A> {
             sequence: self.sequence,
             call,
         })?;
-        self.judge = None;
         Ok(())
     }
 }

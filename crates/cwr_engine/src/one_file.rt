@@ -6,7 +6,7 @@ use crate::engine::work_file;
 use crate::gates::OpenGate;
 use crate::limits::MOST_ENTRIES;
 use crate::outcome::FileOutcome;
-use crate::window::Own;
+use crate::window::Lent;
 use byte_streams::{Sink, Source};
 use cwr_record::Stamp;
 use std::alloc::Allocator;
@@ -29,8 +29,9 @@ pub fn acknowledge<R: Source, W: Sink, A: Allocator + Copy + Drop>(
     ensures { IsWorkedFirst (JobAccount R.Source W.Sink stamp.now false)
         (record { reader = reader.old; writer = writer.old }) (record { reader = reader.new; writer = writer.new }) result }
 {
-    let window = Own {
-        book: Book::new(alloc, MOST_ENTRIES),
+    let mut book = Book::new(alloc, MOST_ENTRIES);
+    let window = Lent {
+        book: &mut book,
         session: 1,
     };
     let (_window, outcome) = work_file(alloc, window, &OpenGate, 1, reader, writer, stamp);

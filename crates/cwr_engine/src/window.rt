@@ -1,5 +1,5 @@
 //! Where a worker hands calls in.
-ghost use Rattle.std.specs.Prelude.{◌≡◌, ◌<◌, ◌≤◌, ◌↔◌, ◌+◌, ◌∷◌, [], ℕ, Bool, Option, None, Some, true, nat_le, length, IfOk, IfErr, OnOk, OnErr};
+ghost use Rattle.std.specs.Prelude.{◌≡◌, ◌<◌, ◌≤◌, ◌↔◌, ◌+◌, ◌∷◌, [], ℕ, Bool, Option, None, Some, true, nat_le, if◌then◌else◌, length, IfOk, IfErr, OnOk, OnErr};
 ghost use Rattle.cwr_call.specs.CallValue.{CallValue};
 ghost use Rattle.work_registry.specs.EntryValue.{entry_of};
 ghost use Rattle.work_registry.specs.Numbers.{IsNumbered};
@@ -97,6 +97,45 @@ impl<A: Allocator + Copy + Drop> Window<Call<A>> for Own<A> {
         match self.book.apply(session, call) {
             Ok(reply) => (self, Ok(reply)),
             Err(refused) => (self, Err(refused.why)),
+        }
+    }
+}
+
+/// A book that is lent and that nobody else uses in the meantime, and a session from 0 to 63 that hands in its calls
+/// there. It is small, so that a call moves no book.
+#[derive(Drop)]
+pub(crate) struct Lent<'a, A: Allocator + Copy + Drop> {
+    pub(crate) book: &'a mut Book<A>,
+    pub(crate) session: u32,
+}
+
+impl<'a, A: Allocator + Copy + Drop> Window<Call<A>> for Lent<'a, A> {
+    ghost session = { λ s. s.session };
+
+    // It takes a call only of a session that a book knows.
+    ghost turns_left = { λ s. if nat_le s.session 63 then 4294967295 else 0 };
+
+    ghost entries = { λ s. record { list = made s.book.now.history s.session; whole = Some s.book.now.history } };
+
+    ghost full = { λ s. nat_le s.book.now.limit (length s.book.now.history) };
+
+    ghost mark = { λ _. None };
+
+    ghost limit = { λ s. s.book.now.limit };
+
+    // The book that is lent: what is written at the window is written there.
+    ghost Home = { ℕ };
+
+    ghost home = { λ s. s.book.ghost_name };
+
+    #[inline]
+    fn hand_in(self, call: Call<A>) -> (Lent<'a, A>, Result<Reply, WhyRefused>) {
+        let Lent { book, session } = self;
+        // Looking at it tells the check what holds in every book.
+        let _entries = book.history().len();
+        match book.apply(session, call) {
+            Ok(reply) => (Lent { book, session }, Ok(reply)),
+            Err(refused) => (Lent { book, session }, Err(refused.why)),
         }
     }
 }

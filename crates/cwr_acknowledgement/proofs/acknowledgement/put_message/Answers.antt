@@ -1,11 +1,7 @@
-use Rattle.std.proofs.Common.{◌∙◌, ap, rules}
-use Rattle.cwr_record.specs.Lines.{line_of}
-use Rattle.cwr_record.specs.Acknowledgement as table
-use Rattle.cwr_acknowledgement.specs.Acknowledgement.{ended}
+use Rattle.std.proofs.Common.{◌∙◌, rules}
 use Rattle.cwr_acknowledgement.proofs.Puts.{put_from}
 use Rattle.cwr_acknowledgement.proofs.acknowledgement.put_message.Goals as goal
 
 pub returns-clause-put : goal.returns-clause-put
 returns-clause-put g c =
-    put_from c.put_line.result _ _ _ c.args.out.now _ 1 _ _ c.put_line.ensures.put (search rules) (search rules)
-    (ap ended (c.bytes.ensures.line ∙ c.message_line.ensures.line ∙ ap (line_of table.message) c.message_record.ensures))
+    put_from c.put_ended.result _ _ _ c.args.out.now _ 1 _ _ c.put_ended.ensures.put (search rules) (search rules) (c.bytes.ensures.line ∙ c.fill_told.ensures)

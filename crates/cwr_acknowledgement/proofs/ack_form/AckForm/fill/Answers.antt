@@ -6,7 +6,7 @@ use Rattle.cwr_acknowledgement.specs.AckForm.{Form}
 use Rattle.cwr_acknowledgement.specs.AckItem.{Item}
 use Rattle.cwr_acknowledgement.specs.Acknowledgement.{ack_record, ended}
 use Rattle.cwr_acknowledgement.proofs.AckLines.{ack_ended}
-use Rattle.cwr_acknowledgement.proofs.ack_form.AckForm.line.Goals as goal
+use Rattle.cwr_acknowledgement.proofs.ack_form.AckForm.fill.Goals as goal
 
 pub returns : goal.returns
 returns g c =
@@ -23,12 +23,12 @@ returns g c =
       work = item.work;
       faults = item.faults;
     } in
-    ack_ended c.args.self.now.stamp c.args.self.now.header c.args.index told c.put-14.new.self c.new-line.result form.creation_date form.creation_time form.processing_date
+    ack_ended c.args.self.now.stamp c.args.self.now.header c.args.index told c.put-14.new.self c.args.line.now form.creation_date form.creation_time form.processing_date
     c.code.result.now c.recipient_number.result c.code-2.result.now
     (c.put-14.ensures.before [] ∙ c.put-13.ensures.before _ ∙ c.put-12.ensures.before _ ∙ c.put-11.ensures.before _ ∙ c.put-10.ensures.before _
     ∙ c.put-9.ensures.before _ ∙ c.put-8.ensures.before _ ∙ c.put-7.ensures.before _ ∙ c.put-6.ensures.before _ ∙ c.put-5.ensures.before _
     ∙ c.put-4.ensures.before _ ∙ c.put-3.ensures.before _ ∙ c.put-2.ensures.before _ ∙ c.put.ensures.before _)
-    c.new-line.ensures (spelled.0 ∙ ap (λ (x : Form). number_text 8 x.header.creation_date) c.self.view_is)
+    c.requires.none (spelled.0 ∙ ap (λ (x : Form). number_text 8 x.header.creation_date) c.self.view_is)
     (spelled.1 ∙ ap (λ (x : Form). number_text 6 x.header.creation_time) c.self.view_is)
     (spelled.2 ∙ ap (λ (x : Form). number_text 8 x.stamp.date) c.self.view_is) c.code.ensures (search rules) c.recipient_number.ensures c.code-2.ensures
     ∙ ap (λ (x : Item). ended (line_of table.ack (ack_record c.args.self.now.stamp c.args.self.now.header c.args.index x))) c.item.view_is
