@@ -4,14 +4,15 @@ ghost use Rattle.std.specs.Prelude.{◌≡◌, true, IfSome};
 ghost use Rattle.work_registry.specs.Numbers.{most_entries};
 ghost use Rattle.work_registry.specs.Replay.{is_opening};
 
-use crate::files::{InputFile, bytes_of};
-use crate::status::no_memory;
+use crate::files::{InputFile, Reading, read_named};
+use byte_streams::{ReadRefused, Source};
 use kept_file::{CallFailed, Exclusive, FileNames, lock, takes_draft};
 pub use kept_register::MOST_REGISTER_BYTES;
-use kept_register::{new_book, read_book};
+use kept_register::{NoBook, REGISTER_WINDOW, audit_source, new_book, read_book};
+use std::alloc::Global;
 use std::process::ExitCode;
 use std::rt::Files;
-use work_registry::{Book, RegisterRefusal, audit};
+use work_registry::{Book, RegisterRefusal};
 
 /// The book that a run begins with: an empty one, or that of a register. A refused register is told on standard error.
 pub(crate) fn opening_book<R: AllocGlobal + Eprint + Files>(
@@ -85,22 +86,47 @@ pub(crate) fn audit_file<R: AllocGlobal + Input + Print + Eprint + Files>(
     path: &str,
     verbose: bool,
 ) -> ExitCode {
-    let bytes = match bytes_of(rt, path, MOST_REGISTER_BYTES, verbose) {
-        Ok(bytes) => bytes,
-        Err(unread) => {
-            let _ = eprintln!(rt; "stopped: {unread}");
-            return ExitCode::FAILURE;
-        }
-    };
-    match audit(rt.alloc(), &bytes) {
-        Ok(entries) => match println!(rt; "{entries} entries") {
+    match read_named(rt, path, verbose, Audit { alloc: rt.alloc() }) {
+        Ok(Audited::Entries(entries)) => match println!(rt; "{entries} entries") {
             Ok(()) => ExitCode::SUCCESS,
             Err(_) => ExitCode::FAILURE,
         },
-        Err(RegisterRefusal::Memory) => no_memory(rt),
-        Err(refusal) => {
+        Ok(Audited::Refused(refusal)) => {
             let _ = println!(rt; "{refusal}");
             ExitCode::FAILURE
+        }
+        Err(unread) => {
+            let _ = eprintln!(rt; "stopped: {unread}");
+            ExitCode::FAILURE
+        }
+    }
+}
+
+/// What an audit found.
+#[derive(Clone, Copy)]
+enum Audited {
+    /// So many entries, of one registry.
+    Entries(u64),
+    /// No register: its first fault.
+    Refused(RegisterRefusal),
+}
+
+/// A register is audited as it is read.
+#[derive(Clone, Copy)]
+struct Audit {
+    alloc: Global,
+}
+
+impl Reading for Audit {
+    type Made = Audited;
+
+    fn read<S: Source>(self, reader: &mut S) -> Result<Audited, ReadRefused> {
+        match audit_source(self.alloc, reader, MOST_REGISTER_BYTES, REGISTER_WINDOW) {
+            Ok(entries) => Ok(Audited::Entries(entries)),
+            Err(NoBook::Refused(refusal)) => Ok(Audited::Refused(refusal)),
+            Err(NoBook::Memory) => Err(ReadRefused::Memory),
+            Err(NoBook::Read) => Err(ReadRefused::Read),
+            Err(NoBook::TooLong) => Err(ReadRefused::TooLong),
         }
     }
 }
