@@ -22,4 +22,6 @@ mod taken;
 #[cfg(test)]
 mod visited;
 #[cfg(test)]
+mod widths;
+#[cfg(test)]
 mod windows;

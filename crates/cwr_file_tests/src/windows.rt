@@ -13,7 +13,7 @@ use std::test::Fail;
 
 /// How a source gives its bytes, and how they are read.
 #[derive(Clone, Copy)]
-struct Ways {
+pub(crate) struct Ways {
     /// How many bytes it gives at a time.
     piece: usize,
     /// The read that fails, counted from 1; none for 0.
@@ -28,7 +28,7 @@ struct Ways {
 const MOST: usize = 4096;
 
 /// Visits a file that comes from a source.
-fn visit(
+pub(crate) fn visit(
     alloc: Global,
     text: &[u8],
     ways: Ways,
@@ -75,7 +75,7 @@ fn expect_refused_by_each(alloc: Global, text: &[u8], wanted: SourceRefused) -> 
 }
 
 /// A source that does not fail, which gives a piece at a time.
-fn by(piece: usize, room: usize) -> Ways
+pub(crate) fn by(piece: usize, room: usize) -> Ways
     ensures piece { result.piece ≡ piece }
     ensures limit { result.limit ≡ 4096 }
 {
