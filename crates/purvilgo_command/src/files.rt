@@ -90,7 +90,7 @@ impl<R: AllocGlobal + Input + Eprint> Read for StandardInput<'_, R> {
     }
 }
 
-/// A file that is opened at its first read. It tells no bytes.
+/// A file that is opened at its first read, and closed once it was read to its end. It tells no bytes.
 ///
 /// A file that cannot be opened counts as a failed read.
 #[derive(Drop)]
@@ -102,6 +102,8 @@ pub(crate) struct InputFile<'a, R: Files> {
     /// How many bytes were read.
     bytes: usize,
     file: Option<R::File>,
+    /// Whether it was read to its end.
+    ended: bool,
     failed: bool,
     reads: ReadCount,
 }
@@ -117,6 +119,7 @@ impl<'a, R: AllocGlobal + Eprint + Files> InputFile<'a, R> {
             verbose,
             bytes: 0,
             file: None,
+            ended: false,
             failed: false,
             reads: ReadCount::zero(),
         }
@@ -136,12 +139,15 @@ impl<'a, R: AllocGlobal + Eprint + Files> InputFile<'a, R> {
         Ok(())
     }
 
-    /// Reads once from the file, which it opens where it is not open.
+    /// Reads once from the file, which it opens where it is not open. Behind the end there are no bytes.
     fn read(&mut self, room: &mut [u8]) -> Result<usize, Failed>
         ensures bound { IfOk result (λ n. n ≤ length room.new) }
         ensures reads { self.new.reads ≡ self.old.reads }
         ensures failed { self.new.failed ≡ self.old.failed }
     {
+        if self.ended {
+            return Ok(0);
+        }
         self.open()?;
         let read = match &mut self.file {
             Some(file) => file.read(room),
@@ -150,6 +156,9 @@ impl<'a, R: AllocGlobal + Eprint + Files> InputFile<'a, R> {
         match read {
             Ok(n) => {
                 self.count(n);
+                if n == 0 && !room.is_empty() {
+                    self.close();
+                }
                 Ok(n)
             }
             Err(error) => Err(self.fail(&error)),
@@ -165,6 +174,16 @@ impl<'a, R: AllocGlobal + Eprint + Files> InputFile<'a, R> {
         if n == 0 && self.verbose {
             let _ = eprintln!(self.rt; "{}: read, {} bytes", self.path, self.bytes);
         }
+    }
+
+    /// Closes the file at its end: a run keeps its files until all of its workers have ended, and a table of open files
+    /// that grows while there are threads holds all of them up.
+    fn close(&mut self)
+        ensures reads { self.new.reads ≡ self.old.reads }
+        ensures failed { self.new.failed ≡ self.old.failed }
+    {
+        self.file = None;
+        self.ended = true;
     }
 
     /// Tells why it failed.

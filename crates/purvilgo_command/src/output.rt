@@ -5,6 +5,7 @@ ghost use Rattle.std.specs.Prelude.{◌≡◌, ◌≤◌, false, None, length, I
 use crate::telling::tell_reason;
 use byte_streams::{Failed, Sink};
 use kept_file::{FileNames, open_draft, remove_draft, takes_draft};
+use std::fs::File;
 use std::io::Write;
 use std::rt::Files;
 use std::{fs, io};
@@ -12,7 +13,13 @@ use std::{fs, io};
 /// The number by which the system tells that a file is there.
 const FILE_EXISTS: i32 = 17;
 
+/// A piece of an acknowledgement that is not its last one has more bytes than this.
+const LAST_PIECE: usize = 65_000;
+
 /// The draft of a file, which is opened at its first write, and then begins empty. It tells no bytes.
+///
+/// It is closed behind what looks like the last piece, and opened again where another one comes. A run keeps its drafts
+/// until all of its workers have ended, and a table of open files that grows while there are threads holds all of them up.
 ///
 /// What is no regular file, a device or a pipe, has no draft: it is written itself. A file or a draft that cannot be
 /// opened counts as a failed write.
@@ -29,6 +36,8 @@ pub(crate) struct OutputFile<'a, R: Files> {
     drafted: bool,
     /// Whether it took some bytes.
     began: bool,
+    /// Whether the draft was closed.
+    closed: bool,
     failed: bool,
 }
 
@@ -51,6 +60,7 @@ impl<'a, R: AllocGlobal + Eprint + Files> OutputFile<'a, R> {
             file: None,
             drafted: false,
             began: false,
+            closed: false,
             failed: false,
         }
     }
@@ -83,11 +93,14 @@ impl<'a, R: AllocGlobal + Eprint + Files> OutputFile<'a, R> {
         Ok(())
     }
 
-    /// The draft, made anew.
+    /// The draft, made anew, or at its end where it was closed.
     fn opened(&mut self) -> io::Result<R::File>
         ensures { self.new.failed ≡ self.old.failed }
     {
         let names = self.names;
+        if self.closed {
+            return File::options().append(true).open(self.rt, names.draft());
+        }
         if !self.replaces && fs::symlink_metadata(self.rt, names.name()).is_ok() {
             return Err(io::Error::from_raw_os_error(FILE_EXISTS));
         }
@@ -108,12 +121,25 @@ impl<'a, R: AllocGlobal + Eprint + Files> OutputFile<'a, R> {
         match written {
             Ok(n) => {
                 self.began = self.began || n > 0;
+                if n == bytes.len() && n < LAST_PIECE {
+                    self.close();
+                }
                 if self.verbose {
                     let _ = eprintln!(self.rt; "{}: written, {n} bytes", self.names.word());
                 }
                 Ok(n)
             }
             Err(error) => Err(self.fail(&error)),
+        }
+    }
+
+    /// Closes a draft. A device or a pipe stays open.
+    fn close(&mut self)
+        ensures { self.new.failed ≡ self.old.failed }
+    {
+        if self.drafted {
+            self.file = None;
+            self.closed = true;
         }
     }
 

@@ -19,7 +19,7 @@ use std::alloc::Allocator;
 use std::sync::Wait;
 use work_registry::{Book, Call, Refused, Reply, WhyRefused};
 
-/// How often the next seat looks before it sleeps: some ten microseconds in all, longer than most turns take.
+/// How often a seat in line looks before it sleeps: some tens of microseconds in all, longer than most turns take.
 const FEW_LOOKS: u32 = 20;
 
 impl<A: Allocator + Copy + Drop> Inside<A> {
