@@ -20,5 +20,5 @@ pub use cwr_call::{Call, Fault, Faults, Memory, WorkKind};
 pub use cwr_record::Status;
 pub use entry::Entry;
 pub use refused::{Refused, WhyRefused};
-pub use register::{RegisterRefusal, audit, read_register};
+pub use register::{RegisterPieces, RegisterRefusal, audit, read_register};
 pub use reply::Reply;

@@ -20,12 +20,14 @@ mod faults;
 mod fields;
 mod head;
 mod lines;
+mod pieces;
 mod reading;
 mod refusal;
 mod writing;
 
 use crate::book::Book;
 use cwr_field::{MOST_COUNT, Memory};
+pub use pieces::RegisterPieces;
 use reading::book_from;
 pub use refusal::RegisterRefusal;
 use std::alloc::Allocator;
