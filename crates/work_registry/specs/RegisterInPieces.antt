@@ -1,5 +1,5 @@
 -- The text of a register that is made piece after piece: what is still to come.
-use Rattle.std.specs.Prelude.{ℕ, ◌+◌, ◌≤◌, ◌^◌, List, [], ◌∷◌, ◌++◌, length}
+use Rattle.std.specs.Prelude.{ℕ, ◌+◌, ◌≤◌, ◌^◌, List, ◌∷◌, ◌++◌, length}
 use Rattle.std.specs.List.{flat_map, AllByRecursion}
 use Rattle.cwr_record.specs.Lines.{Fits, line_of}
 use Rattle.work_registry.specs.EntryValue.{EntryValue}
