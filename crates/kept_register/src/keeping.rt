@@ -6,10 +6,33 @@ ghost use Rattle.work_registry.specs.Register.{register_text};
 ghost use Rattle.kept_file.specs.declared.failed.NotKept.{NotKept};
 
 use cwr_field::Memory;
-use kept_file::{NotKept, Place, drop_followers, keep};
+use kept_file::{NotKept, Pieces, Place, drop_followers, keep_pieces};
 use std::alloc::Allocator;
 use thiserror::Error;
-use work_registry::Book;
+use work_registry::{Book, RegisterPieces};
+
+/// How many bytes of a register are held while it is written.
+const PIECE: usize = 65_536;
+
+/// The register of a book, as a text that comes in pieces.
+#[derive(Drop)]
+struct Register<'a, A: Allocator + Copy + Drop> {
+    pieces: RegisterPieces<'a, A>,
+}
+
+impl<A: Allocator + Copy + Drop> Pieces for Register<'_, A> {
+    ghost held = { λ register. register.pieces.held };
+
+    ghost left = { λ register. register.pieces.left };
+
+    fn advance(&mut self) {
+        self.pieces.advance();
+    }
+
+    fn piece(&self) -> &[u8] {
+        self.pieces.piece()
+    }
+}
 
 /// Why a register was not kept. Its file is then the old one, but for a last call that failed on the new one's name.
 #[derive(Clone, Copy, Debug, PartialEq, Eq, Error)]
@@ -58,11 +81,11 @@ pub fn keep_register<P: Place, A: Allocator + Copy + Drop>(
     ensures sent { IfErr result (λ e. (n : NotKept) → e ≡ RegisterNotKept.Stopped n → (n.sent ≤ length (register_text book.now.history)) × Leads (λ s t. t.draft ≡ take n.sent (register_text book.now.history)) (P.told place.old) (P.told place.new)) }
     ensures failed { IsErr result → (P.has_failed place.new ≡ true) ⊎ (result ≡ Err RegisterNotKept.Memory) }
 {
-    let Ok(text) = book.write_register(alloc) else {
+    let Ok(pieces) = book.register_pieces(alloc, PIECE) else {
         drop_followers(place);
         return Err(RegisterNotKept::Memory);
     };
-    match keep(place, &text) {
+    match keep_pieces(place, &mut Register { pieces }) {
         Ok(()) => Ok(()),
         Err(stopped) => Err(RegisterNotKept::Stopped(stopped)),
     }

@@ -14,6 +14,7 @@ pub mod RegisterFits
 pub mod RegisterSteps
 pub mod RegisterFaultTexts
 pub mod RegisterEntries
+pub mod RegisterInPieces
 pub mod RegisterLines
 pub mod RegisterFirstLine
 pub mod RegisterNextLine

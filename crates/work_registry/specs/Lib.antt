@@ -15,6 +15,7 @@ pub mod Indexes
 pub mod RegisterLine
 pub mod RegisterColumns
 pub mod Register
+pub mod RegisterInPieces
 pub mod RegisterFaults
 pub mod RegisterReading
 pub mod Auditing

@@ -21,13 +21,15 @@ mod faults;
 mod fields;
 mod head;
 mod lines;
+mod pieces;
 mod reading;
 mod refusal;
 mod writing;
 
 use crate::book::Book;
 pub use auditor::Auditor;
-use cwr_field::Memory;
+use cwr_field::{MOST_COUNT, Memory};
+pub use pieces::RegisterPieces;
 use reading::book_from;
 pub use refusal::RegisterRefusal;
 use std::alloc::Allocator;

@@ -5,7 +5,7 @@ ghost use Rattle.std.specs.List.{flat_map, AllByRecursion};
 ghost use Rattle.cwr_call.specs.Lawful.{is_lawful};
 ghost use Rattle.cwr_record.specs.Lines.{Fits, line_of};
 ghost use Rattle.work_registry.specs.RegisterColumns.{count_width, head_width, fault_width};
-ghost use Rattle.work_registry.specs.RegisterLine.{head, fault, head_of, IsTyped};
+ghost use Rattle.work_registry.specs.RegisterLine.{entry_count, head, fault, head_of, IsTyped};
 ghost use Rattle.work_registry.specs.Register.{line_for, entry_line, entry_lines, count_line, register_text, FitsEntry, IsWholeEntry};
 
 use super::columns::{self, COUNT_WIDTH, FAULT_WIDTH, HEAD_WIDTH};
@@ -13,10 +13,11 @@ use super::head::Head;
 use crate::entry::Entry;
 use cwr_call::Fault;
 use cwr_field::Memory;
-use cwr_record::{LineRoom, Piece, put_line};
+use cwr_record::{LineRoom, Piece};
 use std::alloc::Allocator;
 
-fn head_for<A: Allocator>(index: u32, entry: &Entry<A>) -> Head
+/// What the fields of fixed place in the line of an entry tell.
+pub(super) fn head_for<A: Allocator>(index: u32, entry: &Entry<A>) -> Head
     ensures value { result ≡ head_of (line_for index entry.now.call entry.now.reply) }
     ensures lawful { IsTrue (is_lawful entry.now.call) }
     ensures submitter { length entry.now.call.submitter ≡ 11 }
@@ -40,10 +41,10 @@ fn head_for<A: Allocator>(index: u32, entry: &Entry<A>) -> Head
     }
 }
 
-/// Appends the fields of fixed place.
-fn put_head<A: Allocator>(out: &mut Vec<u8, A>, x: &Head) -> Result<(), Memory>
+/// The fields of fixed place.
+pub(super) fn head_line(x: &Head) -> LineRoom<HEAD_WIDTH>
     requires { Fits head x.now }
-    ensures { OnOk result (out.new.items ≡ out.old.items ++ line_of head x.now) }
+    ensures { result ≡ line_of head x.now }
 {
     let mut line = LineRoom::<HEAD_WIDTH>::new();
     line.put(&Piece::Text(b"ENT", columns::MARK));
@@ -60,7 +61,38 @@ fn put_head<A: Allocator>(out: &mut Vec<u8, A>, x: &Head) -> Result<(), Memory>
     line.put(&Piece::Digits(x.work as u64, columns::WORK));
     line.put(&Piece::Digits(x.version as u64, columns::VERSION));
     line.put(&Piece::Digits(x.faults as u64, columns::FAULTS));
-    out.extend_from_slice(line.bytes())?;
+    line
+}
+
+/// A fault.
+pub(super) fn fault_line(x: &Fault) -> LineRoom<FAULT_WIDTH>
+    requires { Fits fault x.now }
+    ensures text { result ≡ line_of fault x.now }
+    ensures typed { IsTyped x.now }
+{
+    let mut line = LineRoom::<FAULT_WIDTH>::new();
+    line.put(&Piece::Digits(x.sequence as u64, columns::FAULT_SEQUENCE));
+    line.put(&Piece::Digits(x.number as u64, columns::FAULT_NUMBER));
+    line.put(&Piece::Text(&x.rtype, columns::FAULT_RECORD_TYPE));
+    line
+}
+
+/// The first line, without its end: the number of entries.
+pub(super) fn first_line(count: usize) -> LineRoom<COUNT_WIDTH>
+    requires { count < 10 ^ 8 }
+    ensures { result ≡ line_of entry_count count }
+{
+    let mut line = LineRoom::<COUNT_WIDTH>::new();
+    line.put(&Piece::Text(b"REG", columns::MARK));
+    line.put(&Piece::Digits(count as u64, columns::COUNT));
+    line
+}
+
+fn put_head<A: Allocator>(out: &mut Vec<u8, A>, x: &Head) -> Result<(), Memory>
+    requires { Fits head x.now }
+    ensures { OnOk result (out.new.items ≡ out.old.items ++ line_of head x.now) }
+{
+    out.extend_from_slice(head_line(x).bytes())?;
     Ok(())
 }
 
@@ -69,11 +101,7 @@ fn put_fault<A: Allocator>(out: &mut Vec<u8, A>, x: &Fault) -> Result<(), Memory
     ensures text { OnOk result (out.new.items ≡ out.old.items ++ line_of fault x.now) }
     ensures typed { IsTyped x.now }
 {
-    let mut line = LineRoom::<FAULT_WIDTH>::new();
-    line.put(&Piece::Digits(x.sequence as u64, columns::FAULT_SEQUENCE));
-    line.put(&Piece::Digits(x.number as u64, columns::FAULT_NUMBER));
-    line.put(&Piece::Text(&x.rtype, columns::FAULT_RECORD_TYPE));
-    out.extend_from_slice(line.bytes())?;
+    out.extend_from_slice(fault_line(x).bytes())?;
     Ok(())
 }
 
@@ -116,13 +144,7 @@ fn put_count<A: Allocator>(out: &mut Vec<u8, A>, count: usize) -> Result<(), Mem
     requires { count < 10 ^ 8 }
     ensures { OnOk result (out.new.items ≡ out.old.items ++ count_line count) }
 {
-    put_line(
-        out,
-        &[
-            Piece::Text(b"REG", columns::MARK),
-            Piece::Digits(count as u64, columns::COUNT),
-        ],
-    )?;
+    out.extend_from_slice(first_line(count).bytes())?;
     out.push(b'\n')?;
     Ok(())
 }

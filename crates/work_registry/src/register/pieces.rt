@@ -1,0 +1,247 @@
+//! The text of a history, piece after piece.
+
+ghost use Rattle.std.specs.Prelude.{◌≡◌, ◌++◌, ◌∷◌, ℕ, List, [], ◌+◌, ◌<◌, ◌≤◌, ◌^◌, true, false, length, vec_len, vec_capacity, OnOk, IfOk};
+ghost use Rattle.std.specs.List.{flat_map, AllByRecursion};
+ghost use Rattle.cwr_record.specs.Lines.{Fits, line_of};
+ghost use Rattle.work_registry.specs.EntryValue.{EntryValue};
+ghost use Rattle.work_registry.specs.RegisterColumns.{head_width};
+ghost use Rattle.work_registry.specs.RegisterLine.{fault, IsTyped};
+ghost use Rattle.work_registry.specs.Register.{entry_line, entry_lines, count_line, register_text, FitsEntry, IsWholeEntry};
+ghost use Rattle.work_registry.specs.RegisterInPieces.{text_from, FitsNext};
+
+use super::columns::HEAD_WIDTH;
+use super::writing::{fault_line, first_line, head_for, head_line};
+use crate::book::Book;
+use crate::entry::Entry;
+use cwr_call::Fault;
+use cwr_field::Memory;
+use std::alloc::{Allocator, Global};
+use std::marker::Model;
+
+/// The register of a book as a text that comes in pieces.
+///
+/// A contract sees the piece that is there, and the bytes that come after it.
+#[derive(Drop)]
+pub struct RegisterPieces<'a, A: Allocator + Copy + Drop = Global> {
+    held: Vec<u8, A>,
+    rest: Rest<'a, A>,
+}
+
+impl<'a, A: Allocator + Copy + Drop> Model for RegisterPieces<'a, A> {
+    ghost use Rattle.std.specs.Prelude.{◌≤◌, vec_capacity};
+    ghost use Rattle.work_registry.specs.RegisterColumns.{head_width};
+    ghost use Rattle.work_registry.specs.RegisterInPieces.{PiecesState};
+
+    ghost Value = { PiecesState };
+
+    ghost view = { λ p. record { held = p.held.items; left = p.rest } };
+
+    ghost invariant = { λ p. head_width ≤ vec_capacity p.held };
+}
+
+impl<A: Allocator + Copy + Drop> Book<A> {
+    /// The register of this book, as [`Book::write_register`] writes it, in pieces of up to `room` bytes.
+    ///
+    /// All its memory is asked for here, `room` bytes, and no later call takes any. There is room for the fields of fixed
+    /// place in the line of an entry, 173 bytes, at the least.
+    pub fn register_pieces(&self, alloc: A, room: usize) -> Result<RegisterPieces<'_, A>, Memory>
+        requires room { head_width ≤ room }
+        ensures text { IfOk result (λ pieces. pieces.left ≡ register_text self.now.history) }
+        // This is what [`crate::read_register`] asks of a history that it reads again.
+        ensures whole { OnOk result (AllByRecursion IsWholeEntry self.now.history) }
+        ensures short { IfOk result (λ pieces. length pieces.left < 2 ^ 63) }
+    {
+        let entries = self.history();
+        see_entries(entries);
+        Ok(RegisterPieces {
+            held: Vec::with_capacity(alloc, room)?,
+            rest: Rest {
+                next: Next::Count,
+                entries,
+                index: 1,
+            },
+        })
+    }
+}
+
+impl<A: Allocator + Copy + Drop> RegisterPieces<'_, A> {
+    /// Goes on to the next piece, which has some bytes unless none are left.
+    pub fn advance(&mut self)
+        ensures text { self.old.left ≡ self.new.held ++ self.new.left }
+        ensures none { self.new.held ≡ [] → self.old.left ≡ [] }
+    {
+        self.held.clear();
+        self.rest.fill(&mut self.held);
+    }
+
+    /// The piece that is there, of no byte before the first call of [`RegisterPieces::advance`].
+    pub fn piece(&self) -> &[u8]
+        ensures { result.now ≡ self.now.held }
+    {
+        self.held.as_slice()
+    }
+}
+
+/// What comes next of a register.
+#[derive(Clone, Copy)]
+enum Next<'a> {
+    /// The first line.
+    Count,
+    /// The line of an entry.
+    Entry,
+    /// These faults of a line that was begun, and its end.
+    Faults(&'a [Fault]),
+}
+
+/// What is left of a register. A contract sees its bytes.
+#[derive(Drop)]
+struct Rest<'a, A: Allocator> {
+    next: Next<'a>,
+    /// The entries whose lines were not begun.
+    entries: &'a [Entry<A>],
+    /// The place of the first of them in the register, from 1.
+    index: u32,
+}
+
+impl<'a, A: Allocator> Model for Rest<'a, A> {
+    ghost use Rattle.std.specs.Prelude.{ℕ, List};
+    ghost use Rattle.work_registry.specs.RegisterInPieces.{text_from, FitsFrom};
+
+    ghost Value = { List ℕ };
+
+    ghost view = { λ r. text_from r.next r.index r.entries.now };
+
+    ghost invariant = { λ r. FitsFrom r.next r.index r.entries.now };
+}
+
+impl<A: Allocator> Rest<'_, A> {
+    /// Puts what is left, as long as there is room.
+    fn fill(&mut self, held: &mut Vec<u8, A>)
+        requires empty { held.old.items ≡ [] }
+        requires room { head_width ≤ vec_capacity held.old }
+        ensures text { self.old ≡ held.new.items ++ self.new }
+        ensures none { held.new.items ≡ [] → self.old ≡ [] }
+        ensures room { vec_capacity held.old ≤ vec_capacity held.new }
+    {
+        while held.capacity() - held.len() >= HEAD_WIDTH {
+            if !self.put_next(held) {
+                return;
+            }
+        }
+    }
+
+    /// Puts what comes next, for which there is room. Answers whether anything was left.
+    fn put_next(&mut self, held: &mut Vec<u8, A>) -> bool
+        requires room { vec_len held.old + head_width ≤ vec_capacity held.old }
+        ensures text { held.old.items ++ self.old ≡ held.new.items ++ self.new }
+        ensures none { result ≡ false → self.new ≡ [] }
+        ensures some { result ≡ true → length held.old.items < length held.new.items }
+        ensures room { vec_capacity held.old ≤ vec_capacity held.new }
+    {
+        match self.next {
+            Next::Count => self.next = put_count(held, self.entries.len()),
+            Next::Entry => {
+                let Some((entry, rest)) = self.entries.split_first() else {
+                    return false;
+                };
+                self.next = put_head(held, self.index, entry);
+                self.entries = rest;
+                self.index += 1;
+            }
+            Next::Faults(faults) => self.next = put_fault(held, faults),
+        }
+        true
+    }
+}
+
+/// Puts the first line. Answers what comes next.
+fn put_count<'a, A: Allocator>(held: &mut Vec<u8, A>, count: usize) -> Next<'a>
+    requires few { count < 10 ^ 8 }
+    requires room { vec_len held.old + head_width ≤ vec_capacity held.old }
+    ensures text { (index : ℕ) → (entries : List EntryValue) → held.old.items ++ (count_line count ++ entry_lines index entries) ≡ held.new.items ++ text_from result index entries }
+    ensures fits { FitsNext result }
+    ensures grows { length held.old.items < length held.new.items }
+    ensures room { vec_capacity held.old ≤ vec_capacity held.new }
+{
+    append(held, first_line(count).bytes());
+    append(held, b"\n");
+    Next::Entry
+}
+
+/// Puts the fields of fixed place in the line of an entry. Answers what comes next.
+fn put_head<'a, A: Allocator>(held: &mut Vec<u8, A>, index: u32, entry: &'a Entry<A>) -> Next<'a>
+    requires index { index < 10 ^ 8 }
+    requires fits { FitsEntry entry.now }
+    requires room { vec_len held.old + head_width ≤ vec_capacity held.old }
+    ensures text { (entries : List EntryValue) → held.old.items ++ (entry_line index entry.now.call entry.now.reply ++ entry_lines (index + 1) entries) ≡ held.new.items ++ text_from result (index + 1) entries }
+    ensures fits { FitsNext result }
+    ensures grows { length held.old.items < length held.new.items }
+    ensures room { vec_capacity held.old ≤ vec_capacity held.new }
+{
+    append(held, head_line(&head_for(index, entry)).bytes());
+    Next::Faults(entry.call().faults())
+}
+
+/// Puts the first of these faults or, where there is none, the end of the line. Answers what comes next.
+fn put_fault<'a, A: Allocator>(held: &mut Vec<u8, A>, faults: &'a [Fault]) -> Next<'a>
+    requires fit { AllByRecursion (Fits fault) faults.now }
+    requires room { vec_len held.old + head_width ≤ vec_capacity held.old }
+    ensures text { (index : ℕ) → (entries : List EntryValue) → held.old.items ++ (flat_map (line_of fault) faults.now ++ 10 ∷ entry_lines index entries) ≡ held.new.items ++ text_from result index entries }
+    ensures fits { FitsNext result }
+    ensures grows { length held.old.items < length held.new.items }
+    ensures room { vec_capacity held.old ≤ vec_capacity held.new }
+{
+    match faults.split_first() {
+        None => {
+            append(held, b"\n");
+            Next::Entry
+        }
+        Some((fault, rest)) => {
+            append(held, fault_line(fault).bytes());
+            Next::Faults(rest)
+        }
+    }
+}
+
+/// Puts bytes, for which there is room. No memory is asked for.
+fn append<A: Allocator>(held: &mut Vec<u8, A>, bytes: &[u8])
+    requires { vec_len held.old + length bytes.now ≤ vec_capacity held.old }
+    ensures text { held.new.items ≡ held.old.items ++ bytes.now }
+    ensures room { vec_capacity held.old ≤ vec_capacity held.new }
+{
+    let Ok(()) = held.extend_from_slice(bytes) else {
+        unreachable!()
+    };
+}
+
+/// Looks at each entry, which tells the check what is true of all.
+fn see_entries<A: Allocator>(entries: &[Entry<A>])
+    requires { AllByRecursion FitsEntry entries.now }
+    ensures { AllByRecursion IsWholeEntry entries.now }
+{
+    for entry in entries {
+        see_entry(entry);
+    }
+}
+
+fn see_entry<A: Allocator>(entry: &Entry<A>)
+    requires { FitsEntry entry.now }
+    ensures { IsWholeEntry entry.now }
+{
+    let _ = head_for(1, entry);
+    see_faults(entry.call().faults());
+}
+
+fn see_faults(faults: &[Fault])
+    ensures { AllByRecursion IsTyped faults.now }
+{
+    for fault in faults {
+        let _ = see_fault(fault);
+    }
+}
+
+fn see_fault(fault: &Fault) -> [u8; 3]
+    ensures { IsTyped fault.now }
+{
+    fault.rtype
+}
