@@ -67,11 +67,38 @@ pub fn read_book<S: Source, A: Allocator + Copy + Drop>(
     ensures read_on { HasGiven (S.left reader.old) (S.left reader.new) }
     ensures few_reads { S.reads reader.new ≤ S.reads reader.old + 68719476738 }
 {
-    let bytes = match read_file(alloc, reader, MOST_REGISTER_BYTES) {
-        Ok(bytes) => bytes,
-        Err(stopped) => return Err(unread(stopped)),
-    };
-    match read_register(alloc, &bytes, MOST_COUNT) {
+    let bytes = register_bytes(alloc, reader)?;
+    book_of_bytes(alloc, &bytes)
+}
+
+/// The bytes of the register that a reader gives, all of them.
+fn register_bytes<S: Source, A: Allocator>(alloc: A, reader: &mut S) -> Result<Vec<u8, A>, NoBook>
+    requires { S.has_failed reader.old ≡ false }
+    ensures whole { IfOk result (λ text. IfSome (S.left reader.old) (λ bytes. text.items ≡ bytes)) }
+    ensures unrefused { (r : RegisterRefusal) → IsErrOf result (NoBook.Refused r) → ⊥ }
+    ensures too_long { IsErrOf result NoBook.TooLong → IfSome (S.left reader.old) (λ bytes. 68719476736 < length bytes) }
+    ensures failed { IsErrOf result NoBook.Read ↔ (S.has_failed reader.new ≡ true) }
+    ensures read_on { HasGiven (S.left reader.old) (S.left reader.new) }
+    ensures few_reads { S.reads reader.new ≤ S.reads reader.old + 68719476738 }
+{
+    match read_file(alloc, reader, MOST_REGISTER_BYTES) {
+        Ok(bytes) => Ok(bytes),
+        Err(stopped) => Err(unread(stopped)),
+    }
+}
+
+/// The book of a register with these bytes.
+fn book_of_bytes<A: Allocator + Copy + Drop>(alloc: A, bytes: &[u8]) -> Result<Book<A>, NoBook>
+    ensures text { IfOk result (λ book. bytes.now ≡ register_text book.history) }
+    ensures lawful { IfOk result (λ book. IsHistory book.history) }
+    ensures opening { IfOk result (λ book. IsTrue (is_opening book.history)) }
+    ensures limit { IfOk result (λ book. book.limit ≡ most_entries) }
+    ensures want { IsErrOf result (NoBook.Refused refused) → ⊥ }
+    ensures fault { (r : RegisterRefusal) → IsErrOf result (NoBook.Refused r) → IsRefusal most_entries bytes.now r }
+    ensures read { IsErrOf result NoBook.Read → ⊥ }
+    ensures short { IsErrOf result NoBook.TooLong → ⊥ }
+{
+    match read_register(alloc, bytes, MOST_COUNT) {
         Ok(book) => Ok(book),
         Err(RegisterRefusal::Memory) => Err(NoBook::Memory),
         Err(refusal) => Err(NoBook::Refused(refusal)),
