@@ -12,6 +12,8 @@ mod limits;
 #[cfg(test)]
 mod many_calls;
 #[cfg(test)]
+mod pieces;
+#[cfg(test)]
 mod plain;
 #[cfg(test)]
 mod registers;
