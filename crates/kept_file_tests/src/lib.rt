@@ -4,6 +4,8 @@
 #[cfg(test)]
 mod crashes;
 #[cfg(test)]
+mod cut_texts;
+#[cfg(test)]
 mod each_failure;
 #[cfg(test)]
 mod places;

@@ -36,6 +36,29 @@ fn written<'m>(memory: &'m Refusing, book: &Book<&'m Refusing>, text: &[u8]) -> 
 }
 
 #[derive(Drop)]
+struct WritePieces<'a>(&'a [u8]);
+
+impl Sweep for WritePieces<'_> {
+    fn ends(&self, memory: &Refusing) -> Ended {
+        let Some(book) = book_of(memory, TOLD)? else {
+            return Ok(true);
+        };
+        written_in_pieces(memory, &book, self.0)
+    }
+}
+
+/// The same of the first piece, which has room for all.
+fn written_in_pieces<'m>(memory: &'m Refusing, book: &Book<&'m Refusing>, text: &[u8]) -> Ended {
+    match book.register_pieces(memory, 65_536) {
+        Ok(mut pieces) => {
+            pieces.advance();
+            answered(same_bytes("register", pieces.piece(), text))
+        }
+        Err(_) => refused(expect_told(book)),
+    }
+}
+
+#[derive(Drop)]
 struct ReadRegister<'a>(&'a [u8]);
 
 impl Sweep for ReadRegister<'_> {
@@ -71,6 +94,7 @@ fn register_of(alloc: Global) -> Result<Vec<u8>, Fail> {
 fn refuse_registers(alloc: Global, text: &[u8]) -> Result<(), Fail> {
     same_bytes("line 1", text.get(..12).unwrap_or(&[]), b"REG00000012\n")?;
     refuse_each(alloc, &WriteRegister(text))?;
+    refuse_each(alloc, &WritePieces(text))?;
     refuse_each(alloc, &ReadRegister(text))?;
     refuse_each(alloc, &Audit(text))
 }

@@ -16,6 +16,8 @@ mod pieces;
 #[cfg(test)]
 mod plain;
 #[cfg(test)]
+mod register_pieces;
+#[cfg(test)]
 mod registers;
 #[cfg(test)]
 mod replies;

@@ -1,0 +1,141 @@
+//! A text that comes in pieces, over writes that take three bytes at most: each call that fails in turn.
+
+ghost use Rattle.std.specs.Prelude.{◌≡◌, ◌<◌, ◌^◌, length};
+
+use crate::places::{AS_IT_WAS, IN_PLACE, Lies, TEXT, expect, place};
+use cwr_sheets::same;
+use kept_file::{MemoryPlace, NotKept, Pieces, Place, keep_pieces, replace_pieces};
+use std::alloc::Global;
+use std::test::Fail;
+
+/// A text that comes in pieces of a size, which is not 0; the last may have fewer bytes.
+#[derive(Drop)]
+struct Cut<'a> {
+    piece: &'a [u8],
+    left: &'a [u8],
+    size: usize,
+}
+
+impl Pieces for Cut<'_> {
+    ghost held = { λ text. text.piece.now };
+
+    ghost left = { λ text. text.left.now };
+
+    fn advance(&mut self) {
+        let (piece, left) = self.left.split_at(self.left.len().min(self.size.max(1)));
+        self.piece = piece;
+        self.left = left;
+    }
+
+    fn piece(&self) -> &[u8] {
+        self.piece
+    }
+}
+
+/// A text in pieces of this size.
+fn in_pieces<'a>(text: &'a [u8], size: usize) -> Cut<'a>
+    ensures short { length result.left.now < 2 ^ 63 }
+{
+    Cut {
+        piece: b"",
+        left: text,
+        size,
+    }
+}
+
+/// Where the call after so many fails, this is answered, and this lies there, and after a crash that.
+fn expect_kept(
+    alloc: Global,
+    size: usize,
+    good_calls: Option<u64>,
+    answer: Result<(), NotKept>,
+    now: &Lies<'_>,
+    left: &Lies<'_>,
+) -> Result<(), Fail> {
+    let mut place = place(alloc, good_calls)?;
+    same(
+        "a text in pieces of a size",
+        &(size, keep_pieces(&mut place, &mut in_pieces(TEXT, size))),
+        &(size, answer),
+    )?;
+    expect(&place, now)?;
+    place.crash();
+    expect(&place, left)
+}
+
+/// Where a write fails, the bytes of those before it are in the draft. The writes begin after the first call.
+fn expect_cut_short(alloc: Global, size: usize, writes: &[u64]) -> Result<(), Fail> {
+    let mut sent = 0;
+    for (before, bytes) in writes.iter().enumerate() {
+        let answer = Err(NotKept { sent });
+        let good_calls = Some(1 + before as u64);
+        expect_kept(alloc, size, good_calls, answer, &AS_IT_WAS, &AS_IT_WAS)?;
+        sent = sent.saturating_add(*bytes);
+    }
+    same("all bytes", &sent, &8)
+}
+
+/// A text in pieces of this size is written by these writes. Each call fails in turn, and then none.
+fn expect_each_failure(alloc: Global, size: usize, writes: &[u64]) -> Result<(), Fail> {
+    let stopped = Err(NotKept { sent: 8 });
+    let named = Lies {
+        file: Some(TEXT),
+        ..AS_IT_WAS
+    };
+    let end = 1 + writes.len() as u64;
+    let not_begun = Err(NotKept { sent: 0 });
+    expect_kept(alloc, size, Some(0), not_begun, &AS_IT_WAS, &AS_IT_WAS)?;
+    expect_cut_short(alloc, size, writes)?;
+    expect_kept(alloc, size, Some(end), stopped, &AS_IT_WAS, &AS_IT_WAS)?;
+    expect_kept(alloc, size, Some(end + 1), stopped, &AS_IT_WAS, &AS_IT_WAS)?;
+    expect_kept(alloc, size, Some(end + 2), stopped, &named, &AS_IT_WAS)?;
+    expect_kept(alloc, size, None, Ok(()), &IN_PLACE, &IN_PLACE)
+}
+
+#[test]
+fn pieces_that_one_write_takes(rt: HostRuntime) -> Result<(), Fail> {
+    let alloc = rt.alloc();
+    expect_each_failure(alloc, 1, &[1, 1, 1, 1, 1, 1, 1, 1])?;
+    expect_each_failure(alloc, 2, &[2, 2, 2, 2])?;
+    expect_each_failure(alloc, 3, &[3, 3, 2])
+}
+
+#[test]
+fn pieces_that_two_writes_take(rt: HostRuntime) -> Result<(), Fail> {
+    let alloc = rt.alloc();
+    expect_each_failure(alloc, 4, &[3, 1, 3, 1])?;
+    expect_each_failure(alloc, 5, &[3, 2, 3])?;
+    expect_each_failure(alloc, 6, &[3, 3, 2])
+}
+
+#[test]
+fn pieces_that_more_writes_take(rt: HostRuntime) -> Result<(), Fail> {
+    let alloc = rt.alloc();
+    expect_each_failure(alloc, 7, &[3, 3, 1, 1])?;
+    expect_each_failure(alloc, 8, &[3, 3, 2])?;
+    expect_each_failure(alloc, 9, &[3, 3, 2])
+}
+
+#[test]
+fn writes_that_take_nothing(rt: HostRuntime) -> Result<(), Fail> {
+    let alloc = rt.alloc();
+    let mut full = MemoryPlace::new(alloc, None, Vec::new(alloc), 0, None);
+    same(
+        "the text",
+        &keep_pieces(&mut full, &mut in_pieces(TEXT, 5)),
+        &Err(NotKept { sent: 0 }),
+    )?;
+    same("the file", &full.file(), &None)
+}
+
+#[test]
+fn a_text_without_pieces(rt: HostRuntime) -> Result<(), Fail> {
+    let alloc = rt.alloc();
+    let mut place = MemoryPlace::new(alloc, None, Vec::new(alloc), 0, None);
+    same(
+        "the text",
+        &replace_pieces(&mut place, &mut in_pieces(b"", 5)),
+        &Ok(()),
+    )?;
+    same("the file", &place.file(), &Some(b"".as_slice()))
+}
