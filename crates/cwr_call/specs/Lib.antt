@@ -1,2 +1,3 @@
 pub mod CallValue
+pub mod KeptControl
 pub mod Lawful

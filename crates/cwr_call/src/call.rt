@@ -1,9 +1,10 @@
-ghost use Rattle.std.specs.Prelude.{◌≡◌, IsTrue, IfSome, is_some};
+ghost use Rattle.std.specs.Prelude.{◌≡◌, IsTrue, IfOk, IfSome, is_some};
 ghost use Rattle.cwr_call.specs.Lawful.{is_lawful, is_clean, is_iswc, most_sum, are_at_most, is_whole, are_faults};
 
+use crate::kept_control::KeptControl;
 use crate::lawful;
 use crate::transaction_fault::{Fault, Faults};
-use cwr_field::is_printable;
+use cwr_field::{Memory, is_printable};
 use cwr_record::WorkKind;
 use std::alloc::{Allocator, Global};
 use std::marker::Model;
@@ -20,21 +21,23 @@ pub struct Call<A: Allocator = Global> {
     kind: WorkKind,
     title: [u8; 60],
     number: [u8; 14],
-    iswc: Option<u64>,
-    control: [u64; 3],
+    /// At most nine digits.
+    iswc: Option<u32>,
+    control: KeptControl,
     faults: Faults<A>,
 }
 
 impl<A: Allocator> Model for Call<A> {
     ghost use Rattle.std.specs.Prelude.{IsTrue};
     ghost use Rattle.cwr_call.specs.CallValue.{CallValue};
+    ghost use Rattle.cwr_call.specs.KeptControl.{told};
     ghost use Rattle.cwr_call.specs.Lawful.{is_lawful};
 
     ghost Value = { CallValue };
 
-    ghost view = { λ c. record { submitter = c.submitter; kind = c.kind; title = c.title; number = c.number; iswc = c.iswc; control = c.control; faults = c.faults } };
+    ghost view = { λ c. record { submitter = c.submitter; kind = c.kind; title = c.title; number = c.number; iswc = c.iswc; control = told c.control; faults = c.faults } };
 
-    ghost invariant = { λ c. IsTrue (is_lawful (record { submitter = c.submitter; kind = c.kind; title = c.title; number = c.number; iswc = c.iswc; control = c.control; faults = c.faults })) };
+    ghost invariant = { λ c. IsTrue (is_lawful (record { submitter = c.submitter; kind = c.kind; title = c.title; number = c.number; iswc = c.iswc; control = told c.control; faults = c.faults })) };
 }
 
 impl<A: Allocator> Call<A> {
@@ -67,15 +70,7 @@ impl<A: Allocator> Call<A> {
         if !is_lawful {
             return None;
         }
-        Some(Call {
-            submitter,
-            kind,
-            title,
-            number,
-            iswc,
-            control,
-            faults,
-        })
+        Some(Call::of_lawful(submitter, kind, title, number, iswc, control, faults))
     }
 
     /// The call of parts that are known to be those of one, as [`Call::of`] tells. No memory is asked for.
@@ -96,10 +91,26 @@ impl<A: Allocator> Call<A> {
             kind,
             title,
             number,
-            iswc,
-            control,
+            iswc: iswc_kept(iswc),
+            control: KeptControl::of(control),
             faults,
         }
+    }
+
+    /// The call once more. Memory is asked for only where it has faults.
+    #[inline]
+    pub fn copied(&self, alloc: A) -> Result<Call<A>, Memory>
+        ensures { IfOk result (λ call. call ≡ self.now) }
+    {
+        Ok(Call {
+            submitter: self.submitter,
+            kind: self.kind,
+            title: self.title,
+            number: self.number,
+            iswc: self.iswc,
+            control: self.control,
+            faults: self.faults.copied(alloc)?,
+        })
     }
 
     /// Who submits it: sender type and sender id, `Header::SENDER` of the file's HDR.
@@ -138,7 +149,7 @@ impl<A: Allocator> Call<A> {
         ensures value { result ≡ self.now.iswc }
         ensures nine_digits { IsTrue (is_iswc result) }
     {
-        self.iswc
+        iswc_told(self.iswc)
     }
 
     /// What the submitter's publishers and writers own of the performing, the mechanical and the synchronization
@@ -148,7 +159,7 @@ impl<A: Allocator> Call<A> {
         ensures bound { IsTrue (are_at_most most_sum result) }
         ensures whole { IsTrue (is_whole self.now.faults result) }
     {
-        self.control
+        self.control.told()
     }
 
     /// The rules that it breaks, in strictly rising order of sequence and number.
@@ -158,5 +169,26 @@ impl<A: Allocator> Call<A> {
         ensures lawful { IsTrue (is_lawful self.now) }
     {
         self.faults.as_slice()
+    }
+}
+
+/// The number of an ISWC, as a call keeps it.
+fn iswc_kept(iswc: Option<u64>) -> Option<u32>
+    requires { IsTrue (is_iswc iswc) }
+    ensures { result ≡ iswc }
+{
+    match iswc {
+        None => None,
+        Some(number) => Some(number as u32),
+    }
+}
+
+/// The number of an ISWC, as a call tells it.
+fn iswc_told(iswc: Option<u32>) -> Option<u64>
+    ensures { result ≡ iswc }
+{
+    match iswc {
+        None => None,
+        Some(number) => Some(number as u64),
     }
 }

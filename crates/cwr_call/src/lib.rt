@@ -2,6 +2,7 @@
 #![tactic(auto)]
 
 mod call;
+mod kept_control;
 mod lawful;
 mod transaction_fault;
 

@@ -1,5 +1,6 @@
-ghost use Rattle.std.specs.Prelude.{◌≡◌};
+ghost use Rattle.std.specs.Prelude.{◌≡◌, IfOk};
 
+use cwr_field::Memory;
 use std::alloc::{Allocator, Global};
 use std::marker::Model;
 
@@ -43,6 +44,17 @@ impl<A: Allocator> Faults<A> {
         ensures { result.now ≡ self.now }
     {
         self.faults.as_slice()
+    }
+
+    /// The faults once more. For none no memory is asked for.
+    #[inline]
+    pub(crate) fn copied(&self, alloc: A) -> Result<Faults<A>, Memory>
+        ensures { IfOk result (λ faults. faults ≡ self.now) }
+    {
+        if self.faults.is_empty() {
+            return Ok(Faults::new(Vec::new(alloc)));
+        }
+        Ok(Faults::new(Vec::from_slice(alloc, &self.faults)?))
     }
 
     /// The faults as a `Vec` again. No memory is asked for.
