@@ -1,11 +1,13 @@
--- The next detail of an open transaction has no fault.
+-- The next detail of an open transaction has no fault, nor has the header of the transaction that comes after it.
 use Rattle.std.proofs.Common.{◌≡◌, ◌∙◌, ℕ, suc, ◌+◌, ◌-◌, ◌<◌, Bool, true, false, ◌&&◌, ◌||◌, eqb, eq-eqb, cond, List, [], ◌∷◌, length, map, filter, Some, None, arith, refl, sym, ap, subst}
 use Rattle.std.specs.List.{list_any}
 use Rattle.cwr_field.proofs.lemmas.Tests.{parts}
-use Rattle.cwr_grammar.specs.Awaited.{next_detail}
-use Rattle.cwr_grammar.specs.Before.{in_group, in_transaction, group_lines, transactions, transaction_lines, is_ended, is_nil, is_transaction_header}
+use Rattle.cwr_grammar.specs.Awaited.{next_detail, next_header}
+use Rattle.cwr_record.specs.declared.works.WorkKind.{WorkKind}
+use Rattle.cwr_record.specs.declared.works.WorkKind.TheVariants.{Nwr, Rev}
+use Rattle.cwr_grammar.specs.Before.{in_group, in_transaction, group_kind, group_lines, transactions, transaction_lines, is_ended, is_nil, is_transaction_header}
 use Rattle.cwr_grammar.specs.Counted.{counts_of}
-use Rattle.cwr_grammar.specs.FaultTests.{is_headless}
+use Rattle.cwr_grammar.specs.FaultTests.{is_headless, same_kind}
 use Rattle.cwr_grammar.specs.File.{IsPlain}
 use Rattle.cwr_grammar.specs.FirstFault.{role_fault, line_fault}
 use Rattle.cwr_grammar.specs.Roles.{role_of}
@@ -50,6 +52,30 @@ line_clear before line s is goes inside read plain =
     let group : in_group (map role_of before) ≡ true = sym (ap (λ (x : FileCounts). x.in_group) is) ∙ (parts _ _ inside).0 in
     let headed : false ≡ is_headless (map role_of before) (next_detail s) = sym (ap (λ (b : Bool). b && true) (some_line (map role_of before) group)) in
     no_fault before line (next_detail s) s is goes (sym read) headed (sym plain.0) (sym (clear_at (map role_of before) s is goes inside)) plain.1
+
+same_as_itself : (kind : WorkKind) → same_kind (Some kind) (Some kind) ≡ true
+same_as_itself Nwr = refl
+same_as_itself Rev = refl
+
+header_clear : (before : List Role) (kind : WorkKind) → is_ended before ≡ false → in_group before ≡ true → group_kind before ≡ Some kind
+    → role_fault before (TransactionHeader (Some kind) (Some (transactions before)) (Some 0)) ≡ None
+header_clear before kind goes group is =
+    let number : eqb (transactions before) (transactions before) ≡ true = eq-eqb _ _ refl in
+    rw (goes, some_line before group, group, is, same_as_itself kind, number) refl
+
+header_at : (before : List Role) (s : FileCounts) (kind : WorkKind) → s ≡ counts_of before → s.is_ended ≡ false → s.in_group ≡ true → s.kind ≡ Some kind → role_fault before (next_header kind s) ≡ None
+header_at before s kind is goes group named =
+    let P : FileCounts → Type 0 = λ x. x.is_ended ≡ false → x.in_group ≡ true → x.kind ≡ Some kind → role_fault before (next_header kind x) ≡ None in
+    let at : P (counts_of before) = λ g i k. header_clear before kind g i k in
+    subst P (sym is) at goes group named
+
+pub header_line_clear : (before : List (List ℕ)) (line : List ℕ) (s : FileCounts) (kind : WorkKind) → s ≡ counts_of (map role_of before) → s.is_ended ≡ false → (s.in_group && s.in_transaction) ≡ true
+    → s.kind ≡ Some kind → role_of line ≡ next_header kind s → IsPlain line → None ≡ line_fault before line
+header_line_clear before line s kind is goes inside named read plain =
+    let open_group : s.in_group ≡ true = (parts _ _ inside).0 in
+    let group : in_group (map role_of before) ≡ true = sym (ap (λ (x : FileCounts). x.in_group) is) ∙ open_group in
+    let headed : false ≡ is_headless (map role_of before) (next_header kind s) = sym (ap (λ (b : Bool). b && true) (some_line (map role_of before) group)) in
+    no_fault before line (next_header kind s) s is goes (sym read) headed (sym plain.0) (sym (header_at (map role_of before) s kind is goes open_group named)) plain.1
 
 pub counted_next : (before : List Role) (s next : FileCounts) → s ≡ counts_of before → next ≡ record s { lines = s.lines + 1; group_lines = s.group_lines + 1; details = s.details + 1 }
     → next ≡ counts_of (next_detail s ∷ before)

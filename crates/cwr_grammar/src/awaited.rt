@@ -3,7 +3,7 @@ ghost use Rattle.std.specs.Int.{w64, from_be_bytes};
 ghost use Rattle.cwr_field.specs.Number.{number_of};
 ghost use Rattle.cwr_record.specs.Columns.{field_at};
 ghost use Rattle.cwr_record.specs.Ranges.{is_in_line};
-ghost use Rattle.cwr_grammar.specs.Awaited.{Awaits, digits_of, next_detail};
+ghost use Rattle.cwr_grammar.specs.Awaited.{Awaits, digits_of, next_detail, next_header};
 ghost use Rattle.cwr_grammar.specs.Counted.{counts_of, AreSmall};
 ghost use Rattle.cwr_grammar.specs.Roles.{role_at, detail};
 ghost use Rattle.cwr_grammar.specs.declared.role.Role.{Role};
@@ -11,7 +11,7 @@ ghost use Rattle.cwr_grammar.specs.declared.role.Role.{Role};
 use crate::file_counts::FileCounts;
 use crate::role::Role;
 use cwr_field::{MOST_COUNT, last_digits};
-use cwr_record::{Column, Prefix, RecordType, field_at};
+use cwr_record::{Column, Prefix, RecordType, WorkKind, field_at};
 
 /// How many bytes the columns have that tell a detail from another: its record type and its sequence numbers.
 pub(crate) const PREFIX_SIZE: usize = 19;
@@ -32,8 +32,8 @@ impl Awaited {
         ensures { Awaits (counts_of []) result }
     {
         Awaited {
-            transaction: digits_of(0),
-            detail: digits_of(1),
+            transaction: digits_of_zero(),
+            detail: digits_of_one(),
         }
     }
 
@@ -48,6 +48,30 @@ impl Awaited {
             && counts.lines < MOST_COUNT as u64
             && packed_at(line, Prefix::TRANSACTION) == self.transaction
             && packed_at(line, Prefix::DETAIL) == self.detail
+    }
+
+    /// The kind of the transaction that comes next in its group, where a line with a record of this type is its header.
+    #[inline(always)]
+    pub(crate) fn next_kind(
+        &self,
+        counts: &FileCounts,
+        record_type: RecordType,
+        line: &[u8],
+    ) -> Option<WorkKind>
+        requires small { AreSmall counts.now }
+        requires awaits { Awaits counts.now self.now }
+        ensures kind { IfSome result (λ kind. counts.now.kind ≡ Some kind) }
+        ensures role { IfSome result (λ kind. role_at record_type line.now ≡ next_header kind counts.now) }
+    {
+        let kind = match (record_type, counts.kind) {
+            (RecordType::Nwr, Some(WorkKind::Nwr)) => WorkKind::Nwr,
+            (RecordType::Rev, Some(WorkKind::Rev)) => WorkKind::Rev,
+            _ => return None,
+        };
+        let is_next = counts.lines < MOST_COUNT as u64
+            && packed_at(line, Prefix::TRANSACTION) == self.next_transaction(counts)
+            && packed_at(line, Prefix::DETAIL) == digits_of_zero();
+        is_next.then_some(kind)
     }
 
     /// Goes past a detail, or another line that begins nothing. It is still to be counted.
@@ -68,7 +92,7 @@ impl Awaited {
         ensures { result ≡ digits_of counts.now.transactions }
     {
         if counts.transactions == 0 {
-            return digits_of(0);
+            return digits_of_zero();
         }
         next_digits(self.transaction, counts.transactions - 1)
     }
@@ -84,7 +108,7 @@ impl Awaited {
             Role::Detail(_, _) => self.pass_line(counts),
             Role::TransactionHeader(_, _, _) => {
                 self.transaction = self.next_transaction(counts);
-                self.detail = digits_of(1);
+                self.detail = digits_of_one();
             }
             Role::GroupHeader(_, _) => *self = Awaited::new(),
             _ => self.pass_line(counts),
@@ -107,6 +131,22 @@ fn digits_of(number: u64) -> u64
     ensures { result ≡ digits_of number }
 {
     packed(last_digits(number))
+}
+
+/// The eight digits of 0, as one number, which no line has to make again.
+#[inline(always)]
+fn digits_of_zero() -> u64
+    ensures { result ≡ digits_of 0 }
+{
+    0x3030_3030_3030_3030
+}
+
+/// The eight digits of 1, as one number.
+#[inline(always)]
+fn digits_of_one() -> u64
+    ensures { result ≡ digits_of 1 }
+{
+    0x3030_3030_3030_3031
 }
 
 /// The last eight digits of the number after one, from that one's.

@@ -1,9 +1,11 @@
-ghost use Rattle.std.specs.Prelude.{◌≡◌, ◌+◌, ◌≤◌, ◌<◌, ◌==◌, ◌^◌, ℕ, List, None, true, false, drop, length, IfOk, IfErr, OnOk};
+ghost use Rattle.std.specs.Prelude.{◌≡◌, ◌+◌, ◌≤◌, ◌<◌, ◌==◌, ◌^◌, ℕ, List, Some, None, true, false, drop, length, map, IfOk, IfErr, OnOk};
 ghost use Rattle.std.specs.List.{position};
 ghost use Rattle.std.specs.Str.Lines.{lines};
-ghost use Rattle.cwr_grammar.specs.Awaited.{next_detail};
+ghost use Rattle.cwr_grammar.specs.Awaited.{next_detail, next_header};
+ghost use Rattle.cwr_grammar.specs.Counted.{counts_of};
 ghost use Rattle.cwr_grammar.specs.FaultTests.{has_control, is_tail};
 ghost use Rattle.cwr_grammar.specs.File.{IsPlain};
+ghost use Rattle.cwr_grammar.specs.FirstFault.{line_fault};
 ghost use Rattle.cwr_grammar.specs.ReadUpTo.{IsNextLine, IsReadUpTo, StandsAt, HeadAfter, at_start};
 ghost use Rattle.cwr_record.specs.RecordTypes.{type_of};
 ghost use Rattle.cwr_grammar.specs.Roles.{role_of};
@@ -21,7 +23,7 @@ use crate::lines::first_line_near;
 use crate::refusal::FileRefusal;
 use crate::role::{Role, role_at};
 use crate::visitor::{Visitor, give};
-use cwr_record::{Header, RecordType, read_header, type_of};
+use cwr_record::{Header, RecordType, WorkKind, read_header, type_of};
 use std::marker::Model;
 
 /// Reads a file whose bytes come a piece at a time, and gives its transactions to a visitor on its way.
@@ -84,13 +86,17 @@ impl FileReader {
     {
         let mut lengths = LineLengths::new();
         let mut at = 0;
-        while let Some(line) = first_line_near(&bytes[at..], lengths.guess(&bytes[at..])) {
+        let mut guess = lengths.guess(bytes);
+        while let Some(line) = first_line_near(&bytes[at..], guess) {
             if !line.is_whole {
                 return Ok(at);
             }
-            lengths.pass(line.bytes);
+            if line.bytes.len() != guess {
+                lengths.pass(line.bytes);
+            }
             self.take_line(visitor, line.bytes, line.is_clean)?;
             at += line.size;
+            guess = lengths.guess(&bytes[at..]);
         }
         Ok(at)
     }
@@ -150,12 +156,15 @@ impl FileReader {
         ensures taken { OnOk result ((first : V) (text : List ℕ) (at n : ℕ) → IsNextLine line.now text at n → IsReadUpTo (V.keeps first visitor.old) self.old text at → IsReadUpTo (V.keeps first visitor.new) self.new text (at + n)) }
         ensures fault { IfErr result (λ refusal. (first : V) (text : List ℕ) (at n : ℕ) → IsNextLine line.now text at n → IsReadUpTo (V.keeps first visitor.old) self.old text at → IsRefusal (lines text) refusal) }
     {
-        // Most lines are the next detail of the open transaction. One that is shorter than the columns that are read here
-        // is none, and where they are all there, no test of each is made.
+        // Most lines are the next detail of the open transaction, and most others the header of the next one. One that is
+        // shorter than the columns that are read here is neither, and where they are all there, no test of each is made.
         if self.is_open && is_clean && line.len() >= PREFIX_SIZE && line.len() <= LONGEST_LINE {
             let record_type = type_of(line);
             if self.awaited.is_next(&self.counts, record_type, line) {
                 return self.take_detail(visitor, line, record_type);
+            }
+            if let Some(kind) = self.awaited.next_kind(&self.counts, record_type, line) {
+                return self.take_header(visitor, line, record_type, kind);
             }
         }
         self.take_other(visitor, line, is_clean)
@@ -182,6 +191,29 @@ impl FileReader {
         self.awaited.pass_line(&self.counts);
         self.counts.add_line();
         Ok(())
+    }
+
+    /// Goes past the header of the transaction that comes next in the group of the open one, which so has no fault.
+    #[inline(never)]
+    fn take_header<V: Visitor>(
+        &mut self,
+        visitor: &mut V,
+        line: &[u8],
+        record_type: RecordType,
+        kind: WorkKind,
+    ) -> Result<(), FileRefusal>
+        requires opened { self.old.is_open ≡ true }
+        requires goes { self.old.counts.is_ended ≡ false }
+        requires plain { IsPlain line.now }
+        requires read { record_type ≡ type_of line.now }
+        requires kind { self.old.counts.kind ≡ Some kind }
+        requires role { role_of line.now ≡ next_header kind self.old.counts }
+        requires next { (first : V) × (text : List ℕ) × (at : ℕ) × (n : ℕ) × IsReadUpTo (V.keeps first visitor.old) self.old text at × IsNextLine line.now text at n × (at + n < 2 ^ 63) }
+        ensures taken { OnOk result ((first : V) (text : List ℕ) (at n : ℕ) → IsNextLine line.now text at n → IsReadUpTo (V.keeps first visitor.old) self.old text at → IsReadUpTo (V.keeps first visitor.new) self.new text (at + n)) }
+        ensures fault { IfErr result (λ refusal. (first : V) (text : List ℕ) (at n : ℕ) → IsNextLine line.now text at n → IsReadUpTo (V.keeps first visitor.old) self.old text at → IsRefusal (lines text) refusal) }
+    {
+        let role = Role::TransactionHeader(Some(kind), Some(self.counts.transactions), Some(0));
+        self.take_clear(visitor, line, record_type, role)
     }
 
     /// Goes past the next line, whatever it is.
@@ -229,6 +261,26 @@ impl FileReader {
                 line: self.counts.lines + 1,
             });
         }
+        self.take_clear(visitor, line, record_type, role)
+    }
+
+    /// Goes past the next line, of this role, which has no fault.
+    #[inline(always)]
+    fn take_clear<V: Visitor>(
+        &mut self,
+        visitor: &mut V,
+        line: &[u8],
+        record_type: RecordType,
+        role: Role,
+    ) -> Result<(), FileRefusal>
+        requires goes { self.old.counts.is_ended ≡ false }
+        requires read { record_type ≡ type_of line.now }
+        requires role { role ≡ role_of line.now }
+        requires clear { (before : List (List ℕ)) → self.old.counts ≡ counts_of (map role_of before) → None ≡ line_fault before line.now }
+        requires next { (first : V) × (text : List ℕ) × (at : ℕ) × (n : ℕ) × IsReadUpTo (V.keeps first visitor.old) self.old text at × IsNextLine line.now text at n × (at + n < 2 ^ 63) }
+        ensures taken { OnOk result ((first : V) (text : List ℕ) (at n : ℕ) → IsNextLine line.now text at n → IsReadUpTo (V.keeps first visitor.old) self.old text at → IsReadUpTo (V.keeps first visitor.new) self.new text (at + n)) }
+        ensures fault { IfErr result (λ refusal. (first : V) (text : List ℕ) (at n : ℕ) → IsNextLine line.now text at n → IsReadUpTo (V.keeps first visitor.old) self.old text at → IsRefusal (lines text) refusal) }
+    {
         self.is_open = give(
             visitor,
             self.is_open,
