@@ -1,20 +1,16 @@
 -- One record more whose shares are collected.
-use Rattle.std.proofs.Common.{◌≡◌, ℕ, ◌+◌, Bool, true, false, cond, eqb, List, [], ◌∷◌, Option, Some, None, refl, sym, ap, subst, ◌∙◌, arith}
+use Rattle.std.proofs.Common.{◌≡◌, ℕ, Bool, true, false, cond, eqb, List, [], ◌∷◌, Option, Some, None, refl, sym, ap, subst, ◌∙◌, arith}
 use Rattle.std.specs.Prelude.{◌||◌, filter, unwrap_or}
 use Rattle.std.specs.List.{list_any, cons_option}
 use Rattle.std.proofs.lemmas.Bool.Decides.{nat_tests}
 use Rattle.cwr_rules.specs.declared.record.Record.{Record}
 use Rattle.cwr_rules.specs.declared.record.Shares.{Shares}
 use Rattle.cwr_rules.specs.declared.totals.Totals.{Totals}
-use Rattle.cwr_rules.specs.Totals.{valued, total, performing_share, mechanical_share, synchronization_share, shares_of, included, collects_at, collection, is_over, codes_of, is_over_somewhere}
-use Rattle.cwr_rules.specs.Collected.{value_at, IsCollected}
+use Rattle.cwr_rules.specs.Totals.{total, performing_share, mechanical_share, synchronization_share, shares_of, included, collects_at, collection, is_over, codes_of, is_over_somewhere}
+use Rattle.cwr_rules.specs.Collected.{value_at, with_shares, IsCollected}
 
 abbrev made : ℕ → ℕ → ℕ → Totals
 made a b c = record { performing = a; mechanical = b; synchronization = c }
-
--- what one more record adds at a code
-abbrev with_shares : Totals → Shares → Totals
-with_shares t s = record { performing = t.performing + valued s.performing; mechanical = t.mechanical + valued s.mechanical; synchronization = t.synchronization + valued s.synchronization }
 
 abbrev totals_from : Bool → ℕ → Record → List Record → Totals
 totals_from b q r rest =
@@ -83,12 +79,11 @@ value_more found rest r code c t e t_is old =
 
 pub collect_more : (found new : ℕ → Option Totals) (over now : Bool) (rest : List Record) (r : Record) (code : ℕ) (t : Totals) (shares : Shares)
     → included r ≡ Some code → shares_of r ≡ shares
-    → t.performing ≡ (value_at found code).performing + valued shares.performing → t.mechanical ≡ (value_at found code).mechanical + valued shares.mechanical → t.synchronization ≡ (value_at found code).synchronization + valued shares.synchronization
+    → t ≡ with_shares (value_at found code) shares
     → ((q : ℕ) → new q ≡ cond (eqb code q) (Some t) (found q))
     → now ≡ (is_over t || over)
     → IsCollected found over rest → IsCollected new now (r ∷ rest)
-collect_more found new over now rest r code t shares e s p m q put flag so_far =
-    let by_map : t ≡ with_shares (value_at found code) shares = same_totals t (with_shares (value_at found code) shares) p m q in
+collect_more found new over now rest r code t shares e s by_map put flag so_far =
     let old = so_far.values code in
     let t_is : t ≡ with_shares (collection code rest) (shares_of r) = by_map ∙ ap (λ (x : Totals). with_shares x shares) old ∙ ap (λ (x : Shares). with_shares (collection code rest) x) (sym s) in
     let here : t ≡ collection code (r ∷ rest) = t_is ∙ sym (collected code r rest code e ∙ rw (eqb_same code) refl) in

@@ -1,11 +1,12 @@
 -- What is added up over the records of a transaction.
-use Rattle.std.specs.Prelude.{ℕ, ◌≡◌, ◌<◌, ◌≤◌, ◌^◌, ◌==◌, if◌then◌else◌, Bool, List, [], ◌∷◌, Option, Some, None, nat_eq, option_map, unwrap_or}
+use Rattle.std.specs.Prelude.{ℕ, ◌≡◌, ◌+◌, ◌<◌, ◌≤◌, ◌^◌, ◌==◌, if◌then◌else◌, Bool, List, [], ◌∷◌, Option, Some, None, nat_eq, option_map, unwrap_or}
 use Rattle.std.specs.List.{list_any}
 use Rattle.std.specs.HashMap.{HashMap}
 use Rattle.std.specs.Map.{lookup}
 use Rattle.cwr_field.specs.Share.{whole}
 use Rattle.cwr_rules.specs.declared.record.Record.{Record}
 use Rattle.cwr_rules.specs.declared.totals.Totals.{Totals}
+use Rattle.cwr_rules.specs.declared.record.Shares.{Shares}
 use Rattle.cwr_rules.specs.declared.sums.Sums.{Sums}
 use Rattle.cwr_rules.specs.Totals.{valued, shares_of, ownership, control, collection, is_over_somewhere}
 use Rattle.cwr_rules.specs.Rules.{is_writer}
@@ -53,6 +54,10 @@ found_in (Some first) others code = if first.0 == code then Some first.1 else ot
 -- the totals at a code, where nothing found is nothing collected
 abbrev pub value_at : (ℕ → Option Totals) → ℕ → Totals
 value_at found code = unwrap_or (found code) (record { performing = 0; mechanical = 0; synchronization = 0 })
+
+-- totals with the shares of one more record
+abbrev pub with_shares : Totals → Shares → Totals
+with_shares t s = record { performing = t.performing + valued s.performing; mechanical = t.mechanical + valued s.mechanical; synchronization = t.synchronization + valued s.synchronization }
 
 pub record IsCollected (found : ℕ → Option Totals) (over : Bool) (records : List Record) : Type 0 where
   pub values : (code : ℕ) → value_at found code ≡ collection code records

@@ -1,8 +1,8 @@
-ghost use Rattle.std.specs.Prelude.{◌≡◌, ◌==◌, if◌then◌else◌, ℕ, [], ◌∷◌, List, Some, OnOk, nat_eq};
+ghost use Rattle.std.specs.Prelude.{◌≡◌, ◌==◌, if◌then◌else◌, ℕ, [], ◌∷◌, List, Some, None, IfSome, IfNone, IfOk, OnOk, nat_eq};
 ghost use Rattle.std.specs.HashMap.{get};
 ghost use Rattle.cwr_rules.specs.Totals.{included_in, included, shares_of};
 ghost use Rattle.cwr_rules.specs.declared.record.Record.{Record};
-ghost use Rattle.cwr_rules.specs.Collected.{AreSmall, IsCollected, found_in, kept_at, value_at};
+ghost use Rattle.cwr_rules.specs.Collected.{AreSmall, IsCollected, found_in, kept_at, value_at, with_shares};
 
 use crate::record::{Record, Shares, Territory};
 use crate::totals::Totals;
@@ -12,6 +12,9 @@ use std::collections::HashMap;
 use std::hash::{BuildHasherDefault, FoldHasher};
 
 type CodeMap<A> = HashMap<u16, Totals, BuildHasherDefault<FoldHasher>, A>;
+
+/// For how many codes a map may have room that is kept for the next transaction.
+const MOST_KEPT: usize = 64;
 
 /// The collection shares by the codes of their territories, and whether they are above the whole in some territory.
 ///
@@ -37,6 +40,33 @@ impl<A: Allocator + Copy> Collected<A> {
             is_over: false,
             alloc,
         }
+    }
+
+    /// As of no records. A map is kept where emptying it takes no longer than making it again.
+    #[inline(always)]
+    pub(crate) fn clear(&mut self)
+        ensures { IsCollected (found_in self.new.first (kept_at self.new.others)) self.new.is_over [] }
+    {
+        self.first = None;
+        self.is_over = false;
+        if self.others.is_some() {
+            self.clear_others();
+        }
+    }
+
+    #[inline(never)]
+    fn clear_others(&mut self)
+        ensures none { (q : ℕ) → kept_at self.new.others q ≡ None }
+        ensures first { self.new.first ≡ self.old.first }
+        ensures same { self.new.is_over ≡ self.old.is_over }
+    {
+        if let Some(map) = &mut self.others {
+            if map.capacity() <= MOST_KEPT {
+                map.clear();
+                return;
+            }
+        }
+        self.others = None;
     }
 
     /// What is collected in the territory of a code.
@@ -68,18 +98,6 @@ impl<A: Allocator + Copy> Collected<A> {
         }
     }
 
-    /// Takes the other codes out, as a map with none where there are none.
-    fn take_others(&mut self) -> CodeMap<A>
-        ensures map { (q : ℕ) → get nat_eq result q ≡ kept_at self.old.others q }
-        ensures first { self.new.first ≡ self.old.first }
-        ensures same { self.new.is_over ≡ self.old.is_over }
-    {
-        match self.others.take() {
-            None => HashMap::new(self.alloc),
-            Some(map) => map,
-        }
-    }
-
     /// Puts what is collected at a code that did not come first in the place of what was. Few transactions have one.
     #[inline(never)]
     fn put_other(&mut self, code: u16, totals: Totals) -> Result<(), Memory>
@@ -87,29 +105,71 @@ impl<A: Allocator + Copy> Collected<A> {
         ensures first { OnOk result (self.new.first ≡ self.old.first) }
         ensures same { OnOk result (self.new.is_over ≡ self.old.is_over) }
     {
-        let mut map = self.take_others();
-        map.insert(code, totals)?;
-        self.others = Some(map);
-        Ok(())
-    }
-
-    /// Puts what is collected at a code in the place of what was.
-    fn put(&mut self, code: u16, totals: Totals) -> Result<(), Memory>
-        ensures found { OnOk result ((q : ℕ) → found_in self.new.first (kept_at self.new.others) q
-            ≡ (if code == q then Some totals else found_in self.old.first (kept_at self.old.others) q)) }
-        ensures same { OnOk result (self.new.is_over ≡ self.old.is_over) }
-    {
-        match self.first {
-            None => self.first = Some((code, totals)),
-            Some((first, _)) => {
-                if first == code {
-                    self.first = Some((code, totals));
-                } else {
-                    self.put_other(code, totals)?;
-                }
+        match &mut self.others {
+            None => {
+                let mut map = HashMap::new(self.alloc);
+                map.insert(code, totals)?;
+                self.others = Some(map);
+            }
+            Some(map) => {
+                map.insert(code, totals)?;
             }
         }
         Ok(())
+    }
+
+    /// Adds shares at a code that did not come first and has shares already, and answers what is collected there then.
+    fn add_to_other(&mut self, code: u16, shares: Shares) -> Option<Totals>
+        requires { AreSmall (value_at (kept_at self.old.others) code) }
+        ensures totals { IfSome result (λ totals. totals ≡ with_shares (value_at (kept_at self.old.others) code) shares) }
+        ensures found { IfSome result (λ totals. (q : ℕ) → kept_at self.new.others q ≡ (if code == q then Some totals else kept_at self.old.others q)) }
+        ensures none { IfNone result (kept_at self.old.others code ≡ None) }
+        ensures stays { IfNone result ((q : ℕ) → kept_at self.new.others q ≡ kept_at self.old.others q) }
+        ensures first { self.new.first ≡ self.old.first }
+        ensures same { self.new.is_over ≡ self.old.is_over }
+    {
+        match &mut self.others {
+            None => None,
+            Some(map) => add_in(map, code, shares),
+        }
+    }
+
+    /// Adds shares at a code that did not come first, and answers what is collected there then.
+    fn add_other(&mut self, code: u16, shares: Shares) -> Result<Totals, Memory>
+        requires { AreSmall (value_at (kept_at self.old.others) code) }
+        ensures totals { IfOk result (λ totals. totals ≡ with_shares (value_at (kept_at self.old.others) code) shares) }
+        ensures found { IfOk result (λ totals. (q : ℕ) → kept_at self.new.others q ≡ (if code == q then Some totals else kept_at self.old.others q)) }
+        ensures first { OnOk result (self.new.first ≡ self.old.first) }
+        ensures same { OnOk result (self.new.is_over ≡ self.old.is_over) }
+    {
+        if let Some(totals) = self.add_to_other(code, shares) {
+            return Ok(totals);
+        }
+        let totals = Totals::NONE.with(shares);
+        self.put_other(code, totals)?;
+        Ok(totals)
+    }
+
+    /// Adds shares at a code, and answers what is collected there then.
+    fn add_at(&mut self, code: u16, shares: Shares) -> Result<Totals, Memory>
+        requires { AreSmall (value_at (found_in self.old.first (kept_at self.old.others)) code) }
+        ensures totals { IfOk result (λ totals. totals ≡ with_shares (value_at (found_in self.old.first (kept_at self.old.others)) code) shares) }
+        ensures found { IfOk result (λ totals. (q : ℕ) → found_in self.new.first (kept_at self.new.others) q
+            ≡ (if code == q then Some totals else found_in self.old.first (kept_at self.old.others) q)) }
+        ensures same { OnOk result (self.new.is_over ≡ self.old.is_over) }
+    {
+        let before = match self.first {
+            None => self.at_other(code),
+            Some((first, totals)) => {
+                if first != code {
+                    return self.add_other(code, shares);
+                }
+                totals
+            }
+        };
+        let totals = before.with(shares);
+        self.first = Some((code, totals));
+        Ok(totals)
     }
 
     fn include(&mut self, code: u16, shares: Shares) -> Result<(), Memory>
@@ -117,10 +177,8 @@ impl<A: Allocator + Copy> Collected<A> {
         ensures { OnOk result ((rest : List Record) (r : Record) → included r ≡ Some code → shares_of r ≡ shares
             → IsCollected (found_in self.old.first (kept_at self.old.others)) self.old.is_over rest → IsCollected (found_in self.new.first (kept_at self.new.others)) self.new.is_over (r ∷ rest)) }
     {
-        let mut totals = self.at(code);
-        totals.add(shares);
+        let totals = self.add_at(code, shares)?;
         self.is_over = totals.is_over_or(self.is_over);
-        self.put(code, totals)?;
         Ok(())
     }
 
@@ -149,5 +207,22 @@ impl<A: Allocator + Copy> Collected<A> {
             _ => {}
         }
         Ok(())
+    }
+}
+
+/// Adds shares at a code that a map has, and answers what is collected there then.
+fn add_in<A: Allocator>(map: &mut CodeMap<A>, code: u16, shares: Shares) -> Option<Totals>
+    requires { AreSmall (value_at (get nat_eq map.old) code) }
+    ensures totals { IfSome result (λ totals. totals ≡ with_shares (value_at (get nat_eq map.old) code) shares) }
+    ensures found { IfSome result (λ totals. (q : ℕ) → get nat_eq map.new q ≡ (if code == q then Some totals else get nat_eq map.old q)) }
+    ensures none { IfNone result (get nat_eq map.old code ≡ None) }
+    ensures stays { IfNone result ((q : ℕ) → get nat_eq map.new q ≡ get nat_eq map.old q) }
+{
+    match map.get_mut(&code) {
+        None => None,
+        Some(totals) => {
+            *totals = totals.with(shares);
+            Some(*totals)
+        }
     }
 }

@@ -14,6 +14,7 @@ pub(crate) struct Finding {
 }
 
 /// Appends a finding, where its rule holds so far.
+#[inline(always)]
 pub(crate) fn push_finding<A: Allocator>(
     findings: &mut Vec<Finding, A>,
     sequence: u32,

@@ -3,16 +3,13 @@ ghost use Rattle.cwr_rules.specs.declared.record.Record.{Record};
 ghost use Rattle.cwr_rules.specs.Rules.{has_unknown_publisher, publishers, name_of};
 ghost use Rattle.cwr_rules.specs.SoFar.{link_publisher, all_findings, rules_so_far, some_holds};
 ghost use Rattle.cwr_rules.specs.Position.{position_of};
-ghost use Rattle.cwr_rules.specs.Records.{record_as};
 ghost use Rattle.cwr_rules.specs.Parties.{HoldsParties, kept_in};
 
 use crate::finding::{Finding, push_finding};
 use crate::parties::Parties;
 use crate::position::Position;
-use crate::reading::record_as;
 use crate::record::Record;
 use cwr_field::Memory;
-use cwr_record::RecordType;
 use std::alloc::Allocator;
 
 /// Whether a writer's publisher is named, and is none of the known (J9).
@@ -55,23 +52,21 @@ fn has_finding(position: &Position, detail: &Record, is_unknown: bool) -> bool
         || detail.has_wrong_territory()
 }
 
-/// Appends the findings of a line of a type, of which most have none. It reads the line again, so that nothing of a line
-/// without a finding has to stand in memory.
+/// Appends the findings of a record, of which most have none. It is given a copy, so that nothing of a record without a
+/// finding has to stand in memory.
 #[cold]
 #[inline(never)]
 fn push_record_findings<A: Allocator>(
     findings: &mut Vec<Finding, A>,
     sequence: u32,
     position: Position,
-    line: &[u8],
-    record_type: RecordType,
+    detail: Record,
     is_unknown: bool,
 ) -> Result<(), Memory>
     ensures { OnOk result ((before : List Record) → position ≡ position_of before → sequence ≡ length before + 1
-        → is_unknown ≡ has_unknown_publisher (publishers before) before (record_as record_type line.now)
-        → findings.new.items ≡ findings.old.items ++ all_findings sequence (name_of (record_as record_type line.now)) (rules_so_far before (record_as record_type line.now))) }
+        → is_unknown ≡ has_unknown_publisher (publishers before) before detail
+        → findings.new.items ≡ findings.old.items ++ all_findings sequence (name_of detail) (rules_so_far before detail)) }
 {
-    let detail = record_as(line, record_type);
     let rtype = detail.name();
     let is_misplaced = position.is_out_of_order(&detail);
     let is_other = position.is_of_another_party(&detail);
@@ -92,24 +87,21 @@ fn push_record_findings<A: Allocator>(
     Ok(())
 }
 
-/// Appends the findings of a line of a type, which was read as this record.
+/// Appends the findings of a record.
 #[inline(always)]
 pub(crate) fn add_findings<A: Allocator + Copy>(
     findings: &mut Vec<Finding, A>,
     known: &Parties<A>,
     sequence: u32,
     position: &Position,
-    line: &[u8],
-    record_type: RecordType,
     detail: &Record,
 ) -> Result<(), Memory>
-    requires read { detail.now ≡ record_as record_type line.now }
     ensures { OnOk result ((before : List Record) → HoldsParties (kept_in known.now.first known.now.set) (publishers before) → position.now ≡ position_of before → sequence ≡ length before + 1
         → findings.new.items ≡ findings.old.items ++ all_findings sequence (name_of detail.now) (rules_so_far before detail.now)) }
 {
     let is_unknown = has_unknown_publisher(known, position, detail);
     if has_finding(position, detail, is_unknown) {
-        push_record_findings(findings, sequence, *position, line, record_type, is_unknown)?;
+        push_record_findings(findings, sequence, *position, *detail, is_unknown)?;
     }
     Ok(())
 }

@@ -14,7 +14,7 @@ use crate::record::Record;
 use crate::record_faults::add_findings;
 use crate::summary::Summary;
 use crate::whole_record::{
-    whole_opu, whole_owr, whole_pwr, whole_spt, whole_spu, whole_swr, whole_swt,
+    padded_front, whole_opu, whole_owr, whole_pwr, whole_spt, whole_spu, whole_swr, whole_swt,
 };
 use cwr_field::Memory;
 use cwr_grammar::Lines;
@@ -55,13 +55,12 @@ impl<A: Allocator + Copy> SoFar<A> {
         self.findings.clear();
     }
 
-    /// Goes past a line of a type, which was read as this record.
+    /// Goes past a record.
     #[inline(always)]
-    fn add(&mut self, line: &[u8], record_type: RecordType, detail: &Record) -> Result<(), Memory>
+    fn add(&mut self, detail: &Record) -> Result<(), Memory>
         requires few { self.old.count < most_count }
         requires sums { AreSmallSums self.old.summary.sums }
         requires collected { (q : ℕ) → AreSmall (value_at (found_in self.old.summary.collected.first (kept_at self.old.summary.collected.others)) q) }
-        requires read { detail.now ≡ record_as record_type line.now }
         ensures { OnOk result ((before : List Record)
             → IsSoFar self.old.count self.old.position self.old.summary.sums (kept_in self.old.summary.parties.first self.old.summary.parties.set) (found_in self.old.summary.collected.first (kept_at self.old.summary.collected.others)) self.old.summary.collected.is_over self.old.findings.items before
             → IsSoFar self.new.count self.new.position self.new.summary.sums (kept_in self.new.summary.parties.first self.new.summary.parties.set) (found_in self.new.summary.collected.first (kept_at self.new.summary.collected.others)) self.new.summary.collected.is_over self.new.findings.items (detail.now ∷ before)) }
@@ -72,8 +71,6 @@ impl<A: Allocator + Copy> SoFar<A> {
             &self.summary.parties,
             self.count,
             &self.position,
-            line,
-            record_type,
             detail,
         )?;
         self.position.add(detail);
@@ -91,7 +88,31 @@ impl<A: Allocator + Copy> SoFar<A> {
             → IsSoFar self.old.count self.old.position self.old.summary.sums (kept_in self.old.summary.parties.first self.old.summary.parties.set) (found_in self.old.summary.collected.first (kept_at self.old.summary.collected.others)) self.old.summary.collected.is_over self.old.findings.items before
             → IsSoFar self.new.count self.new.position self.new.summary.sums (kept_in self.new.summary.parties.first self.new.summary.parties.set) (found_in self.new.summary.collected.first (kept_at self.new.summary.collected.others)) self.new.summary.collected.is_over self.new.findings.items (record_as record_type line.now ∷ before)) }
     {
-        self.add(line, record_type, &record_as(line, record_type))?;
+        self.take_front(&padded_front(line), record_type)?;
+        Ok(())
+    }
+
+    /// Goes past a line of a type, of which these are the first bytes. They are passed on in memory, where each field is
+    /// read by itself.
+    #[inline(never)]
+    fn take_front(&mut self, front: &[u8; 150], record_type: RecordType) -> Result<(), Memory>
+        requires few { self.old.count < most_count }
+        requires sums { AreSmallSums self.old.summary.sums }
+        requires collected { (q : ℕ) → AreSmall (value_at (found_in self.old.summary.collected.first (kept_at self.old.summary.collected.others)) q) }
+        ensures { OnOk result ((before : List Record)
+            → IsSoFar self.old.count self.old.position self.old.summary.sums (kept_in self.old.summary.parties.first self.old.summary.parties.set) (found_in self.old.summary.collected.first (kept_at self.old.summary.collected.others)) self.old.summary.collected.is_over self.old.findings.items before
+            → IsSoFar self.new.count self.new.position self.new.summary.sums (kept_in self.new.summary.parties.first self.new.summary.parties.set) (found_in self.new.summary.collected.first (kept_at self.new.summary.collected.others)) self.new.summary.collected.is_over self.new.findings.items (record_as record_type front.now ∷ before)) }
+    {
+        match record_type {
+            RecordType::Spu => self.add(&record_as(front, RecordType::Spu))?,
+            RecordType::Opu => self.add(&record_as(front, RecordType::Opu))?,
+            RecordType::Spt => self.add(&record_as(front, RecordType::Spt))?,
+            RecordType::Swr => self.add(&record_as(front, RecordType::Swr))?,
+            RecordType::Owr => self.add(&record_as(front, RecordType::Owr))?,
+            RecordType::Swt => self.add(&record_as(front, RecordType::Swt))?,
+            RecordType::Pwr => self.add(&record_as(front, RecordType::Pwr))?,
+            other => self.add(&record_as(front, other))?,
+        }
         Ok(())
     }
 
@@ -112,7 +133,7 @@ impl<A: Allocator + Copy> SoFar<A> {
             → IsSoFar self.new.count self.new.position self.new.summary.sums (kept_in self.new.summary.parties.first self.new.summary.parties.set) (found_in self.new.summary.collected.first (kept_at self.new.summary.collected.others)) self.new.summary.collected.is_over self.new.findings.items (record_as record_type line.now ∷ before)) }
     {
         match detail {
-            Some(detail) => self.add(line, record_type, &detail)?,
+            Some(detail) => self.add(&detail)?,
             None => self.take_any(line, record_type)?,
         }
         Ok(())
@@ -136,11 +157,11 @@ impl<A: Allocator + Copy> SoFar<A> {
             RecordType::Owr => self.take_whole(line, RecordType::Owr, whole_owr(line))?,
             RecordType::Swt => self.take_whole(line, RecordType::Swt, whole_swt(line))?,
             RecordType::Pwr => self.take_whole(line, RecordType::Pwr, whole_pwr(line))?,
-            RecordType::Alt => self.add(line, RecordType::Alt, &Record::Alt)?,
-            RecordType::Xrf => self.add(line, RecordType::Xrf, &Record::Xrf)?,
+            RecordType::Alt => self.add(&Record::Alt)?,
+            RecordType::Xrf => self.add(&Record::Xrf)?,
             RecordType::Carried => {
                 let name = field_at(line, RecordType::COLUMN).bytes();
-                self.add(line, RecordType::Carried, &Record::Carried(name))?;
+                self.add(&Record::Carried(name))?;
             }
             other => self.take_any(line, other)?,
         }

@@ -39,7 +39,7 @@ impl<A: Allocator + Copy> Summary<A> {
     {
         self.sums = Sums::new();
         self.parties = Parties::new(alloc);
-        self.collected = Collected::new(alloc);
+        self.collected.clear();
     }
 
     /// Adds a record to those that were added.

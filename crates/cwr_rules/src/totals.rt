@@ -1,6 +1,6 @@
 ghost use Rattle.std.specs.Prelude.{◌≡◌, ◌+◌, ◌<◌, ◌||◌};
 ghost use Rattle.cwr_rules.specs.Totals.{valued, is_over, included_in};
-ghost use Rattle.cwr_rules.specs.Collected.{AreSmall};
+ghost use Rattle.cwr_rules.specs.Collected.{AreSmall, with_shares};
 
 use crate::record::{Shares, Territory};
 use cwr_field::MOST_WHOLE;
@@ -33,6 +33,18 @@ impl Totals {
         mechanical: 0,
         synchronization: 0,
     };
+
+    /// With the shares of a record added.
+    pub(crate) fn with(self, shares: Shares) -> Totals
+        requires { AreSmall self }
+        ensures { result ≡ with_shares self shares }
+    {
+        Totals {
+            performing: self.performing + valued(shares.performing),
+            mechanical: self.mechanical + valued(shares.mechanical),
+            synchronization: self.synchronization + valued(shares.synchronization),
+        }
+    }
 
     /// Adds the shares of a record.
     pub(crate) fn add(&mut self, shares: Shares)

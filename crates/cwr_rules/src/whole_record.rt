@@ -1,12 +1,13 @@
-//! Records that are read from lines which have each of their fields. A line's length is looked at once, and no more for
-//! each field.
+//! Records that are read from lines which have each of their fields, or from a copy with blanks behind the line's end. A
+//! line's length is looked at once, and no more for each field.
 
 ghost use Rattle.std.specs.Prelude.{◌≡◌, IfSome};
+ghost use Rattle.cwr_record.specs.declared.record_type.RecordType.{RecordType};
 ghost use Rattle.cwr_record.specs.declared.record_type.RecordType.TheVariants as of_type;
 ghost use Rattle.cwr_rules.specs.Records.{record_as};
 
 use crate::record::{Record, Shares, Territory};
-use cwr_record::{RecordType, party_of, publisher_of};
+use cwr_record::{Column, RecordType, field_at, party_of, publisher_of};
 
 /// An SPU, `None` where the line ends before the last of its fields.
 #[inline(always)]
@@ -100,4 +101,18 @@ pub(crate) fn whole_pwr(line: &[u8]) -> Option<Record>
         Some(front) => Some(Record::Pwr(publisher_of(front))),
         None => None,
     }
+}
+
+/// Where the fields of the records end that the rules read.
+const FRONT: Column = Column {
+    start: 1,
+    width: 150,
+};
+
+/// The front of a line, which has each field that the rules read, with blanks behind the line's end.
+#[inline(always)]
+pub(crate) fn padded_front(line: &[u8]) -> [u8; 150]
+    ensures { (record_type : RecordType) → record_as record_type result ≡ record_as record_type line.now }
+{
+    field_at(line, FRONT).bytes::<150>()
 }
