@@ -1,5 +1,5 @@
 -- What a check writes, piece by piece.
-use Rattle.std.proofs.Common.{◌≡◌, ◌∙◌, ℕ, ◌+◌, ◌<◌, ◌≤◌, Bool, true, false, not, cond, List, [], ◌∷◌, ◌++◌, length, drop, get_or, ap, sym, refl, arith, length-append, append_assoc}
+use Rattle.std.proofs.Common.{◌≡◌, ◌∙◌, ℕ, ◌+◌, ◌-◌, ◌<◌, ◌≤◌, Bool, true, false, not, cond, List, [], ◌∷◌, ◌++◌, length, drop, replicate, get_or, ap, sym, refl, arith, length-append, append_assoc}
 use Rattle.std.specs.Prelude.{codes, ◌==◌}
 use Rattle.std.specs.List.{flat_map}
 use Rattle.std.proofs.lemmas.List.{drop_more}
@@ -34,25 +34,40 @@ kind_padded : (kind : WorkKind) → padded 4 (work_kind_code kind) ≡ work_kind
 kind_padded Nwr = refl
 kind_padded Rev = refl
 
--- group id, transaction sequence and kind, a blank after each
-pub place_written : (t : RawParts) (out new bytes line empty : List ℕ) → new ≡ out ++ bytes → bytes ≡ line
-    → line ++ [] ≡ empty ++ (number_text 5 t.group ++ (codes " " ++ (number_text 8 t.sequence ++ (codes " " ++ (padded 4 (work_kind_code t.kind) ++ [])))))
-    → empty ≡ [] → new ≡ out ++ place_text t
+-- a text as wide as its column
+filled_whole : (width : ℕ) (text : List ℕ) → width ≡ length text → padded width text ≡ text
+filled_whole width text is =
+    let none : width - length text ≡ 0 = omega (arith, is) in
+    ap (λ (n : ℕ). text ++ replicate n 32) none ∙ append-nil text
+
+-- group id, transaction sequence and kind, a blank after each, and a text behind them
+pub place_written : (t : RawParts) (out new bytes line empty behind : List ℕ) (width : ℕ) → new ≡ out ++ bytes → bytes ≡ line → width ≡ length behind
+    → line ++ [] ≡ empty ++ (number_text 5 t.group ++ (codes " " ++ (number_text 8 t.sequence ++ (codes " " ++ (padded 4 (work_kind_code t.kind) ++ (padded width behind ++ []))))))
+    → empty ≡ [] → new ≡ out ++ place_text t ++ behind
 unfolding place_text
-place_written t out new bytes line empty wrote is fields none =
+place_written t out new bytes line empty behind width wrote is wide fields none =
     let x = number_text 5 t.group in
     let y = number_text 8 t.sequence in
     let z = work_kind_code t.kind in
     let blank = codes " " in
-    let together : x ++ (blank ++ (y ++ (blank ++ (padded 4 z ++ [])))) ≡ x ++ blank ++ y ++ blank ++ z ++ blank =
-    ap (λ (k : List ℕ). x ++ (blank ++ (y ++ (blank ++ (k ++ []))))) (kind_padded t.kind)
+    let together : x ++ (blank ++ (y ++ (blank ++ (padded 4 z ++ (padded width behind ++ []))))) ≡ (x ++ blank ++ y ++ blank ++ z ++ blank) ++ behind =
+    ap (λ (k : List ℕ). x ++ (blank ++ (y ++ (blank ++ (k ++ (padded width behind ++ [])))))) (kind_padded t.kind)
+    ∙ ap (λ (k : List ℕ). x ++ (blank ++ (y ++ (blank ++ ((z ++ blank) ++ (k ++ [])))))) (filled_whole width behind wide)
     ∙ grind (arith, common_steps) in
-    whole out new bytes line empty _ wrote is fields none ∙ ap (λ (xs : List ℕ). out ++ xs) together
+    whole out new bytes line empty _ wrote is fields none ∙ ap (λ (xs : List ℕ). out ++ xs) together ∙ sym (append_assoc out (x ++ blank ++ y ++ blank ++ z ++ blank) behind)
 
--- the place, the verdict and the end of a transaction's line
-pub line_written : (t : RawParts) (faults : List Fault) (out a b c : List ℕ) → a ≡ out ++ place_text t → b ≡ a ++ verdict_text faults → c ≡ b ++ 10 ∷ []
-    → c ≡ out ++ place_text t ++ verdict_text faults ++ 10 ∷ []
-line_written t faults out a b c p q r = r ∙ ap (λ (xs : List ℕ). xs ++ 10 ∷ []) (q ∙ ap (λ (xs : List ℕ). xs ++ verdict_text faults) p)
+-- the line of a transaction without a fault
+pub clean_line : (t : RawParts) (faults : List Fault) (out new : List ℕ) → (length faults == 0) ≡ true → new ≡ out ++ place_text t ++ codes "ok\n"
+    → new ≡ out ++ place_text t ++ verdict_text faults ++ 10 ∷ []
+clean_line t [] out new none wrote = wrote ∙ sym (append_assoc (out ++ place_text t) (codes "ok") (10 ∷ []))
+clean_line t (f ∷ fs) out new none wrote = let empty : length (f ∷ fs) ≡ 0 = grind (arith, nat_tests) in absurd (omega (arith, empty))
+
+-- the line of one that has faults
+pub faulty_line : (t : RawParts) (faults : List Fault) (out a b c : List ℕ) → (length faults == 0) ≡ false → a ≡ out ++ place_text t ++ codes "rejected"
+    → b ≡ a ++ flat_map fault_text faults → c ≡ b ++ 10 ∷ [] → c ≡ out ++ place_text t ++ verdict_text faults ++ 10 ∷ []
+faulty_line t [] out a b c some p q r = absurd cc
+faulty_line t (f ∷ fs) out a b c some p q r =
+    r ∙ ap (λ (xs : List ℕ). xs ++ 10 ∷ []) (q ∙ ap (λ (xs : List ℕ). xs ++ flat_map fault_text (f ∷ fs)) p ∙ append_assoc (out ++ place_text t) (codes "rejected") (flat_map fault_text (f ∷ fs)))
 
 text_more : (submitter text next : List ℕ) (whole : List RawParts) (t : RawParts) (faults : List Fault) → faults ≡ faults_in submitter t → text ≡ flat_map (transaction_line submitter) whole
     → next ≡ text ++ place_text t ++ verdict_text faults ++ 10 ∷ [] → next ≡ flat_map (transaction_line submitter) (whole ++ t ∷ [])

@@ -1,5 +1,6 @@
-ghost use Rattle.std.specs.Prelude.{◌≡◌, ◌<◌, ◌^◌, ◌∷◌, ◌++◌, [], OnOk};
+ghost use Rattle.std.specs.Prelude.{◌≡◌, ◌<◌, ◌≤◌, ◌^◌, ◌∷◌, ◌++◌, [], length, OnOk};
 ghost use Rattle.std.specs.List.{flat_map};
+ghost use Rattle.std.specs.Fmt.{decimal};
 ghost use Rattle.cwr_grammar.specs.RawParts.{RawParts};
 ghost use Rattle.cwr_check.specs.CheckText.{fault_text, verdict_text, place_text, total_line};
 ghost use Rattle.cwr_check.specs.LinesSoFar.{IsPlaceOf};
@@ -27,6 +28,8 @@ const KIND: Column = Column {
 };
 /// How many bytes the fields of fixed place take.
 const PLACE_WIDTH: usize = KIND.start + KIND.width - 1;
+/// How many bytes they take with the longest text behind them, `rejected`.
+const LINE_WIDTH: usize = PLACE_WIDTH + 8;
 
 /// Where a transaction stands in its file, and its kind.
 #[derive(Clone, Copy)]
@@ -38,7 +41,7 @@ pub(crate) struct Place {
     pub(crate) kind: WorkKind,
 }
 
-/// Appends the line of a transaction with these faults.
+/// Appends the line of a transaction with these faults. One without a fault, as most are, is appended at once.
 pub(crate) fn put_transaction<A: Allocator>(
     out: &mut Vec<u8, A>,
     place: Place,
@@ -48,37 +51,37 @@ pub(crate) fn put_transaction<A: Allocator>(
     requires sequence { place.sequence < 10 ^ 8 }
     ensures { OnOk result ((t : RawParts) → IsPlaceOf place t → out.new.items ≡ out.old.items ++ place_text t ++ verdict_text faults.now ++ 10 ∷ []) }
 {
-    put_place(out, place)?;
-    put_verdict(out, faults)?;
+    if faults.is_empty() {
+        put_place(out, place, b"ok\n")?;
+        return Ok(());
+    }
+    put_place(out, place, b"rejected")?;
+    put_faults(out, faults)?;
     out.push(b'\n')?;
     Ok(())
 }
 
-/// Appends where a transaction stands in its file, and its kind.
-fn put_place<A: Allocator>(out: &mut Vec<u8, A>, place: Place) -> Result<(), Memory>
+/// Appends where a transaction stands in its file, its kind, and a text behind that.
+#[inline(always)]
+fn put_place<A: Allocator>(out: &mut Vec<u8, A>, place: Place, behind: &[u8]) -> Result<(), Memory>
     requires group { place.group < 10 ^ 5 }
     requires sequence { place.sequence < 10 ^ 8 }
-    ensures { OnOk result ((t : RawParts) → IsPlaceOf place t → out.new.items ≡ out.old.items ++ place_text t) }
+    requires short { length behind.now ≤ 8 }
+    ensures { OnOk result ((t : RawParts) → IsPlaceOf place t → out.new.items ≡ out.old.items ++ place_text t ++ behind.now) }
 {
-    let mut line = LineRoom::<PLACE_WIDTH>::new();
+    let after = Column {
+        start: PLACE_WIDTH + 1,
+        width: behind.len(),
+    };
+    let mut line = LineRoom::<LINE_WIDTH>::new();
     line.put(&Piece::Digits(place.group as u64, GROUP));
     line.put(&Piece::Text(b" ", AFTER_GROUP));
     line.put(&Piece::Digits(place.sequence as u64, SEQUENCE));
     line.put(&Piece::Text(b" ", AFTER_SEQUENCE));
     line.put(&Piece::Text(place.kind.code(), KIND));
+    line.put(&Piece::Text(behind, after));
     out.extend_from_slice(line.bytes())?;
     Ok(())
-}
-
-fn put_verdict<A: Allocator>(out: &mut Vec<u8, A>, faults: &[Fault]) -> Result<(), Memory>
-    ensures { OnOk result (out.new.items ≡ out.old.items ++ verdict_text faults.now) }
-{
-    if faults.is_empty() {
-        out.extend_from_slice(b"ok")?;
-        return Ok(());
-    }
-    out.extend_from_slice(b"rejected")?;
-    put_faults(out, faults)
 }
 
 fn put_faults<A: Allocator>(out: &mut Vec<u8, A>, faults: &[Fault]) -> Result<(), Memory>
@@ -90,13 +93,27 @@ fn put_faults<A: Allocator>(out: &mut Vec<u8, A>, faults: &[Fault]) -> Result<()
     Ok(())
 }
 
+/// Appends a fault. Most of its parts have one byte.
 fn put_fault<A: Allocator>(out: &mut Vec<u8, A>, fault: &Fault) -> Result<(), Memory>
     ensures { OnOk result (out.new.items ≡ out.old.items ++ fault_text fault.now) }
 {
-    out.extend_from_slice(b" ")?;
+    out.push(b' ')?;
     put_decimal(out, fault.sequence as u64)?;
-    out.extend_from_slice(b":J")?;
-    put_decimal(out, fault.number as u64)
+    out.push(b':')?;
+    out.push(b'J')?;
+    put_rule(out, fault.number)
+}
+
+/// Appends the number of a rule.
+#[inline(always)]
+fn put_rule<A: Allocator>(out: &mut Vec<u8, A>, number: u8) -> Result<(), Memory>
+    ensures { OnOk result (out.new.items ≡ out.old.items ++ decimal number) }
+{
+    if number < 10 {
+        out.push(b'0' + number)?;
+        return Ok(());
+    }
+    put_decimal(out, number as u64)
 }
 
 /// Appends the last line of a check: how many transactions a file has, and how many of them have faults.

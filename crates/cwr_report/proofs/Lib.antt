@@ -8,3 +8,4 @@ pub mod Located
 pub mod Inside
 pub mod Told
 pub mod Naming
+pub mod Steps

@@ -1,17 +1,19 @@
-ghost use Rattle.std.specs.Prelude.{◌≡◌, ◌-◌, ◌∷◌, ◌++◌, [], map, false, IfOk, OnOk};
+ghost use Rattle.std.specs.Prelude.{◌≡◌, ◌-◌, ◌∷◌, ◌++◌, [], map, false, codes, Some, IfOk, OnOk};
 ghost use Rattle.std.specs.Str.Lines.{lines};
 ghost use Rattle.serde_json.specs.Data.{object, put as with_member};
 ghost use Rattle.serde_json.specs.View.{view, members_view};
 ghost use Rattle.serde_json.specs.Written.{has_float};
-ghost use Rattle.cwr_report.specs.Json.{json_line, told_data, finding_data, file_place, byte_data, file_told_data, file_data, faults_data, refused_data, report_members, report_data, report_json};
+ghost use Rattle.cwr_report.specs.FileText.{file_wanted_text};
+ghost use Rattle.cwr_report.specs.LongText.{wanted_text};
+ghost use Rattle.cwr_report.specs.Json.{json_line, text_data, place_members, told_data, finding_data, file_place, byte_data, file_told_data, file_data, faults_data, refused_data, report_members, report_data, report_json};
 ghost use Rattle.cwr_report.specs.Report.{IsJsonCheck};
 ghost use Rattle.cwr_report.specs.Walks.{IsWalk};
 
-use crate::file_finding::{FileFinding, RecordPlace, WrongByte};
+use crate::file_finding::{FileExpected, FileFinding, RecordPlace, WrongByte};
 use crate::file_lines::put_file_wanted;
 use crate::file_words::file_rule_text;
-use crate::finding::Finding;
-use crate::json_values::{fault_value, fields_value, place_map, rule_value, text_value};
+use crate::finding::{Expected, Finding};
+use crate::json_values::{place_map, text_value, with_fields, with_rule, with_text, with_value};
 use crate::long_lines::{message_of, put_wanted};
 use crate::reporting::{Report, report_on};
 use crate::walk::Walk;
@@ -173,24 +175,43 @@ fn finding_value(
 }
 
 /// A fault of a transaction, in this line.
+///
+/// Each member is put in as soon as it is made, so that nothing but the map is there where memory is refused.
 fn told_value(alloc: Global, line: &[u8], finding: &Finding) -> Result<Value, Memory>
     ensures { IfOk result (λ value. view value ≡ told_data line.now finding.now) }
 {
-    let place = place_map(
+    let number = finding.fault.number;
+    let map = finding_place(alloc, finding)?;
+    let map = with_rule(alloc, map, b"J", number, message_of(number))?;
+    let map = with_fields(alloc, map, line, &finding.fields)?;
+    let map = with_value(alloc, map, "byte", Value::Null)?;
+    let wanted = finding_wanted(alloc, number, &finding.expected)?;
+    Ok(object_of(with_text(alloc, map, "expected", &wanted)?))
+}
+
+/// The line and the record of a fault of a transaction.
+fn finding_place(alloc: Global, finding: &Finding) -> Result<Map<String, Value>, Memory>
+    ensures { IfOk result (λ map. members_view map.entries ≡ place_members finding.now.line (text_data finding.now.fault.rtype)
+        (Some finding.now.group) (Some finding.now.transaction) (Some finding.now.fault.sequence)) }
+{
+    let rtype = text_value(alloc, &finding.fault.rtype)?;
+    place_map(
         alloc,
         finding.line,
-        text_value(alloc, &finding.fault.rtype)?,
+        rtype,
         Some(finding.group as u64),
         Some(finding.transaction as u64),
         Some(finding.fault.sequence as u64),
-    )?;
-    let rule = rule_value(alloc, b"J", finding.fault.number)?;
-    let text = text_value(alloc, message_of(finding.fault.number))?;
-    let fields = fields_value(alloc, line, &finding.fields)?;
+    )
+}
+
+/// What the rule with this number asked for.
+fn finding_wanted(alloc: Global, number: u8, expected: &Expected) -> Result<Vec<u8>, Memory>
+    ensures { IfOk result (λ text. text.items ≡ wanted_text number expected.now) }
+{
     let mut wanted = Vec::new(alloc);
-    put_wanted(&mut wanted, finding.fault.number, &finding.expected)?;
-    let expected = text_value(alloc, &wanted)?;
-    fault_value(alloc, place, rule, text, fields, Value::Null, expected)
+    put_wanted(&mut wanted, number, expected)?;
+    Ok(wanted)
 }
 
 /// The fault of a file, alone.
@@ -221,15 +242,22 @@ fn file_value(
 fn file_told_value(alloc: Global, line: &[u8], refused: &FileFinding) -> Result<Value, Memory>
     ensures { IfOk result (λ value. view value ≡ file_told_data line.now refused.now) }
 {
-    let place = file_place(alloc, refused.line, &refused.rtype, &refused.place)?;
-    let rule = rule_value(alloc, b"F", refused.number)?;
-    let text = text_value(alloc, file_rule_text(refused.number))?;
-    let fields = fields_value(alloc, line, &refused.fields)?;
-    let byte = byte_value(alloc, &refused.byte)?;
+    let number = refused.number;
+    let map = file_place(alloc, refused.line, &refused.rtype, &refused.place)?;
+    let map = with_rule(alloc, map, b"F", number, file_rule_text(number))?;
+    let map = with_fields(alloc, map, line, &refused.fields)?;
+    let map = with_byte(alloc, map, &refused.byte)?;
+    let wanted = file_wanted(alloc, &refused.expected)?;
+    Ok(object_of(with_text(alloc, map, "expected", &wanted)?))
+}
+
+/// What was expected in a file.
+fn file_wanted(alloc: Global, expected: &FileExpected) -> Result<Vec<u8>, Memory>
+    ensures { IfOk result (λ text. text.items ≡ file_wanted_text expected.now) }
+{
     let mut wanted = Vec::new(alloc);
-    put_file_wanted(&mut wanted, &refused.expected)?;
-    let expected = text_value(alloc, &wanted)?;
-    fault_value(alloc, place, rule, text, fields, byte, expected)
+    put_file_wanted(&mut wanted, expected)?;
+    Ok(wanted)
 }
 
 /// The line and the record of the fault of a file.
@@ -269,6 +297,18 @@ fn file_place(
             Some(detail),
         ),
     }
+}
+
+/// The same members, and the byte that is wrong, or null.
+fn with_byte(
+    alloc: Global,
+    map: Map<String, Value>,
+    wrong: &Option<WrongByte>,
+) -> Result<Map<String, Value>, Memory>
+    ensures { IfOk result (λ made. members_view made.entries ≡ with_member (codes "byte") (byte_data wrong.now) (members_view map.entries)) }
+{
+    let byte = byte_value(alloc, wrong)?;
+    with_value(alloc, map, "byte", byte)
 }
 
 /// The byte that is wrong, or null.

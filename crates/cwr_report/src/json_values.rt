@@ -1,7 +1,7 @@
-ghost use Rattle.std.specs.Prelude.{◌≡◌, ◌++◌, map, IfOk, OnOk, string_bytes};
-ghost use Rattle.serde_json.specs.Data.{object};
+ghost use Rattle.std.specs.Prelude.{◌≡◌, ◌++◌, map, codes, IfOk, OnOk, string_bytes};
+ghost use Rattle.serde_json.specs.Data.{object, put as with_member};
 ghost use Rattle.serde_json.specs.View.{view, members_view};
-ghost use Rattle.cwr_report.specs.Json.{latin, text_data, option_data, field_members, spot_data, fields_data, place_members, fault_members};
+ghost use Rattle.cwr_report.specs.Json.{latin, text_data, option_data, field_members, spot_data, fields_data, place_members};
 ghost use Rattle.cwr_report.specs.FileText.{counted};
 
 use crate::file_lines::put_counted;
@@ -32,7 +32,7 @@ pub fn text_value(alloc: Global, bytes: &[u8]) -> Result<Value, Memory>
 }
 
 /// A rule by its letter and its number.
-pub(crate) fn rule_value(alloc: Global, letter: &[u8], number: u8) -> Result<Value, Memory>
+fn rule_value(alloc: Global, letter: &[u8], number: u8) -> Result<Value, Memory>
     ensures { IfOk result (λ value. view value ≡ text_data (counted letter.now number)) }
 {
     let mut name = Vec::new(alloc);
@@ -72,11 +72,7 @@ fn field_value(alloc: Global, line: &[u8], spot: &Spot) -> Result<Value, Memory>
     Ok(Value::Object(map))
 }
 
-pub(crate) fn fields_value(
-    alloc: Global,
-    line: &[u8],
-    spots: &[Option<Spot>],
-) -> Result<Value, Memory>
+fn fields_value(alloc: Global, line: &[u8], spots: &[Option<Spot>]) -> Result<Value, Memory>
     ensures { IfOk result (λ value. view value ≡ fields_data line.now spots.now) }
 {
     let mut list = Vec::new(alloc);
@@ -120,23 +116,57 @@ pub(crate) fn place_map(
     Ok(map)
 }
 
-/// A fault: where it is, its rule and the rule's text, fields, byte, and what was expected.
-pub(crate) fn fault_value(
+/// The same members, and one more.
+pub(crate) fn with_value(
     alloc: Global,
-    place: Map<String, Value>,
-    rule: Value,
-    text: Value,
-    fields: Value,
-    byte: Value,
-    expected: Value,
-) -> Result<Value, Memory>
-    ensures { IfOk result (λ value. view value ≡ object (fault_members (members_view place.entries) (view rule) (view text) (view fields) (view byte) (view expected))) }
+    mut map: Map<String, Value>,
+    name: &str,
+    value: Value,
+) -> Result<Map<String, Value>, Memory>
+    ensures { IfOk result (λ made. members_view made.entries ≡ with_member name.now (view value) (members_view map.entries)) }
 {
-    let mut map = place;
-    put(&mut map, alloc, "rule", rule)?;
-    put(&mut map, alloc, "text", text)?;
-    put(&mut map, alloc, "fields", fields)?;
-    put(&mut map, alloc, "byte", byte)?;
-    put(&mut map, alloc, "expected", expected)?;
-    Ok(Value::Object(map))
+    put(&mut map, alloc, name, value)?;
+    Ok(map)
+}
+
+/// The same members, and a text.
+pub(crate) fn with_text(
+    alloc: Global,
+    map: Map<String, Value>,
+    name: &str,
+    text: &[u8],
+) -> Result<Map<String, Value>, Memory>
+    ensures { IfOk result (λ made. members_view made.entries ≡ with_member name.now (text_data text.now) (members_view map.entries)) }
+{
+    let value = text_value(alloc, text)?;
+    with_value(alloc, map, name, value)
+}
+
+/// The same members, and the rule that is broken, with its text.
+pub(crate) fn with_rule(
+    alloc: Global,
+    map: Map<String, Value>,
+    letter: &[u8],
+    number: u8,
+    text: &[u8],
+) -> Result<Map<String, Value>, Memory>
+    ensures { IfOk result (λ made. members_view made.entries ≡
+        with_member (codes "text") (text_data text.now) (with_member (codes "rule") (text_data (counted letter.now number)) (members_view map.entries))) }
+{
+    let rule = rule_value(alloc, letter, number)?;
+    let map = with_value(alloc, map, "rule", rule)?;
+    with_text(alloc, map, "text", text)
+}
+
+/// The same members, and the fields that break a rule.
+pub(crate) fn with_fields(
+    alloc: Global,
+    map: Map<String, Value>,
+    line: &[u8],
+    spots: &[Option<Spot>],
+) -> Result<Map<String, Value>, Memory>
+    ensures { IfOk result (λ made. members_view made.entries ≡ with_member (codes "fields") (fields_data line.now spots.now) (members_view map.entries)) }
+{
+    let fields = fields_value(alloc, line, spots)?;
+    with_value(alloc, map, "fields", fields)
 }
