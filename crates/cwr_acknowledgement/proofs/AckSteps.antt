@@ -1,9 +1,10 @@
 -- One line more, and one item more.
-use Rattle.std.proofs.Common.{◌≡◌, ◌∙◌, ℕ, ◌+◌, ◌<◌, ◌≤◌, List, [], ◌∷◌, ◌++◌, length, take, drop, get_or, ap, sym, append_assoc, arith}
-use Rattle.std.specs.List.{flat_map}
+use Rattle.std.proofs.Common.{◌≡◌, ◌∙◌, ℕ, zero, suc, ◌+◌, ◌<◌, ◌≤◌, List, [], ◌∷◌, ◌++◌, length, take, drop, get_or, slice_get, Some, ap, subst, append_assoc, arith}
+use Rattle.std.specs.List.{flat_map, AllByRecursion}
 use Rattle.std.proofs.lemmas.List.{drop_more, append-nil}
+use Rattle.std.proofs.lemmas.Option.{get_or_from_slice_get, slice_get_within}
 use Rattle.std.proofs.lemmas.Grind.{flat_map-append}
-use Rattle.std.proofs.lemmas.List.Sums.{sum_by_more, sum_by-take-le}
+use Rattle.std.proofs.lemmas.List.Sums.{sum_by_more, sum_by_more_le, sum_by-take-le}
 use Rattle.cwr_record.specs.Lines.{line_of}
 use Rattle.cwr_record.specs.Stamp.{StampParts}
 use Rattle.cwr_record.specs.Control as control
@@ -11,7 +12,7 @@ use Rattle.cwr_record.specs.Acknowledgement as table
 use Rattle.cwr_record.specs.declared.control.Header.{Header}
 use Rattle.cwr_call.specs.declared.transaction_fault.Fault.{Fault}
 use Rattle.cwr_acknowledgement.specs.AckItem.{Item, told_faults}
-use Rattle.cwr_acknowledgement.specs.Acknowledgement.{ended, file_start, group_start, group_end, file_end, told_count, message_record, message_lines, item_lines, all_item_lines, ack_text}
+use Rattle.cwr_acknowledgement.specs.Acknowledgement.{FitsItem, ended, file_start, group_start, group_end, file_end, told_count, message_record, message_lines, item_lines, all_item_lines, ack_text}
 
 -- the first of the messages that are left
 pub message_next : (faults : List Fault) (i n : ℕ) (d : Fault) → n < length faults
@@ -20,23 +21,47 @@ pub message_next : (faults : List Fault) (i n : ℕ) (d : Fault) → n < length 
 message_next faults i n d lt = ap (λ (fs : List Fault). flat_map ended (message_lines i (n + 1) fs)) (drop_more faults n d lt)
 
 -- the first of the items that are left
-pub item_next : (stamp : StampParts) (header : Header) (items : List Item) (i : ℕ) (item : Item) → i < length items → item ≡ get_or items i item
+pub item_next : (stamp : StampParts) (header : Header) (items : List Item) (i : ℕ) (item : Item) → i < length items → slice_get items i ≡ Some item
     → flat_map ended (all_item_lines stamp header i (drop i items))
     ≡ flat_map ended (item_lines stamp header i item) ++ flat_map ended (all_item_lines stamp header (i + 1) (drop (i + 1) items))
 item_next stamp header items i item lt is =
-    ap (λ (rest : List Item). flat_map ended (all_item_lines stamp header i rest)) (drop_more items i item lt ∙ ap (λ (x : Item). x ∷ drop (i + 1) items) (sym is))
+    ap (λ (rest : List Item). flat_map ended (all_item_lines stamp header i rest)) (drop_more items i item lt ∙ ap (λ (x : Item). x ∷ drop (i + 1) items) (get_or_from_slice_get items i item item is))
     ∙ flat_map-append ended (item_lines stamp header i item) (all_item_lines stamp header (i + 1) (drop (i + 1) items))
 
 -- how many lines there are with one item more, and that they are no more than all
-pub lines_more : (items : List Item) (i : ℕ) (item : Item) → i < length items → item ≡ get_or items i item
+pub lines_more : (items : List Item) (i : ℕ) (item : Item) → i < length items → slice_get items i ≡ Some item
     → i + 1 + told_count (take (i + 1) items) ≡ i + told_count (take i items) + (1 + length (told_faults item))
 lines_more items i item lt is =
     let more = sum_by_more (λ (x : Item). length (told_faults x)) items i item lt in
-    let same = ap (λ (x : Item). length (told_faults x)) is in
+    let same = ap (λ (x : Item). length (told_faults x)) (get_or_from_slice_get items i item item is) in
     omega (arith, more, same)
 
 pub lines_within : (items : List Item) (i : ℕ) → told_count (take i items) ≤ told_count items
 lines_within items i = sum_by-take-le (λ (x : Item). length (told_faults x)) items i
+
+-- the next item's faults are no more than all that are told
+pub told_within : (items : List Item) (i : ℕ) (item : Item) → slice_get items i ≡ Some item → told_count (take i items) + length (told_faults item) ≤ told_count items
+told_within items i item is =
+    let within = slice_get_within items i item is in
+    let le = sum_by_more_le (λ (x : Item). length (told_faults x)) items i item within in
+    let same = ap (λ (x : Item). length (told_faults x)) (get_or_from_slice_get items i item item is) in
+    omega (arith, le, same)
+
+-- the faults that are told with one item more
+pub told_more : (items : List Item) (i : ℕ) (item : Item) → slice_get items i ≡ Some item
+    → told_count (take (i + 1) items) ≡ told_count (take i items) + length (told_faults item)
+told_more items i item is =
+    let lines = lines_more items i item (slice_get_within items i item is) is in
+    omega (arith, lines)
+
+-- an item of a list whose items all fit
+pub fits_at : (items : List Item) (i : ℕ) (item : Item) → AllByRecursion FitsItem items → slice_get items i ≡ Some item → FitsItem item
+fits_at items i item all is =
+    subst FitsItem (get_or_from_slice_get items i item item is) (go items i all (slice_get_within items i item is)) where
+      go : (xs : List Item) (n : ℕ) → AllByRecursion FitsItem xs → n < length xs → FitsItem (get_or xs n item)
+      go [] n h lt = absurd (omega (arith, lt))
+      go (x ∷ xs) zero h lt = h.0
+      go (x ∷ xs) (suc n) h lt = go xs n h.1 (omega (arith, lt))
 
 -- two lines, the lines of all items, and two lines
 five_parts : (head group : List ℕ) (items : List (List ℕ)) (group_end end : List ℕ)

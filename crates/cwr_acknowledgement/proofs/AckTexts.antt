@@ -1,5 +1,5 @@
 -- Two lines of one layout with the same bytes have the same texts.
-use Rattle.std.proofs.Common.{◌≡◌, ◌∙◌, ℕ, ◌-◌, ◌<◌, ◌^◌, List, [], ◌∷◌, ◌++◌, length, Some, ap, sym, append_assoc}
+use Rattle.std.proofs.Common.{◌≡◌, ◌∙◌, ℕ, ◌<◌, ◌^◌, List, [], ◌∷◌, ◌++◌, length, Some, ap, sym, append_assoc}
 use Rattle.std.proofs.lemmas.List.{append_cancel_left}
 use Rattle.cwr_field.specs.Layout.{padded}
 use Rattle.cwr_field.proofs.lemmas.SameFronts.{same_fronts}

@@ -5,11 +5,10 @@ ghost use Rattle.cwr_record.specs.Lines.{line_of};
 ghost use Rattle.cwr_record.specs.Acknowledgement as table;
 ghost use Rattle.cwr_acknowledgement.specs.Acknowledgement.{FitsItem, ack_record, ended};
 
-use crate::ack_item::AckItem;
 use crate::ack_records::recipient_number;
+use crate::answers::Told;
 use cwr_field::last_digits;
 use cwr_record::{Ack, Column, Header, LineRoom, Piece, Prefix, RecordType, Stamp};
-use std::alloc::Allocator;
 use std::marker::Model;
 
 /// The end of an ACK line, behind its last field.
@@ -57,9 +56,10 @@ impl<'a> AckForm<'a> {
         }
     }
 
-    /// Puts the line that acknowledges an item, as the transaction `index` of its file, with its end.
-    #[inline]
-    pub(crate) fn fill<A: Allocator>(&self, line: &mut LineRoom<161>, index: u32, item: &AckItem<A>)
+    /// Puts the line that acknowledges an item, as the transaction `index` of its file, with its end. The room is a multiple of
+    /// eight bytes: it is then made at once, and not in one place and copied to another.
+    #[inline(always)]
+    pub(crate) fn fill(&self, line: &mut LineRoom<168>, index: u32, item: &Told)
         requires none { line.old ≡ [] }
         requires index { index < 10 ^ 8 }
         requires fits { FitsItem item.now }

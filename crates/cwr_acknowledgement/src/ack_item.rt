@@ -1,7 +1,5 @@
-ghost use Rattle.std.specs.Prelude.{◌≡◌};
-ghost use Rattle.cwr_acknowledgement.specs.AckItem.{told_faults};
-
-use cwr_call::{Fault, Faults};
+use crate::answers::{Answers, Told};
+use cwr_call::Faults;
 use cwr_record::{Status, WorkKind};
 use std::alloc::{Allocator, Global};
 use std::marker::Model;
@@ -45,14 +43,31 @@ impl<A: Allocator> Model for AckItem<A> {
     } };
 }
 
-impl<A: Allocator> AckItem<A> {
-    /// The faults that the acknowledgement tells: those of a rejected transaction.
-    pub(crate) fn told_faults(&self) -> &[Fault]
-        ensures { result.now ≡ told_faults self.now }
-    {
-        match self.status {
-            Status::Rejected => self.faults.as_slice(),
-            Status::Accepted | Status::Duplicate | Status::Conflict => &[],
+/// Items that stand one after the other.
+#[derive(Drop)]
+pub(crate) struct Listed<'a, A: Allocator> {
+    pub(crate) items: &'a [AckItem<A>],
+}
+
+impl<'a, A: Allocator> Answers for Listed<'a, A> {
+    ghost items = { λ l. l.items.now };
+
+    fn len(&self) -> usize {
+        self.items.len()
+    }
+
+    #[inline]
+    fn told(&self, index: usize) -> Told<'_> {
+        let item = &self.items[index];
+        Told {
+            group: item.group,
+            sequence: item.sequence,
+            kind: item.kind,
+            title: item.title,
+            number: item.number,
+            status: item.status,
+            work: item.work,
+            faults: item.faults.as_slice(),
         }
     }
 }

@@ -11,8 +11,9 @@ ghost use Rattle.cwr_acknowledgement.specs.Acknowledgement.{message_lines, item_
 ghost use Rattle.cwr_acknowledgement.specs.Outgoing.{IsPut, size_of};
 
 use crate::ack_form::AckForm;
-use crate::ack_item::AckItem;
+use crate::ack_item::{AckItem, Listed};
 use crate::ack_records::{file_end, file_start, group_end, group_start};
+use crate::answers::{Answers, Told};
 use crate::nowhere::Nowhere;
 use crate::outgoing::Outgoing;
 use crate::stopped::AckStopped;
@@ -45,9 +46,10 @@ pub fn ack_file<A: Allocator + Copy>(
     requires fit { AllByRecursion FitsItem items.now }
     ensures { IfOk result (λ text. text.items ≡ ack_text stamp.now header.now items.now) }
 {
-    let mut out = Outgoing::new(alloc, text_len(items.len() as u32, told_count(items)))?;
+    let listed = Listed { items };
+    let mut out = Outgoing::new(alloc, text_len(items.len() as u32, told_count(&listed)))?;
     let mut nowhere = Nowhere { failed: false };
-    match put_all(&mut out, &mut nowhere, stamp, header, items) {
+    match put_all(&mut out, &mut nowhere, stamp, header, &listed) {
         Ok(()) => Ok(out.into_held()),
         Err(_) => Err(Memory),
     }
@@ -79,66 +81,96 @@ pub fn send_ack<W: Sink, A: Allocator + Copy>(
     // Where memory was refused, nothing was written.
     ensures unwritten { result ≡ Err AckStopped.Memory → writer.new ≡ writer.old }
 {
+    send_answers(alloc, writer, stamp, header, &Listed { items })
+}
+
+/// Writes the acknowledgement of these transactions as [`send_ack`] does, in whatever form they are kept.
+pub fn send_answers<W: Sink, L: Answers, A: Allocator + Copy>(
+    alloc: A,
+    writer: &mut W,
+    stamp: &Stamp,
+    header: &Header,
+    answers: &L,
+) -> Result<(), AckStopped>
+    requires works { W.has_failed writer.old ≡ false }
+    requires few { length (L.items answers.now) + told_count (L.items answers.now) ≤ most_told }
+    requires fit { AllByRecursion FitsItem (L.items answers.now) }
+    ensures all { OnOk result (Appends (W.taken writer.old) (W.taken writer.new) (ack_text stamp.now header.now (L.items answers.now))) }
+    ensures went_on { OnOk result (W.has_failed writer.new ≡ false) }
+
+    // A stopped write left the first `sent` bytes, and a write of this call failed or took none of some bytes.
+    ensures first { (sent : ℕ) → result ≡ Err (AckStopped.Write sent)
+        → Appends (W.taken writer.old) (W.taken writer.new) (take sent (ack_text stamp.now header.now (L.items answers.now))) }
+    ensures fewer { (sent : ℕ) → result ≡ Err (AckStopped.Write sent)
+        → sent < length (ack_text stamp.now header.now (L.items answers.now)) }
+    ensures failed { (sent : ℕ) → result ≡ Err (AckStopped.Write sent) → W.has_failed writer.new ≡ true }
+
+    // Where memory was refused, nothing was written.
+    ensures unwritten { result ≡ Err AckStopped.Memory → writer.new ≡ writer.old }
+{
     let Ok(mut out) = Outgoing::new(alloc, PIECE) else {
         return Err(AckStopped::Memory);
     };
-    match send_all(&mut out, writer, stamp, header, items) {
+    match send_all(&mut out, writer, stamp, header, answers) {
         Ok(()) => Ok(()),
         Err(cut) => Err(AckStopped::Write { sent: cut.sent }),
     }
 }
 
 /// Puts all lines, and writes out what is still held of them.
-fn send_all<W: Sink, A: Allocator>(
+fn send_all<W: Sink, L: Answers, A: Allocator>(
     out: &mut Outgoing<A>,
     writer: &mut W,
     stamp: &Stamp,
     header: &Header,
-    items: &[AckItem<A>],
+    answers: &L,
 ) -> Result<(), WriteStopped>
     requires works { W.has_failed writer.old ≡ false }
     requires size { size_of out.old ≤ 187 }
-    requires few { length items.now + told_count items.now ≤ most_told }
-    requires fit { AllByRecursion FitsItem items.now }
-    ensures put { IsPut result (W.taken writer.old) (W.taken writer.new) out.old out.new (4 + (length items.now + told_count items.now)) (ack_text stamp.now header.now items.now) }
+    requires few { length (L.items answers.now) + told_count (L.items answers.now) ≤ most_told }
+    requires fit { AllByRecursion FitsItem (L.items answers.now) }
+    ensures put { IsPut result (W.taken writer.old) (W.taken writer.new) out.old out.new (4 + (length (L.items answers.now) + told_count (L.items answers.now))) (ack_text stamp.now header.now (L.items answers.now)) }
     ensures none_left { OnOk result (out.new.held ≡ []) }
     ensures fails { W.has_failed writer.new ≡ is_err result }
 {
-    put_all(out, writer, stamp, header, items)?;
+    put_all(out, writer, stamp, header, answers)?;
     out.write_held(writer)
 }
 
 /// Puts all lines.
-fn put_all<W: Sink, A: Allocator>(
+fn put_all<W: Sink, L: Answers, A: Allocator>(
     out: &mut Outgoing<A>,
     writer: &mut W,
     stamp: &Stamp,
     header: &Header,
-    items: &[AckItem<A>],
+    answers: &L,
 ) -> Result<(), WriteStopped>
     requires works { W.has_failed writer.old ≡ false }
     requires size { size_of out.old ≤ 187 }
-    requires few { length items.now + told_count items.now ≤ most_told }
-    requires fit { AllByRecursion FitsItem items.now }
-    ensures put { IsPut result (W.taken writer.old) (W.taken writer.new) out.old out.new (4 + (length items.now + told_count items.now)) (ack_text stamp.now header.now items.now) }
+    requires few { length (L.items answers.now) + told_count (L.items answers.now) ≤ most_told }
+    requires fit { AllByRecursion FitsItem (L.items answers.now) }
+    ensures put { IsPut result (W.taken writer.old) (W.taken writer.new) out.old out.new (4 + (length (L.items answers.now) + told_count (L.items answers.now))) (ack_text stamp.now header.now (L.items answers.now)) }
     ensures fails { W.has_failed writer.new ≡ is_err result }
 {
-    let transactions = items.len() as u32;
-    let told = told_count(items);
+    let transactions = answers.len() as u32;
+    let told = told_count(answers);
     put_file_start(out, writer, stamp)?;
     put_group_start(out, writer)?;
-    put_items(out, writer, &AckForm::new(stamp, header), items)?;
+    put_items(out, writer, &AckForm::new(stamp, header), answers)?;
     put_group_end(out, writer, transactions, told)?;
     put_file_end(out, writer, transactions, told)
 }
 
-/// How many faults the items tell.
-fn told_count<A: Allocator>(items: &[AckItem<A>]) -> u32
-    requires { told_count items.now ≤ most_told }
-    ensures { result ≡ told_count items.now }
+/// How many faults are told in all.
+fn told_count<L: Answers>(answers: &L) -> u32
+    requires { told_count (L.items answers.now) ≤ most_told }
+    ensures { result ≡ told_count (L.items answers.now) }
 {
-    let count: usize = items.iter().map(|item| item.told_faults().len()).sum();
-    count as u32
+    let mut count: u32 = 0;
+    for index in 0..answers.len() {
+        count += answers.told(index).told_faults().len() as u32;
+    }
+    count
 }
 
 /// The length of the text. Without its end an ACK line has 159 bytes, and a MSG line 185.
@@ -174,22 +206,22 @@ fn put_group_start<W: Sink, A: Allocator>(
     out.put_line(writer, group_head_line(&group_start()).bytes())
 }
 
-fn put_items<W: Sink, A: Allocator>(
+fn put_items<W: Sink, L: Answers, A: Allocator>(
     out: &mut Outgoing<A>,
     writer: &mut W,
     form: &AckForm,
-    items: &[AckItem<A>],
+    answers: &L,
 ) -> Result<(), WriteStopped>
     requires works { W.has_failed writer.old ≡ false }
-    requires size { size_of out.old + 187 * (length items.now + told_count items.now) < 2 ^ 63 }
-    requires few { length items.now + told_count items.now ≤ most_told }
-    requires fit { AllByRecursion FitsItem items.now }
-    ensures put { IsPut result (W.taken writer.old) (W.taken writer.new) out.old out.new (length items.now + told_count items.now)
-        (flat_map ended (all_item_lines form.now.stamp form.now.header 0 items.now)) }
+    requires size { size_of out.old + 187 * (length (L.items answers.now) + told_count (L.items answers.now)) < 2 ^ 63 }
+    requires few { length (L.items answers.now) + told_count (L.items answers.now) ≤ most_told }
+    requires fit { AllByRecursion FitsItem (L.items answers.now) }
+    ensures put { IsPut result (W.taken writer.old) (W.taken writer.new) out.old out.new (length (L.items answers.now) + told_count (L.items answers.now))
+        (flat_map ended (all_item_lines form.now.stamp form.now.header 0 (L.items answers.now))) }
     ensures fails { W.has_failed writer.new ≡ is_err result }
 {
-    for (index, item) in items.iter().enumerate() {
-        put_item(out, writer, form, index as u32, item)?;
+    for index in 0..answers.len() {
+        put_item(out, writer, form, index as u32, &answers.told(index))?;
     }
     Ok(())
 }
@@ -199,7 +231,7 @@ fn put_item<W: Sink, A: Allocator>(
     writer: &mut W,
     form: &AckForm,
     index: u32,
-    item: &AckItem<A>,
+    item: &Told,
 ) -> Result<(), WriteStopped>
     requires works { W.has_failed writer.old ≡ false }
     requires size { size_of out.old + 187 * (1 + length (told_faults item.now)) < 2 ^ 63 }
@@ -219,7 +251,7 @@ fn put_ack<W: Sink, A: Allocator>(
     writer: &mut W,
     form: &AckForm,
     index: u32,
-    item: &AckItem<A>,
+    item: &Told,
 ) -> Result<(), WriteStopped>
     requires works { W.has_failed writer.old ≡ false }
     requires size { size_of out.old + 187 < 2 ^ 63 }

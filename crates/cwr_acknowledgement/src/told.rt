@@ -1,6 +1,6 @@
 //! The MSG lines of an acknowledgement.
 
-ghost use Rattle.std.specs.Prelude.{◌≡◌, ◌<◌, ◌^◌, []};
+ghost use Rattle.std.specs.Prelude.{◌≡◌, ◌<◌, ◌≤◌, ◌^◌, [], length};
 ghost use Rattle.cwr_record.specs.Lines.{line_of};
 ghost use Rattle.cwr_record.specs.Acknowledgement as table;
 ghost use Rattle.cwr_acknowledgement.specs.Acknowledgement.{FitsFault, ended, message_record};
@@ -15,14 +15,16 @@ const LINE_END: Column = Column {
     width: 2,
 };
 
-/// Puts the line that tells a fault, as the record `detail` of the transaction `index`, with its end.
-#[inline]
-pub(crate) fn fill_told(line: &mut LineRoom<187>, index: u32, detail: u32, fault: &Fault)
+/// Puts the line that tells a fault, as the record `detail` of the transaction `index`, with its end. As that of
+/// an ACK line, the room is a multiple of eight bytes.
+#[inline(always)]
+pub(crate) fn fill_told(line: &mut LineRoom<192>, index: u32, detail: u32, fault: &Fault)
     requires none { line.old ≡ [] }
     requires index { index < 10 ^ 8 }
     requires detail { detail < 10 ^ 8 }
     requires fits { FitsFault fault.now }
-    ensures { line.new ≡ ended (line_of table.message (message_record index detail fault.now)) }
+    ensures line { line.new ≡ ended (line_of table.message (message_record index detail fault.now)) }
+    ensures short { length line.new ≤ 187 }
 {
     line.put(&Piece::Text(b"MSG", RecordType::COLUMN));
     line.put(&Piece::Digits(index as u64, Prefix::TRANSACTION));

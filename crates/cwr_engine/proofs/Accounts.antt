@@ -69,16 +69,6 @@ few_judged head ts judged are =
     let same = length_judged head ts judged are in
     omega (arith, few, same)
 
-items_few : (ts : List RawParts) (made : List EntryValue) → length (items_of ts made) ≤ length ts
-items_few [] made = omega arith
-items_few (t ∷ ts) [] = omega arith
-items_few (t ∷ ts) (e ∷ made) = let h = items_few ts made in omega (arith, h)
-
-pub few_items : (session : ℕ) (submitter : List ℕ) (ts : List RawParts) (items : List Item) (before after : Entries)
-    → AreAnswered session submitter ts items before after → length items ≤ length ts
-few_items session submitter ts items before after so_far =
-    let few = items_few ts so_far.made in let same = ap length so_far.told in omega (arith, few, same)
-
 told_few : (rejected : Bool) (faults : List Fault) → length (cond rejected faults []) ≤ length faults
 told_few true faults = omega arith
 told_few false faults = omega arith

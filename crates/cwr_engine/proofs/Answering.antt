@@ -1,5 +1,5 @@
 -- One transaction more was handed in and got a reply.
-use Rattle.std.proofs.Common.{◌≡◌, ◌∙◌, ℕ, zero, suc, ◌+◌, ◌<◌, ◌≤◌, ◌^◌, Bool, true, false, cond, List, [], ◌∷◌, ◌++◌, length, take, drop, map, Option, Some, None, IsTrue, refl, sym, ap, subst, arith, append_assoc, append-nil, length-append}
+use Rattle.std.proofs.Common.{◌≡◌, ◌∙◌, ℕ, zero, suc, ◌+◌, ◌<◌, ◌≤◌, ◌^◌, Bool, true, false, cond, List, [], ◌∷◌, ◌++◌, length, take, drop, get_or, slice_get, min, map, Option, Some, None, IsTrue, refl, sym, ap, subst, arith, append_assoc, append-nil, length-append}
 use Rattle.std.specs.Prelude.{◌&&◌, nat_le}
 use Rattle.std.specs.Char.{is_ascii_uppercase}
 use Rattle.std.specs.List.{list_all, AllByRecursion}
@@ -23,6 +23,7 @@ use Rattle.work_registry.specs.Told.{status_in, work_in}
 use Rattle.work_registry.specs.declared.reply.Reply.{Reply}
 use Rattle.work_registry.specs.declared.reply.Reply.TheVariants.{Accepted, Duplicate, Conflict, Rejected}
 use Rattle.cwr_engine.specs.Items.{item_of, items_of, calls_in}
+use Rattle.cwr_engine.specs.Told.{told_of, told_all}
 use Rattle.cwr_engine.specs.Judged.{JudgedValue, judged_of}
 use Rattle.cwr_engine.specs.Handing.{Follows, Entries, HasGained, IsAnswered, AreAnswered}
 
@@ -68,23 +69,76 @@ item_fits t e placed numbered lawful =
 
 -- ---- one transaction
 
--- its item, from the parts that the item was made of
-pub answered : (s : ℕ) (submitter : List ℕ) (t : RawParts) (call : CallValue) (r : Reply) (before after : Entries)
-    (group sequence : ℕ) (kind : WorkKind) (title number : List ℕ) (status : Status) (work : Option ℕ) (faults : List Fault)
-    → call ≡ call_of submitter t → HasGained s (entry_of s call r ∷ []) before after
-    → group ≡ t.group → sequence ≡ t.sequence → kind ≡ call.kind → title ≡ call.title → number ≡ call.number → status ≡ status_in r → work ≡ work_in r
-    → faults ≡ call.faults → IsPlaced t → IsNumbered r → IsTrue (are_faults call.faults)
-    → IsAnswered s submitter t (record { group = group; sequence = sequence; kind = kind; title = title; number = number; status = status; work = work; faults = faults }) before after
-answered s submitter t call r before after group sequence kind title number status work faults is gained a b c d e f g h placed numbered lawful =
-    let item : Item = record { group = group; sequence = sequence; kind = kind; title = title; number = number; status = status; work = work; faults = faults } in
-    let told : item ≡ item_of t (entry_of s call r) = λ i. record { group = a i; sequence = b i; kind = c i; title = d i; number = e i; status = f i; work = g i; faults = h i } in
-    let entry : EntryValue = entry_of s call r in
+-- its item, from the transaction that was judged and the call that was handed in for it
+pub answered : (s : ℕ) (submitter : List ℕ) (t : RawParts) (judged : JudgedValue) (call : CallValue) (r : Reply) (before after : Entries)
+    → judged ≡ judged_of submitter t → call ≡ judged.call → HasGained s (entry_of s call r ∷ []) before after
+    → IsPlaced t → IsNumbered r → IsTrue (are_faults judged.call.faults)
+    → IsAnswered s submitter t (told_of judged r) before after
+answered s submitter t judged call r before after is same gained placed numbered lawful =
+    let whole : call ≡ call_of submitter t = same ∙ ap (λ (j : JudgedValue). j.call) is in
+    let told : told_of judged r ≡ item_of t (entry_of s (call_of submitter t) r) = ap (λ (j : JudgedValue). told_of j r) is in
+    let own : are_faults (call_of submitter t).faults ≡ true = ap (λ (j : JudgedValue). are_faults j.call.faults) (sym is) ∙ lawful in
     record {
       reply = r;
-      gained = subst (λ (x : CallValue). HasGained s (entry_of s x r ∷ []) before after) is gained;
-      told = subst (λ (x : CallValue). item ≡ item_of t (entry_of s x r)) is told;
-      fits = subst FitsItem (sym told) (item_fits t entry placed numbered lawful);
+      gained = subst (λ (x : CallValue). HasGained s (entry_of s x r ∷ []) before after) whole gained;
+      told = told;
+      fits = subst FitsItem (sym told) (item_fits t (entry_of s (call_of submitter t) r) placed numbered own);
     }
+
+-- ---- what is told of judged transactions and of the replies to them
+
+pub told_none : (judged : List JudgedValue) (replies : List Reply) → replies ≡ [] → told_all judged replies ≡ []
+told_none judged replies none = ap (told_all judged) none ∙ go judged where
+  go : (js : List JudgedValue) → told_all js [] ≡ []
+  go [] = refl
+  go (j ∷ js) = refl
+
+pub length_told : (judged : List JudgedValue) (replies : List Reply) → length replies ≤ length judged → length (told_all judged replies) ≡ length replies
+length_told [] [] le = refl
+length_told [] (r ∷ rs) le = absurd (omega (arith, le))
+length_told (j ∷ js) [] le = refl
+length_told (j ∷ js) (r ∷ rs) le = ap suc (length_told js rs (omega (arith, le)))
+
+pub length_told_least : (judged : List JudgedValue) (replies : List Reply) → length (told_all judged replies) ≡ min (length judged) (length replies)
+length_told_least [] rs = omega arith
+length_told_least (j ∷ js) [] = omega arith
+length_told_least (j ∷ js) (r ∷ rs) = let rest = length_told_least js rs in omega (arith, rest)
+
+pub judged_within : (judged : List JudgedValue) (replies : List Reply) (i : ℕ) → i < length (told_all judged replies) → i < length judged
+judged_within judged replies i lt = let least = length_told_least judged replies in omega (arith, lt, least)
+
+pub reply_within : (judged : List JudgedValue) (replies : List Reply) (i : ℕ) → i < length (told_all judged replies) → i < length replies
+reply_within judged replies i lt = let least = length_told_least judged replies in omega (arith, lt, least)
+
+told_at : (judged : List JudgedValue) (replies : List Reply) (i : ℕ) (d : JudgedValue) (e : Reply) → i < length judged → i < length replies
+    → slice_get (told_all judged replies) i ≡ Some (told_of (get_or judged i d) (get_or replies i e))
+told_at [] rs i d e a b = absurd (omega (arith, a))
+told_at (j ∷ js) [] i d e a b = absurd (omega (arith, b))
+told_at (j ∷ js) (r ∷ rs) zero d e a b = refl
+told_at (j ∷ js) (r ∷ rs) (suc i) d e a b = told_at js rs i d e (omega (arith, a)) (omega (arith, b))
+
+-- what is told of one of them, from the parts that it is told by
+pub told_by : (judged : List JudgedValue) (replies : List Reply) (i : ℕ) (j d : JudgedValue) (e : Reply)
+    (kind : WorkKind) (title number : List ℕ) (status : Status) (work : Option ℕ) (faults : List Fault)
+    → i < length (told_all judged replies) → j ≡ get_or judged i d → kind ≡ j.call.kind → title ≡ j.call.title → number ≡ j.call.number
+    → status ≡ status_in (get_or replies i e) → work ≡ work_in (get_or replies i e) → faults ≡ j.call.faults
+    → slice_get (told_all judged replies) i
+    ≡ Some (record { group = j.group; sequence = j.sequence; kind = kind; title = title; number = number; status = status; work = work; faults = faults })
+told_by judged replies i j d e kind title number status work faults lt is k t n s w f =
+    let r : Reply = get_or replies i e in
+    let item : Item = record { group = j.group; sequence = j.sequence; kind = kind; title = title; number = number; status = status; work = work; faults = faults } in
+    let parts : item ≡ told_of j r = λ x. record { group = j.group; sequence = j.sequence; kind = k x; title = t x; number = n x; status = s x; work = w x; faults = f x } in
+    told_at judged replies i d e (judged_within judged replies i lt) (reply_within judged replies i lt)
+    ∙ ap (λ (x : JudgedValue). Some (told_of x r)) (sym is) ∙ ap Some (sym parts)
+
+pub told_next : (judged others : List JudgedValue) (j : JudgedValue) (replies next : List Reply) (r : Reply) → drop (length replies) judged ≡ j ∷ others
+    → next ≡ replies ++ r ∷ [] → told_all judged next ≡ told_all judged replies ++ told_of j r ∷ []
+told_next judged others j replies next r at is = ap (told_all judged) is ∙ go judged replies at where
+  go : (js : List JudgedValue) (rs : List Reply) → drop (length rs) js ≡ j ∷ others → told_all js (rs ++ r ∷ []) ≡ told_all js rs ++ told_of j r ∷ []
+  go [] [] e = absurd cc
+  go (k ∷ js) [] e = let same : k ≡ j = cc in ap (λ (x : JudgedValue). told_of x r ∷ told_all js []) same ∙ ap (λ l. told_of j r ∷ l) (told_none js [] refl)
+  go [] (s ∷ rs) e = absurd cc
+  go (k ∷ js) (s ∷ rs) e = ap (λ l. told_of k s ∷ l) (go js rs e)
 
 -- ---- the transactions so far, and one more
 

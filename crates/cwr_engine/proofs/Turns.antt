@@ -1,6 +1,6 @@
 -- Jobs that were worked in turn at one book.
 use Rattle.std.proofs.Common.{◌≡◌, ◌≢◌, ◌∙◌, ℕ, zero, suc, ◌+◌, ◌<◌, ◌≤◌, Bool, true, false, cond, nat_le, List, [], ◌∷◌, ◌++◌, All, length, reverse, refl, sym, ap, subst, arith, append-nil, append_assoc, length-append}
-use Rattle.std.specs.Prelude.{◌==◌, slice_index_or}
+use Rattle.std.specs.Prelude.{◌==◌, if◌then◌else◌, slice_index_or}
 use Rattle.std.proofs.lemmas.Bool.Decides.{nat_tests}
 use Rattle.std.proofs.lemmas.List.{reverse-reverse, append_cancel_left}
 use Rattle.std.proofs.lemmas.List.Elements.{filter-append}
@@ -11,6 +11,7 @@ use Rattle.work_registry.specs.History.{IsHistory}
 use Rattle.work_registry.specs.Replay.{entry_for, replay, calls_of, made, is_opening}
 use Rattle.work_registry.specs.declared.reply.Reply.{Reply}
 use Rattle.cwr_engine.specs.Causes.{ends_full}
+use Rattle.cwr_engine.specs.Handing.{most_handed}
 use Rattle.cwr_engine.specs.declared.outcome.FileOutcome.{FileOutcome}
 use Rattle.cwr_engine.specs.Whole.{Accounts, is_full, IsRun, InTurn, IsWorkedAlone, TookTurns}
 use Rattle.work_registry.proofs.lemmas.Sessions.{none_made, all_inside}
@@ -36,6 +37,12 @@ pub made_more : (s : ℕ) (h h' : List EntryValue) (c : CallValue) (r : Reply) �
 made_more s h h' c r is =
     let own : (s == s) ≡ true = grind (arith, nat_tests) in
     ap (λ l. made l s) is ∙ (filter-append (λ e. e.session == s) h (entry_of s c r ∷ []) ∙ ap (λ (b : Bool). made h s ++ cond b (entry_of s c r ∷ []) []) own)
+
+-- a book that is lent takes the calls of each session that a book knows
+pub lent_turns : (session : ℕ) → session ≤ 63 → most_handed ≤ (if nat_le session 63 then 4294967295 else 0)
+lent_turns session few =
+    let known : nat_le session 63 ≡ true = grind (arith, nat_tests) in
+    subst (λ (b : Bool). most_handed ≤ (if b then 4294967295 else 0)) (sym known) (omega arith)
 
 -- ---- a list of which the last is taken
 

@@ -17,7 +17,6 @@ pub record IsJudgedAt (group sequence : ℕ) (judge : JudgeState) (t : RawParts)
   pub judging : IsJudging judge t.kind t.lines
 
 -- of the judge nothing is said while no transaction is open: it is the one of the last transaction
-abbrev pub IsOpenAt : ℕ → ℕ → Option JudgeState → Option RawParts → Type 0
+abbrev pub IsOpenAt : ℕ → ℕ → JudgeState → Option RawParts → Type 0
 IsOpenAt group sequence judge None = Unit {0}
-IsOpenAt group sequence None (Some t) = ⊥
-IsOpenAt group sequence (Some judge) (Some t) = IsJudgedAt group sequence judge t
+IsOpenAt group sequence judge (Some t) = IsJudgedAt group sequence judge t

@@ -1,6 +1,7 @@
 pub mod OutcomeText
 pub mod Items
 pub mod Judged
+pub mod Told
 pub mod JudgedSoFar
 pub mod Account
 pub mod Causes

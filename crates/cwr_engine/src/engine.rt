@@ -7,8 +7,10 @@ ghost use Rattle.cwr_grammar.specs.RawParts.{RawParts, IsPlaced};
 ghost use Rattle.cwr_engine.specs.Account.{most, Ends, IsRead, ends_of, read_ends, write_ends};
 ghost use Rattle.cwr_engine.specs.Causes.{ends_full, is_for_full, marked_by, outcome_of, IsCause};
 ghost use Rattle.cwr_engine.specs.Handing.{AreAnswered, IsSent, IsWorked, most_handed};
+ghost use Rattle.cwr_engine.specs.Told.{told_all};
 ghost use Rattle.cwr_engine.specs.Judged.{AreJudged, judged_of};
 
+use crate::answered::Answered;
 use crate::decision::{InHand, decide};
 use crate::gates::Gate;
 use crate::judged::{Judged, JudgedFile, judge_source};
@@ -16,48 +18,48 @@ use crate::limits::MOST_BYTES;
 use crate::outcome::{FileOutcome, Why};
 use crate::window::Window;
 use byte_streams::{Sink, Source};
-use cwr_acknowledgement::{AckItem, AckStopped, send_ack};
+use cwr_acknowledgement::{AckStopped, Answers, send_answers};
 use cwr_record::{Header, Stamp};
 use cwr_source::{SourceRefused, WINDOW};
 use std::alloc::Allocator;
-use work_registry::Call;
+use work_registry::{Call, Reply};
 
-/// Hands in the transactions of a file in order, and keeps an item for each reply.
+/// Hands in the transactions of a file in order, and keeps each reply.
 fn hand_in_all<H: Window<Call<A>>, G: Gate, A: Allocator + Copy + Drop>(
     alloc: A,
     mut window: H,
     gate: &G,
     worker: u32,
-    transactions: Vec<Judged<A>, A>,
-    items: &mut Vec<AckItem<A>, A>,
+    transactions: &[Judged<A>],
+    replies: &mut Vec<Reply, A>,
 ) -> (H, Result<(), Why>)
-    requires none { items.old.items ≡ [] }
-    requires room { length transactions.items ≤ vec_capacity items.old }
-    requires few { length transactions.items < 2 ^ 32 }
-    requires turns { length transactions.items ≤ H.turns_left window }
-    requires placed { (submitter : List ℕ) × (ts : List RawParts) × (transactions.items ≡ map (judged_of submitter) ts) × AllByRecursion IsPlaced ts }
+    requires none { replies.old.items ≡ [] }
+    requires room { length transactions.now ≤ vec_capacity replies.old }
+    requires few { length transactions.now < 2 ^ 32 }
+    requires turns { length transactions.now ≤ H.turns_left window }
+    requires placed { (submitter : List ℕ) × (ts : List RawParts) × (transactions.now ≡ map (judged_of submitter) ts) × AllByRecursion IsPlaced ts }
     ensures session { H.session result.0 ≡ H.session window }
     ensures limit { H.limit result.0 ≡ H.limit window }
     ensures home { H.home result.0 ≡ H.home window }
-    ensures answered { (submitter : List ℕ) (ts : List RawParts) → transactions.items ≡ map (judged_of submitter) ts → AllByRecursion IsPlaced ts
-        → AreAnswered (H.session window) submitter ts items.new.items (H.entries window) (H.entries result.0) }
-    ensures fit { AllByRecursion FitsItem items.new.items }
-    ensures all { OnOk result.1 (length items.new.items ≡ length transactions.items) }
-    ensures some { OnErr result.1 (length items.new.items < length transactions.items) }
+    ensures answered { (submitter : List ℕ) (ts : List RawParts) → transactions.now ≡ map (judged_of submitter) ts → AllByRecursion IsPlaced ts
+        → AreAnswered (H.session window) submitter ts (told_all transactions.now replies.new.items) (H.entries window) (H.entries result.0) }
+    ensures fit { AllByRecursion FitsItem (told_all transactions.now replies.new.items) }
+    ensures all { OnOk result.1 (length replies.new.items ≡ length transactions.now) }
+    ensures some { OnErr result.1 (length replies.new.items < length transactions.now) }
     ensures why { IfErr result.1 (IsCause (H.full result.0) (G.may_shut gate.now)) }
     ensures unmarked { OnOk result.1 (H.mark result.0 ≡ H.mark window) }
     ensures marked { IfErr result.1 (λ why. H.mark result.0 ≡ marked_by (is_for_full why) (H.mark window)) }
 {
-    for transaction in transactions {
+    for (index, transaction) in transactions.iter().enumerate() {
         let in_hand = InHand {
             worker,
-            index: items.len() as u32,
+            index: index as u32,
         };
-        let (next, item) = decide(alloc, window, gate, in_hand, transaction);
+        let (next, reply) = decide(alloc, window, gate, in_hand, transaction);
         window = next;
-        match item {
-            Ok(item) => {
-                let Ok(()) = items.push(item) else {
+        match reply {
+            Ok(reply) => {
+                let Ok(()) = replies.push(reply) else {
                     unreachable!()
                 };
             }
@@ -69,7 +71,7 @@ fn hand_in_all<H: Window<Call<A>>, G: Gate, A: Allocator + Copy + Drop>(
 
 /// Hands the transactions of a well-formed file in at the window, and writes their acknowledgement.
 ///
-/// A transaction that gets no reply ends the job. The list of items is reserved before the first one is handed in.
+/// A transaction that gets no reply ends the job. The list of replies is reserved before the first one is handed in.
 fn work_judged<H: Window<Call<A>>, G: Gate, W: Sink, A: Allocator + Copy + Drop>(
     alloc: A,
     window: H,
@@ -101,32 +103,38 @@ fn work_judged<H: Window<Call<A>>, G: Gate, W: Sink, A: Allocator + Copy + Drop>
         header,
         transactions,
     } = file;
-    let Ok(mut items) = Vec::with_capacity(alloc, transactions.len()) else {
+    let Ok(mut replies) = Vec::with_capacity(alloc, transactions.len()) else {
         return (window, stopped(0, Why::Memory));
     };
-    let (window, done) = hand_in_all(alloc, window, gate, worker, transactions, &mut items);
+    let (window, done) = hand_in_all(alloc, window, gate, worker, &transactions, &mut replies);
     match done {
-        Ok(()) => (window, answer(alloc, writer, stamp, &header, &items)),
-        Err(why) => (window, stopped(items.len() as u32, why)),
+        Ok(()) => {
+            let answered = Answered {
+                transactions: &transactions,
+                replies: &replies,
+            };
+            (window, answer(alloc, writer, stamp, &header, &answered))
+        }
+        Err(why) => (window, stopped(replies.len() as u32, why)),
     }
 }
 
 /// Writes the acknowledgement of a file whose transactions all got replies, and tells how its job ends.
-fn answer<W: Sink, A: Allocator + Copy>(
+fn answer<W: Sink, L: Answers, A: Allocator + Copy>(
     alloc: A,
     writer: &mut W,
     stamp: &Stamp,
     header: &Header,
-    items: &[AckItem<A>],
+    answers: &L,
 ) -> FileOutcome
     requires writes { W.has_failed writer.old ≡ false }
-    requires few { length items.now + told_count items.now ≤ most_told }
-    requires fit { AllByRecursion FitsItem items.now }
+    requires few { length (L.items answers.now) + told_count (L.items answers.now) ≤ most_told }
+    requires fit { AllByRecursion FitsItem (L.items answers.now) }
     ensures { IsSent (W.taken writer.old) (W.taken writer.new) (W.has_failed writer.new)
-        (ack_text stamp.now header.now items.now) (length items.now) result }
+        (ack_text stamp.now header.now (L.items answers.now)) (length (L.items answers.now)) result }
 {
-    let handed = items.len() as u32;
-    match send_ack(alloc, writer, stamp, header, items) {
+    let handed = answers.len() as u32;
+    match send_answers(alloc, writer, stamp, header, answers) {
         Ok(()) => acked(handed),
         Err(AckStopped::Memory) => stopped(handed, Why::Memory),
         Err(AckStopped::Write { sent }) => stopped(handed, Why::Write { sent }),

@@ -8,10 +8,11 @@ use crate::engine::work_file;
 use crate::gates::OpenGate;
 use crate::jobs::{Job, Run, ServeRefused};
 use crate::outcome::FileOutcome;
-use crate::window::Own;
+use crate::window::Lent;
 use byte_streams::{Sink, Source};
 use cwr_record::Stamp;
 use std::alloc::Allocator;
+use std::mem::replace;
 use work_registry::Book;
 
 /// Works jobs one after the other on one thread: job i, counted from 1, is session i of the book.
@@ -96,7 +97,7 @@ fn turn_from<R: Source + Drop, W: Sink + Drop, A: Allocator + Copy + Drop>(
 /// job: so a book serves as many files as its limit allows, each decided after all that came before.
 pub fn work_alone<R: Source + Drop, W: Sink + Drop, A: Allocator + Copy + Drop>(
     alloc: A,
-    book: Book<A>,
+    mut book: Book<A>,
     session: u32,
     mut job: Job<R, W>,
     stamp: &Stamp,
@@ -106,7 +107,10 @@ pub fn work_alone<R: Source + Drop, W: Sink + Drop, A: Allocator + Copy + Drop>(
     ensures { IsWorkedAlone (JobAccount R.Source W.Sink stamp.now false)
         session book result.0 job result.1 result.2 }
 {
-    let window = Own { book, session };
+    let window = Lent {
+        book: &mut book,
+        session,
+    };
     let (window, outcome) = work_file(
         alloc,
         window,
@@ -116,6 +120,7 @@ pub fn work_alone<R: Source + Drop, W: Sink + Drop, A: Allocator + Copy + Drop>(
         &mut job.writer,
         stamp,
     );
-    let Own { book, session: _ } = window;
-    (book, job, outcome)
+    // The book is taken out of the window, which tells what has become of it.
+    let worked = replace(window.book, Book::new(alloc, 1));
+    (worked, job, outcome)
 }

@@ -1,4 +1,4 @@
-ghost use Rattle.std.specs.Prelude.{◌≡◌, None, [], IsTrue};
+ghost use Rattle.std.specs.Prelude.{◌≡◌, [], IsTrue};
 ghost use Rattle.cwr_call.specs.Lawful.{is_clean};
 ghost use Rattle.cwr_engine.specs.JudgedSoFar.{IsJudgedSoFar, IsOpenAt};
 
@@ -12,14 +12,13 @@ use std::alloc::Allocator;
 /// The transactions of a file that were judged so far.
 #[derive(Drop)]
 pub(crate) struct JudgedSoFar<A: Allocator> {
-    alloc: A,
     submitter: [u8; 11],
     pub(crate) judged: Vec<Judged<A>, A>,
     /// The group id and the transaction sequence of the open transaction.
     group: u32,
     sequence: u32,
-    /// What judges the open transaction. It stays until the next one is opened.
-    judge: Option<Judge<A>>,
+    /// What judges the open transaction. It stays where it is, and begins again at the next one.
+    judge: Judge<A>,
 }
 
 impl<A: Allocator + Copy> JudgedSoFar<A> {
@@ -28,15 +27,13 @@ impl<A: Allocator + Copy> JudgedSoFar<A> {
         requires clean { IsTrue (is_clean submitter) }
         ensures submitter { result.submitter ≡ submitter }
         ensures judged { IsJudgedSoFar result.submitter result.judged.items [] }
-        ensures none { result.judge ≡ None }
     {
         JudgedSoFar {
-            alloc,
             submitter,
             judged: Vec::new(alloc),
             group: 0,
             sequence: 0,
-            judge: None,
+            judge: Judge::begin(alloc, WorkKind::Nwr, b""),
         }
     }
 }
@@ -54,25 +51,19 @@ impl<A: Allocator + Copy> Visitor for JudgedSoFar<A> {
     ) -> Result<(), Memory> {
         self.group = group;
         self.sequence = sequence;
-        self.judge = Some(Judge::begin(self.alloc, kind, head));
+        self.judge.restart(kind, head);
         Ok(())
     }
 
     #[inline]
     fn detail(&mut self, line: &[u8], record_type: RecordType) -> Result<(), Memory> {
-        let Some(judge) = &mut self.judge else {
-            unreachable!()
-        };
-        judge.take(line, record_type)?;
+        self.judge.take(line, record_type)?;
         Ok(())
     }
 
     #[inline]
     fn end(&mut self) -> Result<(), Memory> {
-        let Some(judge) = &self.judge else {
-            unreachable!()
-        };
-        let call = judge.end(self.submitter)?;
+        let call = self.judge.end(self.submitter)?;
         self.judged.push(Judged {
             group: self.group,
             sequence: self.sequence,

@@ -6,6 +6,7 @@
 //! book, [`work_alone`] one at a book of one's own, [`serve_in_turn`] many at one book, one after the other.
 #![tactic(auto)]
 
+mod answered;
 mod decision;
 mod engine;
 mod gates;

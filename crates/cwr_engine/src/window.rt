@@ -66,41 +66,6 @@ pub trait Window<C: Asks>: Drop {
         ensures marked { IfErr result.1 (λ why. mark result.0 ≡ marked_by (is_for_limit why) (mark self)) };
 }
 
-/// A book of one's own, and a session that hands in its calls there.
-#[derive(Drop)]
-pub(crate) struct Own<A: Allocator + Copy + Drop> {
-    pub(crate) book: Book<A>,
-    pub(crate) session: u32,
-    ghost few: { session ≤ 63 },
-}
-
-impl<A: Allocator + Copy + Drop> Window<Call<A>> for Own<A> {
-    ghost session = { λ s. s.session };
-
-    ghost turns_left = { λ _. 4294967295 };
-
-    ghost entries = { λ s. record { list = made s.book.history s.session; whole = Some s.book.history } };
-
-    ghost full = { λ s. nat_le s.book.limit (length s.book.history) };
-
-    ghost mark = { λ _. None };
-
-    ghost limit = { λ s. s.book.limit };
-
-    ghost home = { λ _. tt };
-
-    #[inline]
-    fn hand_in(mut self, call: Call<A>) -> (Own<A>, Result<Reply, WhyRefused>) {
-        let session = self.session;
-        // Looking at it tells the check what holds in every book.
-        let _entries = self.book.history().len();
-        match self.book.apply(session, call) {
-            Ok(reply) => (self, Ok(reply)),
-            Err(refused) => (self, Err(refused.why)),
-        }
-    }
-}
-
 /// A book that is lent and that nobody else uses in the meantime, and a session from 0 to 63 that hands in its calls
 /// there. It is small, so that a call moves no book.
 #[derive(Drop)]

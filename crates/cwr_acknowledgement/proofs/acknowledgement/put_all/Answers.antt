@@ -6,7 +6,7 @@ use Rattle.cwr_acknowledgement.proofs.acknowledgement.put_all.Goals as goal
 pub returns-in_err-put_file_start-clause-put : goal.returns-in_err-put_file_start-clause-put
 returns-in_err-put_file_start-clause-put g c =
     cut_put c.from_residual.result c.in_err-put_file_start.field-0.0 _ _ _ _ _ _ c.from_residual.ensures.1
-    (ack_cut_first c.args.stamp.now c.args.header.now c.args.items.now _ c.told_count-told.ensures _ _ _ _ c.in_err-put_file_start.ensures.put)
+    (ack_cut_first c.args.stamp.now c.args.header.now (g.L.Answers.items c.args.answers.now) _ c.told_count-told.ensures _ _ _ _ c.in_err-put_file_start.ensures.put)
 
 pub put_group_start-requires-clause-size : goal.put_group_start-requires-clause-size
 put_group_start-requires-clause-size g c =
@@ -16,7 +16,7 @@ put_group_start-requires-clause-size g c =
 pub returns-in_err-put_group_start-clause-put : goal.returns-in_err-put_group_start-clause-put
 returns-in_err-put_group_start-clause-put g c =
     cut_put c.from_residual-in_err-put_group_start.result c.in_err-put_group_start.field-0.0 _ _ _ _ _ _ c.from_residual-in_err-put_group_start.ensures.1
-    (ack_cut_second c.args.stamp.now c.args.header.now c.args.items.now _ c.told_count-told.ensures _ _ _ _ _ _ _ c.in_ok-put_file_start.ensures.put c.in_err-put_group_start.ensures.put)
+    (ack_cut_second c.args.stamp.now c.args.header.now (g.L.Answers.items c.args.answers.now) _ c.told_count-told.ensures _ _ _ _ _ _ _ c.in_ok-put_file_start.ensures.put c.in_err-put_group_start.ensures.put)
 
 pub put_items-requires-clause-size : goal.put_items-requires-clause-size
 put_items-requires-clause-size g c =
@@ -27,7 +27,7 @@ put_items-requires-clause-size g c =
 pub returns-in_err-put_items-clause-put : goal.returns-in_err-put_items-clause-put
 returns-in_err-put_items-clause-put g c =
     cut_put c.from_residual-in_err-put_items.result c.in_err-put_items.field-0.0 _ _ _ _ _ _ c.from_residual-in_err-put_items.ensures.1
-    (ack_cut_third c.args.stamp.now c.args.header.now c.args.items.now _ c.told_count-told.ensures _ _ _ _ _ _ _ _ _ _ c.in_ok-put_file_start.ensures.put c.in_ok-put_group_start.ensures.put (rw c.new.ensures at c.in_err-put_items.ensures.put))
+    (ack_cut_third c.args.stamp.now c.args.header.now (g.L.Answers.items c.args.answers.now) _ c.told_count-told.ensures _ _ _ _ _ _ _ _ _ _ c.in_ok-put_file_start.ensures.put c.in_ok-put_group_start.ensures.put (rw c.new.ensures at c.in_err-put_items.ensures.put))
 
 pub put_group_end-requires-clause-size : goal.put_group_end-requires-clause-size
 put_group_end-requires-clause-size g c =
@@ -39,7 +39,7 @@ put_group_end-requires-clause-size g c =
 pub returns-in_err-put_group_end-clause-put : goal.returns-in_err-put_group_end-clause-put
 returns-in_err-put_group_end-clause-put g c =
     cut_put c.from_residual-in_err-put_group_end.result c.in_err-put_group_end.field-0.0 _ _ _ _ _ _ c.from_residual-in_err-put_group_end.ensures.1
-    (ack_cut_fourth c.args.stamp.now c.args.header.now c.args.items.now _ c.told_count-told.ensures _ _ _ _ _ _ _ _ _ _ _ _ _ c.in_ok-put_file_start.ensures.put c.in_ok-put_group_start.ensures.put (rw c.new.ensures at c.in_ok-put_items.ensures.put) c.in_err-put_group_end.ensures.put)
+    (ack_cut_fourth c.args.stamp.now c.args.header.now (g.L.Answers.items c.args.answers.now) _ c.told_count-told.ensures _ _ _ _ _ _ _ _ _ _ _ _ _ c.in_ok-put_file_start.ensures.put c.in_ok-put_group_start.ensures.put (rw c.new.ensures at c.in_ok-put_items.ensures.put) (rw c.len-transactions.ensures at c.in_err-put_group_end.ensures.put))
 
 pub put_file_end-requires-clause-size : goal.put_file_end-requires-clause-size
 put_file_end-requires-clause-size g c =
@@ -51,5 +51,6 @@ put_file_end-requires-clause-size g c =
 
 pub returns-clause-put : goal.returns-clause-put
 returns-clause-put g c =
-    ack_put c.args.stamp.now c.args.header.now c.args.items.now _ c.told_count-told.ensures c.put_file_end.result _ _ _ _ _ _ _ _ _ _ _ _ _
-    c.in_ok-put_file_start.ensures.put c.in_ok-put_group_start.ensures.put (rw c.new.ensures at c.in_ok-put_items.ensures.put) c.in_ok-put_group_end.ensures.put c.put_file_end.ensures.put
+    ack_put c.args.stamp.now c.args.header.now (g.L.Answers.items c.args.answers.now) _ c.told_count-told.ensures c.put_file_end.result _ _ _ _ _ _ _ _ _ _ _ _ _
+    c.in_ok-put_file_start.ensures.put c.in_ok-put_group_start.ensures.put (rw c.new.ensures at c.in_ok-put_items.ensures.put) (rw c.len-transactions.ensures at c.in_ok-put_group_end.ensures.put)
+    (rw c.len-transactions.ensures at c.put_file_end.ensures.put)

@@ -1,5 +1,6 @@
 use Rattle.std.proofs.Common.{◌+◌, arith, rules}
-use Rattle.cwr_acknowledgement.proofs.AckSteps.{item_next, lines_more, lines_within}
+use Rattle.std.proofs.lemmas.Option.{slice_get_within}
+use Rattle.cwr_acknowledgement.proofs.AckSteps.{fits_at, item_next, lines_more, lines_within, told_within}
 use Rattle.cwr_acknowledgement.proofs.Puts.{front_none, front_more, front_cut, cut_put, size_after}
 use Rattle.cwr_acknowledgement.proofs.acknowledgement.put_items.Goals as goal
 
@@ -9,16 +10,25 @@ loop-index-init g c = record { works = search rules; put = front_none _ _ _ }
 pub put_item-requires-clause-size : goal.put_item-requires-clause-size
 put_item-requires-clause-size g c =
     let i = c.loop-index.index in
+    let next = slice_get_within (g.L.Answers.items c.args.answers.now) i c.told.result c.told.ensures in
     let size = size_after _ _ _ _ _ _ c.loop-index.invariant.put.put in
-    let more = lines_more c.args.items.now i c.index-items-index.result c.loop-index-test.true c.index-items-index.is in
-    let within = lines_within c.args.items.now (i + 1) in
-    omega (arith, size, more, within, c.loop-index-test.true, c.requires.size)
+    let more = lines_more (g.L.Answers.items c.args.answers.now) i c.told.result next c.told.ensures in
+    let within = lines_within (g.L.Answers.items c.args.answers.now) (i + 1) in
+    omega (arith, size, more, within, next, c.requires.size)
+
+pub put_item-requires-clause-few : goal.put_item-requires-clause-few
+put_item-requires-clause-few g c =
+    let within = told_within (g.L.Answers.items c.args.answers.now) c.loop-index.index c.told.result c.told.ensures in
+    omega (arith, within, c.requires.few)
+
+pub put_item-requires-clause-fits : goal.put_item-requires-clause-fits
+put_item-requires-clause-fits g c = fits_at _ _ _ c.requires.fit c.told.ensures
 
 pub returns-in_err-put_item-clause-put : goal.returns-in_err-put_item-clause-put
 returns-in_err-put_item-clause-put g c =
     cut_put c.from_residual.result c.in_err-put_item.field-0.0 _ _ _ _ _ _ c.from_residual.ensures.1
     (front_cut _ _ _ _ _ _ _ _ _ _ _ c.loop-index.invariant.put
-    (item_next c.args.form.now.stamp c.args.form.now.header c.args.items.now c.loop-index.index c.index-items-index.result c.loop-index-test.true c.index-items-index.is)
+    (item_next c.args.form.now.stamp c.args.form.now.header (g.L.Answers.items c.args.answers.now) c.loop-index.index c.told.result (slice_get_within _ _ _ c.told.ensures) c.told.ensures)
     c.in_err-put_item.ensures.put)
 
 pub loop-index-preserved : goal.loop-index-preserved
@@ -26,6 +36,6 @@ loop-index-preserved g c = record {
   works = search rules;
   put =
       front_more _ _ _ _ _ _ _ _ _ _ _ _ _ c.loop-index.invariant.put
-      (item_next c.args.form.now.stamp c.args.form.now.header c.args.items.now c.loop-index.index c.index-items-index.result c.loop-index-test.true c.index-items-index.is)
-      (lines_more c.args.items.now c.loop-index.index c.index-items-index.result c.loop-index-test.true c.index-items-index.is) c.in_ok-put_item.ensures.put;
+      (item_next c.args.form.now.stamp c.args.form.now.header (g.L.Answers.items c.args.answers.now) c.loop-index.index c.told.result (slice_get_within _ _ _ c.told.ensures) c.told.ensures)
+      (lines_more (g.L.Answers.items c.args.answers.now) c.loop-index.index c.told.result (slice_get_within _ _ _ c.told.ensures) c.told.ensures) c.in_ok-put_item.ensures.put;
 }

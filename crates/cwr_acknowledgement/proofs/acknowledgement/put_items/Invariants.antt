@@ -8,6 +8,7 @@ use Rattle.cwr_acknowledgement.proofs.acknowledgement.put_items.Given as goal
 abbrev pub invariant-loop-index : goal.invariant-loop-index
 invariant-loop-index g l = record {
   works : g.W.Sink.has_failed l.writer ≡ false;
-  put : PutsFront (g.W.Sink.taken l.fn.writer) (g.W.Sink.taken l.writer) l.fn.out l.out (l.index + told_count (take l.index l.items))
-      (flat_map ended (all_item_lines l.form.stamp l.form.header l.index (drop l.index l.items))) (flat_map ended (all_item_lines l.form.stamp l.form.header 0 l.items));
+  put : PutsFront (g.W.Sink.taken l.fn.writer) (g.W.Sink.taken l.writer) l.fn.out l.out (l.index + told_count (take l.index (g.L.Answers.items l.answers)))
+      (flat_map ended (all_item_lines l.form.stamp l.form.header l.index (drop l.index (g.L.Answers.items l.answers))))
+      (flat_map ended (all_item_lines l.form.stamp l.form.header 0 (g.L.Answers.items l.answers)));
 }

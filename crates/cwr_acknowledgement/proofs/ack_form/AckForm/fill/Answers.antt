@@ -9,7 +9,7 @@ use Rattle.cwr_acknowledgement.proofs.AckLines.{ack_ended}
 use Rattle.cwr_acknowledgement.proofs.ack_form.AckForm.fill.Goals as goal
 
 pub returns : goal.returns
-returns g c =
+returns c =
     let form = c.self.inside in
     let item = c.item.inside in
     let spelled = c.self.invariant in
@@ -21,7 +21,7 @@ returns g c =
       number = item.number;
       status = item.status;
       work = item.work;
-      faults = item.faults;
+      faults = item.faults.now;
     } in
     ack_ended c.args.self.now.stamp c.args.self.now.header c.args.index told c.put-14.new.self c.args.line.now form.creation_date form.creation_time form.processing_date
     c.code.result.now c.recipient_number.result c.code-2.result.now

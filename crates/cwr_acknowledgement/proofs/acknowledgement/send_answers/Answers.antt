@@ -1,5 +1,5 @@
 use Rattle.std.proofs.Common.{rules}
-use Rattle.cwr_acknowledgement.proofs.acknowledgement.send_ack.Goals as goal
+use Rattle.cwr_acknowledgement.proofs.acknowledgement.send_answers.Goals as goal
 
 pub returns-clause-unwritten : goal.returns-clause-unwritten
 returns-clause-unwritten g c = search rules
