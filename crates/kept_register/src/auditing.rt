@@ -10,7 +10,7 @@ use byte_streams::Source;
 use std::alloc::Allocator;
 use work_registry::{Auditor, RegisterRefusal};
 
-/// How many bytes of a register the program holds while it is audited, unless a line is longer.
+/// How many bytes of a register the program holds while it is read or audited, unless a line is longer.
 pub const REGISTER_WINDOW: usize = 65_536;
 
 /// How many entries the register of a reader has, where it is one of a history of one registry, of at most `limit`
@@ -56,7 +56,7 @@ pub fn audit_source<S: Source, A: Allocator + Copy + Drop>(
 
 /// What is answered of a register with this refusal: for want of memory at once, and for a fault once the register was
 /// read to its end.
-fn refused<S: Source, A: Allocator>(
+pub(crate) fn refused<S: Source, A: Allocator>(
     window: &mut Window<A>,
     reader: &mut S,
     refusal: RegisterRefusal,

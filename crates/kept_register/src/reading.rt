@@ -1,4 +1,4 @@
-ghost use Rattle.std.specs.Prelude.{◌≡◌, ◌+◌, ◌<◌, ◌≤◌, ◌↔◌, [], true, false, length, IsTrue, IfOk, IfSome, IsErrOf};
+ghost use Rattle.std.specs.Prelude.{◌≡◌, ◌+◌, ◌<◌, ◌≤◌, ◌↔◌, [], true, false, length, IsTrue, IfOk, IfErr, IfSome, IsErrOf, OnOk};
 ghost use Rattle.byte_streams.specs.GivenBytes.{HasGiven};
 ghost use Rattle.work_registry.specs.History.{IsHistory};
 ghost use Rattle.work_registry.specs.Numbers.{most_entries};
@@ -8,13 +8,15 @@ ghost use Rattle.work_registry.specs.Replay.{is_opening};
 ghost use Rattle.work_registry.specs.declared.register.refusal.RegisterRefusal.{RegisterRefusal};
 ghost use Rattle.work_registry.specs.declared.register.refusal.RegisterRefusal.TheVariants.{Memory as refused};
 ghost use Rattle.kept_register.specs.declared.reading.NoBook.{NoBook};
-ghost use Rattle.kept_register.specs.Auditing.{answer_for};
+ghost use Rattle.kept_register.specs.Auditing.{IsUnaudited, answer_for};
 
-use byte_streams::{ReadRefused, Source, read_file};
+use crate::auditing::{REGISTER_WINDOW, refused};
+use crate::window::Window;
+use byte_streams::{ReadRefused, Source};
 use cwr_field::MOST_COUNT;
 use std::alloc::Allocator;
 use thiserror::Error;
-use work_registry::{Book, RegisterRefusal, read_register};
+use work_registry::{Book, RegisterReader, RegisterRefusal};
 
 /// The most bytes of a register.
 pub const MOST_REGISTER_BYTES: usize = 68_719_476_736;
@@ -67,41 +69,46 @@ pub fn read_book<S: Source, A: Allocator + Copy + Drop>(
     ensures read_on { HasGiven (S.left reader.old) (S.left reader.new) }
     ensures few_reads { S.reads reader.new ≤ S.reads reader.old + 68719476738 }
 {
-    let bytes = register_bytes(alloc, reader)?;
-    book_of_bytes(alloc, &bytes)
+    book_of_source(alloc, reader, MOST_REGISTER_BYTES, REGISTER_WINDOW)
 }
 
-/// The bytes of the register that a reader gives, all of them.
-fn register_bytes<S: Source, A: Allocator>(alloc: A, reader: &mut S) -> Result<Vec<u8, A>, NoBook>
+/// The book of the register that a reader gives, of at most `limit` bytes.
+///
+/// It is read as it comes, through a window of `room` bytes. A text that is no register gives its first fault, once it
+/// was read to its end.
+fn book_of_source<S: Source, A: Allocator + Copy + Drop>(
+    alloc: A,
+    reader: &mut S,
+    limit: usize,
+    room: usize,
+) -> Result<Book<A>, NoBook>
     requires { S.has_failed reader.old ≡ false }
-    ensures whole { IfOk result (λ text. IfSome (S.left reader.old) (λ bytes. text.items ≡ bytes)) }
-    ensures unrefused { (r : RegisterRefusal) → IsErrOf result (NoBook.Refused r) → ⊥ }
-    ensures too_long { IsErrOf result NoBook.TooLong → IfSome (S.left reader.old) (λ bytes. 68719476736 < length bytes) }
-    ensures failed { IsErrOf result NoBook.Read ↔ (S.has_failed reader.new ≡ true) }
-    ensures read_on { HasGiven (S.left reader.old) (S.left reader.new) }
-    ensures few_reads { S.reads reader.new ≤ S.reads reader.old + 68719476738 }
-{
-    match read_file(alloc, reader, MOST_REGISTER_BYTES) {
-        Ok(bytes) => Ok(bytes),
-        Err(stopped) => Err(unread(stopped)),
-    }
-}
-
-/// The book of a register with these bytes.
-fn book_of_bytes<A: Allocator + Copy + Drop>(alloc: A, bytes: &[u8]) -> Result<Book<A>, NoBook>
-    ensures text { IfOk result (λ book. bytes.now ≡ register_text book.history) }
+    ensures text { IfOk result (λ book. IfSome (S.left reader.old) (λ bytes. bytes ≡ register_text book.history)) }
     ensures lawful { IfOk result (λ book. IsHistory book.history) }
     ensures opening { IfOk result (λ book. IsTrue (is_opening book.history)) }
     ensures limit { IfOk result (λ book. book.limit ≡ most_entries) }
-    ensures want { IsErrOf result (NoBook.Refused refused) → ⊥ }
-    ensures fault { (r : RegisterRefusal) → IsErrOf result (NoBook.Refused r) → IsRefusal most_entries bytes.now r }
-    ensures read { IsErrOf result NoBook.Read → ⊥ }
-    ensures short { IsErrOf result NoBook.TooLong → ⊥ }
+    ensures going { OnOk result (S.has_failed reader.new ≡ false) }
+    ensures unread { IfErr result (IsUnaudited limit (S.left reader.old) (S.has_failed reader.new)) }
+    ensures read_on { HasGiven (S.left reader.old) (S.left reader.new) }
+    ensures few_reads { S.reads reader.new ≤ S.reads reader.old + limit + 1 }
 {
-    match read_register(alloc, bytes, MOST_COUNT) {
+    let Ok(mut window) = Window::new(alloc, limit, room) else {
+        return Err(NoBook::Memory);
+    };
+    let mut lines = RegisterReader::new(alloc, MOST_COUNT);
+    while !window.is_ended() {
+        match lines.take_lines(window.held()) {
+            Ok(count) => window.pass(count),
+            Err(refusal) => return Err(refused(&mut window, reader, refusal)),
+        }
+        match window.fill_line(reader) {
+            Ok(()) => {}
+            Err(stopped) => return Err(unread(stopped)),
+        }
+    }
+    match lines.finish(window.held()) {
         Ok(book) => Ok(book),
-        Err(RegisterRefusal::Memory) => Err(NoBook::Memory),
-        Err(refusal) => Err(NoBook::Refused(refusal)),
+        Err(refusal) => Err(refused(&mut window, reader, refusal)),
     }
 }
 

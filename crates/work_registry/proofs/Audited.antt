@@ -1,19 +1,35 @@
--- A register that is audited a line at a time.
-use Rattle.std.proofs.Common.{◌≡◌, ℕ, List, length, Option, Some, None, subst}
+-- A register that is read a line at a time.
+use Rattle.std.proofs.Common.{◌≡◌, ℕ, List, length, Option, Some, None, arith, ap, sym, subst}
 use Rattle.std.specs.Prelude.{◌≤◌}
 use Rattle.work_registry.specs.EntryValue.{EntryValue}
-use Rattle.work_registry.specs.Auditing.{AuditState, IsCounted, IsLeft, IsLeftAfter}
+use Rattle.work_registry.specs.Auditing.{IsLeftAfter}
 use Rattle.work_registry.specs.Numbers.{most_entries}
+use Rattle.work_registry.specs.RegisterReader.{ReaderState, HasCounted, IsRest, IsRestAfter}
 use Rattle.work_registry.specs.RegisterReading.{IsReadTo}
 
 -- what is left before the first line, and after it
 
-pub left_first : (s : AuditState) (text rest : List ℕ) → s.count ≡ None → IsLeft s text rest → text ≡ rest
-left_first s text rest e left = let P : Option ℕ → Type 0 = λ o. IsLeftAfter o s.history text rest in subst P e left
+pub rest_first : (s : ReaderState) (text rest : List ℕ) → s.count ≡ None → IsRest s text rest → text ≡ rest
+rest_first s text rest e left = let P : Option ℕ → Type 0 = λ o. IsRestAfter s.limit o s.history text rest in subst P e left
 
-pub left_later : (s : AuditState) (count : ℕ) (text rest : List ℕ) → s.count ≡ Some count → IsLeft s text rest → IsReadTo most_entries text count s.history rest
-left_later s count text rest e left = let P : Option ℕ → Type 0 = λ o. IsLeftAfter o s.history text rest in subst P e left
+pub rest_later : (s : ReaderState) (count : ℕ) (text rest : List ℕ) → s.count ≡ Some count → IsRest s text rest → IsReadTo s.limit text count s.history rest
+rest_later s count text rest e left = let P : Option ℕ → Type 0 = λ o. IsRestAfter s.limit o s.history text rest in subst P e left
 
 -- how many entries there are after the first line
-pub counted_later : (o : Option ℕ) (history : List EntryValue) (count : ℕ) → o ≡ Some count → IsCounted o history → length history ≤ count
-counted_later o history count e is = let P : Option ℕ → Type 0 = λ x. IsCounted x history in (subst P e is).0
+pub counted_later : (limit : ℕ) (o : Option ℕ) (history : List EntryValue) (count : ℕ) → o ≡ Some count → HasCounted limit o history → (length history ≤ count) × (count ≤ limit)
+counted_later limit o history count e is = let P : Option ℕ → Type 0 = λ x. HasCounted limit x history in subst P e is
+
+-- and there are never more than may be
+pub counted_within : (limit : ℕ) (o : Option ℕ) (history : List EntryValue) → HasCounted limit o history → length history ≤ limit
+counted_within limit None history is = let none = ap length is in omega (arith, none)
+counted_within limit (Some count) history is = omega (arith, is.0, is.1)
+
+-- what is left to an audit is what is left to a reader of as many entries as there can be
+
+pub rest_of_left : (limit : ℕ) (o : Option ℕ) (history : List EntryValue) (text rest : List ℕ) → limit ≡ most_entries → IsLeftAfter o history text rest → IsRestAfter limit o history text rest
+rest_of_left limit None history text rest e left = left
+rest_of_left limit (Some count) history text rest e left = let P : ℕ → Type 0 = λ n. IsReadTo n text count history rest in subst P (sym e) left
+
+pub left_of_rest : (limit : ℕ) (o : Option ℕ) (history : List EntryValue) (text rest : List ℕ) → limit ≡ most_entries → IsRestAfter limit o history text rest → IsLeftAfter o history text rest
+left_of_rest limit None history text rest e left = left
+left_of_rest limit (Some count) history text rest e left = let P : ℕ → Type 0 = λ n. IsReadTo n text count history rest in subst P e left

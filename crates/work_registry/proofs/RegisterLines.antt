@@ -4,7 +4,7 @@ use Rattle.std.specs.Prelude.{◌==◌, ◌⊎◌, if◌then◌else◌}
 use Rattle.memchr.specs.Find.{IsFirstByte, is_byte}
 use Rattle.std.specs.List.{position, position_or_len}
 use Rattle.std.proofs.lemmas.List.{take_all, drop_more, take-append-drop, get_or-take, length-take, append_cancel_right}
-use Rattle.std.proofs.lemmas.List.Folds.{list_any_none}
+use Rattle.std.proofs.lemmas.List.Folds.{list_any_none, list_any_at}
 use Rattle.std.proofs.lemmas.List.Elements.{All-from_get_or}
 use Rattle.std.proofs.lemmas.List.Sums.{fails_before_first, passes_at_first}
 use Rattle.std.proofs.lemmas.Bool.Decides.{nat_tests}
@@ -86,6 +86,19 @@ first_found xs (Some k) h =
     by : position_or_len is_end xs ≡ k → (b : Bool) → ltb (position_or_len is_end xs) (length xs) ≡ b → Some k ≡ cond b (Some (position_or_len is_end xs)) None
     by same true inside = ap Some (sym same)
     by same false past = absurd (let lt = h.0.high in let far : length xs ≤ position_or_len is_end xs = grind (arith, nat_tests) in omega (arith, lt, far, same))
+
+-- an LF with none before it is the first
+pub first_at : (xs : List ℕ) (i : ℕ) → i < length xs → get_or xs i 0 ≡ 10 → has_end (take i xs) ≡ false → IsFirstByte (is_byte 10) xs (Some i)
+first_at xs i inside at none = (
+  record {
+    low = omega arith;
+    high = inside;
+    before = λ k low lt passes.
+        let one = list_any_at is_end (take i xs) k 0 (omega (arith, lt, inside, length-take i xs)) (rw (get_or-take i xs k 0 lt) passes) in
+        absurd (let never : true ≡ false = sym one ∙ none in cc);
+  },
+  ap is_end at,
+)
 
 no_end : (xs : List ℕ) (i : ℕ) → i ≤ position_or_len is_end xs → has_end (take i xs) ≡ false
 no_end xs i le =

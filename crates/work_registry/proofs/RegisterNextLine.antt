@@ -177,7 +177,7 @@ entry_lines-push index (d ∷ es) e =
     ap (λ (text : List ℕ). entry_line index d.call d.reply ++ text) (entry_lines-push (index + 1) es e ∙ ap (λ (i : ℕ). entry_lines (index + 1) es ++ entry_line i e.call e.reply) n)
     ∙ sym (append_assoc (entry_line index d.call d.reply) (entry_lines (index + 1) es) (entry_line (index + length (d ∷ es)) e.call e.reply))
 
-opening_push : (es : List EntryValue) (e : EntryValue) → is_opening es ≡ true → e.session ≡ 0 → is_opening (es ++ e ∷ []) ≡ true
+pub opening_push : (es : List EntryValue) (e : EntryValue) → is_opening es ≡ true → e.session ≡ 0 → is_opening (es ++ e ∷ []) ≡ true
 opening_push es e h s =
     list_all-append (λ (x : EntryValue). x.session == 0) es (e ∷ [])
     ∙ both (is_opening es) ((e.session == 0) && true) h (both (e.session == 0) true (eq-eqb e.session 0 s) refl)

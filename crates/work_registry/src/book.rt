@@ -85,6 +85,7 @@ impl<A: Allocator + Copy + Drop> Book<A> {
     }
 
     /// What its indexes know of its history.
+    #[inline(always)]
     fn known(&self) -> Known<'_, A>
         ensures { result ≡ self.now.history }
     {
@@ -121,6 +122,7 @@ impl<A: Allocator + Copy + Drop> Book<A> {
     }
 
     /// Adds an entry: a call with what is decided on it. All room is made before anything is written.
+    #[inline(always)]
     fn append(&mut self, session: u32, call: Call<A>, decision: Decision) -> Result<(), Refused<A>>
         requires decided { decision ≡ decision_on (rows_of self.old.history) call }
         requires not_full { length self.old.history < self.old.limit }
@@ -129,18 +131,18 @@ impl<A: Allocator + Copy + Drop> Book<A> {
         ensures unchanged { OnErr result (self.new ≡ self.old) }
         ensures given_back { IfErr result (λ e. e ≡ record { call = call; why = Memory }) }
     {
-        if self.history.reserve(1).is_err() {
+        let Ok(()) = self.history.reserve(1) else {
             return Err(Refused {
                 call,
                 why: WhyRefused::Memory,
             });
-        }
-        if self.kept.make_room().is_err() {
+        };
+        let Ok(()) = self.kept.make_room() else {
             return Err(Refused {
                 call,
                 why: WhyRefused::Memory,
             });
-        }
+        };
         self.kept.store(deciding::key(&call), deciding::iswc(&call), decision.change);
         self.opening = is_still_opening(self.opening, session);
         store_entry(
@@ -250,7 +252,8 @@ fn open_entries<A: Allocator>(history: &mut [Entry<A>])
 }
 
 /// Writes an entry as the last. No memory is asked for.
-fn store_entry<A: Allocator>(history: &mut Vec<Entry<A>, A>, entry: Entry<A>)
+#[inline(always)]
+pub(crate) fn store_entry<A: Allocator>(history: &mut Vec<Entry<A>, A>, entry: Entry<A>)
     requires { vec_len history.old < vec_capacity history.old }
     ensures { history.new.items ≡ history.old.items ++ entry ∷ [] }
 {

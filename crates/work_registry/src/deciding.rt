@@ -55,6 +55,7 @@ impl<'a, A: Allocator + Copy + Drop> Known<'a, A> {
     }
 
     /// What is kept of the claim under a key.
+    #[inline(always)]
     pub(crate) fn claim_under(&self, key: &Key) -> Option<KeptClaim>
         ensures { result ≡ kept_claim key.now (rows_of self.now) }
     {
@@ -62,6 +63,7 @@ impl<'a, A: Allocator + Copy + Drop> Known<'a, A> {
     }
 
     /// The work that has an ISWC, given as the number of its nine digits.
+    #[inline(always)]
     pub(crate) fn work_of_iswc(&self, iswc: u64) -> Option<u32>
         ensures { result ≡ work_of_iswc iswc (rows_of self.now) }
     {
@@ -72,6 +74,7 @@ impl<'a, A: Allocator + Copy + Drop> Known<'a, A> {
     }
 
     /// The reply to a call, from the claim under its key.
+    #[inline(always)]
     fn reply(&self, call: &Call<A>, key: &Key, claim: Option<KeptClaim>) -> Reply
         requires own { key.now ≡ key_of call.now }
         requires known { claim ≡ kept_claim (key_of call.now) (rows_of self.now) }
@@ -96,6 +99,7 @@ impl<'a, A: Allocator + Copy + Drop> Known<'a, A> {
     }
 
     /// The reply to a call for a work: it is accepted, unless a right would be owned beyond the whole.
+    #[inline(always)]
     fn reply_for_work(
         &self,
         call: &Call<A>,
@@ -122,6 +126,7 @@ impl<'a, A: Allocator + Copy + Drop> Known<'a, A> {
     }
 
     /// Whether some right of a work would be owned beyond the whole, by a call under a key, whose claim is given.
+    #[inline(always)]
     fn is_over(&self, key: &Key, claim: Option<KeptClaim>, work: u32, control: [u64; 3]) -> bool
         requires { claim ≡ kept_claim key.now (rows_of self.now) }
         ensures { result ≡ is_over work key.now control (rows_of self.now) }
@@ -132,6 +137,7 @@ impl<'a, A: Allocator + Copy + Drop> Known<'a, A> {
     }
 
     /// The control of a work under other keys than one, whose claim is given.
+    #[inline(always)]
     fn others(&self, key: &Key, claim: Option<KeptClaim>, work: u32) -> [u16; 3]
         requires { claim ≡ kept_claim key.now (rows_of self.now) }
         ensures { result ≡ others_of work key.now (rows_of self.now) }
@@ -162,6 +168,7 @@ impl<'a, A: Allocator + Copy + Drop> Known<'a, A> {
     }
 
     /// What is kept of a work; nothing of one that there is not.
+    #[inline(always)]
     pub(crate) fn work(&self, work: u32) -> KeptWork
         ensures { result ≡ kept_work work (rows_of self.now) }
     {
@@ -183,6 +190,7 @@ impl<'a, A: Allocator + Copy + Drop> Known<'a, A> {
     }
 
     /// The work of a call under a key without claim: the one that has its ISWC, else a new one.
+    #[inline(always)]
     fn work_for(&self, iswc: Option<u64>) -> u32
         ensures { result ≡ work_for iswc (rows_of self.now) }
     {
@@ -196,6 +204,7 @@ impl<'a, A: Allocator + Copy + Drop> Known<'a, A> {
     }
 
     /// Whether the ISWC is that of another work, or the work has another.
+    #[inline(always)]
     fn clashes(&self, iswc: Option<u64>, work: u32) -> bool
         ensures { result ≡ clashes iswc work (rows_of self.now) }
     {
@@ -209,6 +218,7 @@ impl<'a, A: Allocator + Copy + Drop> Known<'a, A> {
     }
 
     /// What a call with this reply leaves, from the claim under its key.
+    #[inline(always)]
     fn change(
         &self,
         call: &Call<A>,
@@ -248,6 +258,7 @@ impl<'a, A: Allocator + Copy + Drop> Known<'a, A> {
 }
 
 /// The key of a call.
+#[inline(always)]
 pub(crate) fn key<A: Allocator>(call: &Call<A>) -> Key
     ensures { result ≡ key_of call.now }
 {
@@ -258,6 +269,7 @@ pub(crate) fn key<A: Allocator>(call: &Call<A>) -> Key
 }
 
 /// The ISWC of a call, as it is kept.
+#[inline(always)]
 pub(crate) fn iswc<A: Allocator>(call: &Call<A>) -> Option<u32>
     ensures value { result ≡ call.now.iswc }
     ensures nine_digits { IsTrue (is_iswc result) }
@@ -269,6 +281,7 @@ pub(crate) fn iswc<A: Allocator>(call: &Call<A>) -> Option<u32>
 }
 
 /// Whether the controls of some right are together beyond the whole.
+#[inline(always)]
 fn are_over_whole(others: [u16; 3], control: [u64; 3]) -> bool
     requires performing { slice_index others 0 ≤ most_control }
     requires mechanical { slice_index others 1 ≤ most_control }
@@ -281,6 +294,7 @@ fn are_over_whole(others: [u16; 3], control: [u64; 3]) -> bool
 }
 
 /// The ISWC of a call, else the one that its work had.
+#[inline(always)]
 fn newer(iswc: Option<u32>, kept: Option<u32>) -> Option<u32>
     ensures { result ≡ newer iswc kept }
 {
@@ -291,6 +305,7 @@ fn newer(iswc: Option<u32>, kept: Option<u32>) -> Option<u32>
 }
 
 /// Whether there is a work and it is another.
+#[inline(always)]
 fn is_other_work(work: u32, found: Option<u32>) -> bool
     ensures { result ≡ differs work found }
 {
@@ -301,6 +316,7 @@ fn is_other_work(work: u32, found: Option<u32>) -> bool
 }
 
 /// Whether there is an ISWC and it is another.
+#[inline(always)]
 fn is_other_iswc(iswc: u64, found: Option<u32>) -> bool
     ensures { result ≡ differs iswc found }
 {

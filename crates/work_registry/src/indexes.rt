@@ -82,6 +82,7 @@ fn wide(control: [u16; 3]) -> [u64; 3]
 }
 
 /// The same controls, as they are kept.
+#[inline(always)]
 pub(crate) fn narrow(control: [u64; 3]) -> [u16; 3]
     requires performing { slice_index control 0 ≤ most_control }
     requires mechanical { slice_index control 1 ≤ most_control }
@@ -107,6 +108,7 @@ impl<A: Allocator + Copy + Drop> Indexes<A> {
     }
 
     /// Makes room for one more of each. What is kept stays as it is, also where memory is refused.
+    #[inline(always)]
     pub(crate) fn make_room(&mut self) -> Result<(), AllocError>
         ensures claims { IsUnchanged self.old.claims self.new.claims }
         ensures iswcs { IsUnchanged self.old.iswcs self.new.iswcs }
@@ -140,6 +142,7 @@ impl<A: Allocator + Copy + Drop> Indexes<A> {
         }
     }
 
+    #[inline(always)]
     fn store_change(&mut self, key: Key, iswc: Option<u32>, change: Change)
         requires claims_room { 0 < spare self.old.claims }
         requires iswcs_room { 0 < spare self.old.iswcs }
@@ -159,6 +162,7 @@ impl<A: Allocator + Copy + Drop> Indexes<A> {
 }
 
 /// Writes that a work has the ISWC, if there is one.
+#[inline(always)]
 fn store_iswc<A: Allocator + Copy + Drop>(
     iswcs: &mut IndexMap<u32, u32, BuildHasherDefault<FoldHasher>, A>,
     iswc: Option<u32>,
@@ -175,6 +179,7 @@ fn store_iswc<A: Allocator + Copy + Drop>(
 }
 
 /// Writes what is kept of a work, in its place or as one more.
+#[inline(always)]
 fn store_work<A: Allocator + Copy + Drop>(works: &mut Vec<KeptWork, A>, work: u32, kept: KeptWork)
     requires room { vec_len works.old < vec_capacity works.old }
     requires place { 1 ≤ work }

@@ -1,16 +1,15 @@
 //! A registry that keeps no entry.
 
-ghost use Rattle.std.specs.Prelude.{◌≡◌, ◌<◌, ◌≤◌, ◌++◌, ◌∷◌, [], length, IfOk, OnErr};
+ghost use Rattle.std.specs.Prelude.{◌≡◌, ◌<◌, ◌≤◌, ◌++◌, ◌∷◌, [], length, OnOk, OnErr};
 ghost use Rattle.work_registry.specs.EntryValue.{entry_of};
 ghost use Rattle.work_registry.specs.Rows.{rows_of};
-ghost use Rattle.work_registry.specs.Reply.{reply_to};
 ghost use Rattle.work_registry.specs.Numbers.{most_entries};
 ghost use Rattle.work_registry.specs.History.{IsHistory};
+ghost use Rattle.work_registry.specs.Indexes.{decision_on};
 
 use crate::deciding::{self, Known};
-use crate::indexes::Indexes;
+use crate::indexes::{Decision, Indexes};
 use crate::past::Past;
-use crate::reply::Reply;
 use cwr_call::Call;
 use cwr_field::Memory;
 use std::alloc::Allocator;
@@ -77,19 +76,25 @@ impl<A: Allocator + Copy + Drop> Ledger<A> {
         }
     }
 
-    /// Answers a call, as one of the opening.
-    pub(crate) fn answer(&mut self, call: &Call<A>) -> Result<Reply, Memory>
-        requires { length self.old < most_entries }
-        ensures reply { IfOk result (λ r. r ≡ reply_to (rows_of self.old) call.now) }
-        ensures entry { IfOk result (λ r. self.new ≡ self.old ++ entry_of 0 call.now r ∷ []) }
+    /// What is decided on a call.
+    pub(crate) fn decide(&self, call: &Call<A>) -> Decision
+        ensures { result ≡ decision_on (rows_of self.now) call.now }
+    {
+        self.known().decide(call)
+    }
+
+    /// Enters a call with what is decided on it, as one of the opening. All room is made before anything is written.
+    pub(crate) fn enter(&mut self, call: &Call<A>, decision: Decision) -> Result<(), Memory>
+        requires room { length self.old < most_entries }
+        requires decided { decision ≡ decision_on (rows_of self.old) call.now }
+        ensures entry { OnOk result (self.new ≡ self.old ++ entry_of 0 call.now decision.reply ∷ []) }
         ensures unchanged { OnErr result (self.new ≡ self.old) }
     {
-        let decision = self.known().decide(call);
         self.kept.make_room()?;
         self.kept
             .store(deciding::key(call), deciding::iswc(call), decision.change);
         self.past.push(call, decision.reply);
         self.len += 1;
-        Ok(decision.reply)
+        Ok(())
     }
 }

@@ -23,5 +23,7 @@ pub use cwr_call::{Call, Fault, Faults, Memory, WorkKind};
 pub use cwr_record::Status;
 pub use entry::Entry;
 pub use refused::{Refused, WhyRefused};
-pub use register::{Auditor, RegisterPieces, RegisterRefusal, audit, read_register};
+pub use register::{
+    Auditor, RegisterPieces, RegisterReader, RegisterRefusal, audit, read_register,
+};
 pub use reply::Reply;

@@ -20,18 +20,20 @@ mod entry_line;
 mod faults;
 mod fields;
 mod head;
+mod line_reader;
 mod lines;
 mod pieces;
 mod reading;
 mod refusal;
+mod register_reader;
 mod writing;
 
 use crate::book::Book;
 pub use auditor::Auditor;
 use cwr_field::{MOST_COUNT, Memory};
 pub use pieces::RegisterPieces;
-use reading::book_from;
 pub use refusal::RegisterRefusal;
+pub use register_reader::RegisterReader;
 use std::alloc::Allocator;
 use writing::register_of;
 
@@ -70,7 +72,7 @@ pub fn read_register<A: Allocator + Copy + Drop>(
     ensures limit { IfOk result (λ book. book.limit ≡ limit) }
     ensures fault { IfErr result (IsRefusal limit bytes.now) }
 {
-    let book = book_from(alloc, bytes, limit)?;
+    let book = RegisterReader::new(alloc, limit).finish(bytes)?;
     // Reading its history tells what holds in every book.
     let _history = book.history();
     Ok(book)

@@ -6,7 +6,7 @@ use crate::registers::ONE_ENTRY;
 use cwr_sheets::same;
 use std::alloc::Global;
 use std::test::Fail;
-use work_registry::{Auditor, RegisterRefusal};
+use work_registry::{Auditor, RegisterReader, RegisterRefusal};
 
 /// What the audit of a text answers that comes in pieces of this size.
 fn audit_in_pieces(
@@ -28,6 +28,29 @@ fn audit_in_pieces(
     Ok(auditor.finish(&held))
 }
 
+/// How many entries the book of a text has that comes in pieces of this size.
+fn read_in_pieces(
+    alloc: Global,
+    text: &[u8],
+    size: usize,
+) -> Result<Result<u64, RegisterRefusal>, Fail>
+    requires { 0 < size }
+{
+    let mut reader = RegisterReader::new(alloc, 10);
+    let mut held = Vec::new(alloc);
+    for piece in text.chunks(size) {
+        held.extend_from_slice(piece)?;
+        match reader.take_lines(&held) {
+            Ok(taken) => held = held[taken..].to_vec(alloc)?,
+            Err(refusal) => return Ok(Err(refusal)),
+        }
+    }
+    match reader.finish(&held) {
+        Ok(book) => Ok(Ok(book.len() as u64)),
+        Err(refusal) => Ok(Err(refusal)),
+    }
+}
+
 /// One entry, and the same with a byte behind it, in pieces of each size.
 #[test]
 fn each_size(rt: HostRuntime) -> Result<(), Fail> {
@@ -44,6 +67,16 @@ fn each_size(rt: HostRuntime) -> Result<(), Fail> {
         same(
             "a size, and the answer with a byte more",
             &(size, audit_in_pieces(rt.alloc(), &more, size)?),
+            &(size, Err(refused)),
+        )?;
+        same(
+            "a size, and the entries of the book",
+            &(size, read_in_pieces(rt.alloc(), one, size)?),
+            &(size, Ok(1)),
+        )?;
+        same(
+            "a size, and what is read with a byte more",
+            &(size, read_in_pieces(rt.alloc(), &more, size)?),
             &(size, Err(refused)),
         )?;
     }

@@ -6,10 +6,9 @@ ghost use Rattle.work_registry.specs.Numbers.{most_entries};
 ghost use Rattle.work_registry.specs.Register.{IsAudited};
 ghost use Rattle.work_registry.specs.RegisterFaults.{has_end, IsRefusal};
 
+use super::line_reader::LineReader;
 use super::lines::cut_line;
-use super::reading::{fault, first_count, next_number, no_line, read_line};
 use super::refusal::RegisterRefusal;
-use crate::ledger::Ledger;
 use cwr_field::MOST_COUNT;
 use std::alloc::{Allocator, Global};
 use std::marker::Model;
@@ -19,20 +18,19 @@ use std::marker::Model;
 /// A contract sees how many entries the first line tells, once it was read, and the entries so far.
 #[derive(Drop)]
 pub struct Auditor<A: Allocator + Copy + Drop = Global> {
-    alloc: A,
-    ledger: Ledger<A>,
-    /// How many entries the first line tells, once it was read.
-    count: Option<u32>,
+    lines: LineReader<A>,
 }
 
 impl<A: Allocator + Copy + Drop> Model for Auditor<A> {
-    ghost use Rattle.work_registry.specs.Auditing.{AuditState, IsCounted};
+    ghost use Rattle.std.specs.Prelude.{◌≡◌};
+    ghost use Rattle.work_registry.specs.Auditing.{AuditState};
+    ghost use Rattle.work_registry.specs.Numbers.{most_entries};
 
     ghost Value = { AuditState };
 
-    ghost view = { λ a. record { count = a.count; history = a.ledger } };
+    ghost view = { λ a. record { count = a.lines.count; history = a.lines.history } };
 
-    ghost invariant = { λ a. IsCounted a.count a.ledger };
+    ghost invariant = { λ a. a.lines.limit ≡ most_entries };
 }
 
 impl<A: Allocator + Copy + Drop> Auditor<A> {
@@ -41,9 +39,7 @@ impl<A: Allocator + Copy + Drop> Auditor<A> {
         ensures { result ≡ record { count = None; history = [] } }
     {
         Auditor {
-            alloc,
-            ledger: Ledger::new(alloc),
-            count: None,
+            lines: LineReader::new(alloc, MOST_COUNT),
         }
     }
 
@@ -80,14 +76,7 @@ impl<A: Allocator + Copy + Drop> Auditor<A> {
         ensures read { OnOk result ((text more : List ℕ) → IsLeft self.old text (line.now ++ 10 ∷ more) → IsLeft self.new text more) }
         ensures fault { IfErr result (λ refusal. (text more : List ℕ) → IsLeft self.old text (line.now ++ 10 ∷ more) → IsRefusal most_entries text refusal) }
     {
-        let Some(count) = self.count else {
-            self.count = Some(first_count(line, MOST_COUNT)?);
-            return Ok(());
-        };
-        if self.ledger.len() == count {
-            return Err(fault(2, next_number(&self.ledger)));
-        }
-        read_line(self.alloc, &mut self.ledger, line)?;
+        self.lines.take_line(line)?;
         Ok(())
     }
 
@@ -97,16 +86,9 @@ impl<A: Allocator + Copy + Drop> Auditor<A> {
         ensures entries { IfOk result (λ count. (text : List ℕ) → IsLeft self.now text left.now → IsAudited text count) }
         ensures fault { IfErr result (λ refusal. (text : List ℕ) → IsLeft self.now text left.now → IsRefusal most_entries text refusal) }
     {
-        let Some(count) = self.count else {
-            return Err(no_line(left, 1));
-        };
-        let number = next_number(&self.ledger);
-        if self.ledger.len() != count {
-            return Err(no_line(left, number));
+        match self.lines.end(left) {
+            Ok(count) => Ok(count as u64),
+            Err(refusal) => Err(refusal),
         }
-        if !left.is_empty() {
-            return Err(fault(2, number));
-        }
-        Ok(count as u64)
     }
 }

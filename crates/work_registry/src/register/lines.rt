@@ -1,18 +1,52 @@
 //! The lines of a register: LF alone ends them.
 
-ghost use Rattle.std.specs.Prelude.{◌≡◌, ◌<◌, ◌^◌, ◌==◌, ◌⊎◌, ℕ, [], ◌∷◌, ◌++◌, false, IfSome, IfNone};
+ghost use Rattle.std.specs.Prelude.{◌≡◌, ◌<◌, ◌^◌, ◌==◌, ◌⊎◌, ℕ, [], ◌∷◌, ◌++◌, Some, false, IsTrue, IfSome, IfNone};
 ghost use Rattle.std.specs.List.{position};
+ghost use Rattle.memchr.specs.Find.{IsFirstByte, is_byte};
 ghost use Rattle.work_registry.specs.Register.{count_line};
+ghost use Rattle.work_registry.specs.RegisterColumns.{head_width};
 ghost use Rattle.work_registry.specs.RegisterFaults.{lines, has_end};
 
-use super::columns::{self, COUNT_WIDTH};
+use super::columns::{self, COUNT_WIDTH, HEAD_WIDTH};
 use cwr_record::{digits_at, field_at};
 use memchr::memchr;
 
+/// Whether there is an LF.
+#[inline(always)]
+fn has_end(text: &[u8]) -> bool
+    ensures { result ≡ has_end text.now }
+{
+    let mut found = false;
+    // No byte ends the loop, so that many are looked at at once.
+    for byte in text {
+        found |= *byte == b'\n';
+    }
+    found
+}
+
+/// Whether the first LF stands right behind the fields of fixed place, as it does in the line of an entry without
+/// faults.
+#[inline(always)]
+fn ends_after_head(text: &[u8]) -> bool
+    ensures { IsTrue result → IsFirstByte (is_byte 10) text.now (Some head_width) }
+{
+    if text.len() <= HEAD_WIDTH {
+        return false;
+    }
+    if text[HEAD_WIDTH] != b'\n' {
+        return false;
+    }
+    !has_end(&text[..HEAD_WIDTH])
+}
+
 /// The index of the first LF.
+#[inline(always)]
 fn first_end(text: &[u8]) -> Option<usize>
     ensures { result ≡ position (λ b. b == 10) text.now }
 {
+    if ends_after_head(text) {
+        return Some(HEAD_WIDTH);
+    }
     memchr(b'\n', text)
 }
 

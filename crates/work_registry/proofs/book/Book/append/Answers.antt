@@ -11,8 +11,8 @@ use Rattle.work_registry.proofs.Decided.{decided-change}
 use Rattle.work_registry.proofs.GrowingBooks.{book-push, indexes-push, opening-push}
 use Rattle.work_registry.proofs.book.Book.append.Goals as goal
 
-pub invariant_of-self-then-is_err-2 : goal.invariant_of-self-then-is_err-2
-invariant_of-self-then-is_err-2 g c =
+pub invariant_of-self-in_default-make_room : goal.invariant_of-self-in_default-make_room
+invariant_of-self-in_default-make_room g c =
     rw c.reserve.ensures.items (
       c.self.invariant.0,
       indexes-room (rows_of c.self.inside.history.items) c.self.inside.kept.claims c.make_room.new.self.claims c.self.inside.kept.iswcs c.make_room.new.self.iswcs c.self.inside.kept.works.items c.make_room.new.self.works.items

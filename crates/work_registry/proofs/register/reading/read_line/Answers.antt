@@ -19,7 +19,7 @@ returns-then-entry-number-clause-fault g c = λ more limit text count counted r.
 pub returns-then-not-is_told-clause-fault : goal.returns-then-not-is_told-clause-fault
 returns-then-not-is_told-clause-fault g c = λ more limit text count counted r.
     let place = ap (λ (x : EntryLine). x.index) c.entry.view_is in
-    let told = told_by c.in-Some.entry _ c.is_told.result c.args.ledger.now c.in_ok-reply.reply c.entry.view_is c.in_ok-reply.ensures.reply (λ z p q s. c.is_told.ensures z p q s) in
+    let told = told_by c.in-Some.entry _ c.is_told.result c.args.ledger.now c.decide-decision.result.reply c.entry.view_is (ap (λ d. d.reply) c.decide-decision.ensures) (λ z p q s. c.is_told.ensures z p q s) in
     rw c.fault-then-not-is_told.ensures (unlawful_line limit count c.next_number-number.result text (c.args.line.now ++ 10 ∷ more) (c.args.line.now ++ 10 ∷ []) (lines more) c.args.ledger.now c.in_ok-entry.field-0 c.in-Some.entry c.next_number-number.ensures
     (lines_first c.args.line.now more c.requires.one) (rw c.in-Some.is at c.in_ok-entry.ensures.says) c.in-Some.is c.in_ok-entry.ensures.only (ap (λ (n : ℕ). n + 1) (sym place) ∙ c.if-entry-number.false)
     (λ t. let no : true ≡ false = sym (told.1 t) ∙ c.if-not-is_told.true in cc) counted r)
@@ -27,7 +27,7 @@ returns-then-not-is_told-clause-fault g c = λ more limit text count counted r.
 pub returns-clause-read : goal.returns-clause-read
 returns-clause-read g c = λ more limit text count counted r.
     let place = ap (λ (x : EntryLine). x.index) c.entry.view_is in
-    let told = told_by c.in-Some.entry _ c.is_told.result c.args.ledger.now c.in_ok-reply.reply c.entry.view_is c.in_ok-reply.ensures.reply (λ z p q s. c.is_told.ensures z p q s) in
-    lawful_line limit count c.next_number-number.result text (c.args.line.now ++ 10 ∷ more) c.args.line.now more c.args.ledger.now c.answer.new.self c.in_ok-entry.field-0 c.in-Some.entry c.next_number-number.ensures refl
+    let told = told_by c.in-Some.entry _ c.is_told.result c.args.ledger.now c.decide-decision.result.reply c.entry.view_is (ap (λ d. d.reply) c.decide-decision.ensures) (λ z p q s. c.is_told.ensures z p q s) in
+    lawful_line limit count c.next_number-number.result text (c.args.line.now ++ 10 ∷ more) c.args.line.now more c.args.ledger.now c.enter.new.self c.in_ok-entry.field-0 c.in-Some.entry c.next_number-number.ensures refl
     (lines_first c.args.line.now more c.requires.one) (rw c.in-Some.is at c.in_ok-entry.ensures.says) c.in-Some.is c.in_ok-entry.ensures.only (ap (λ (n : ℕ). n + 1) (sym place) ∙ c.if-entry-number.false) (told.0 c.if-not-is_told.false)
-    (entry_of_line c.in-Some.entry _ c.args.ledger.now c.answer.new.self c.in_ok-reply.reply c.entry.view_is c.in_ok-reply.ensures.reply c.in_ok-reply.ensures.entry) counted r
+    (entry_of_line c.in-Some.entry _ c.args.ledger.now c.enter.new.self c.decide-decision.result.reply c.entry.view_is (ap (λ d. d.reply) c.decide-decision.ensures) c.in_ok-enter.ensures.entry) counted r

@@ -1,31 +1,22 @@
-use Rattle.std.proofs.Common.{◌≡◌, ◌∙◌, ◌<◌, ◌+◌, ℕ, List, length, arith, ap, sym, subst}
+use Rattle.std.proofs.Common.{arith, sym, subst}
 use Rattle.work_registry.specs.Auditing.{AuditState, IsLeft}
-use Rattle.work_registry.specs.Numbers.{most_entries}
-use Rattle.work_registry.specs.RegisterFaults.{IsRefusal}
-use Rattle.work_registry.proofs.Audited.{left_first, left_later, counted_later}
-use Rattle.work_registry.proofs.RegisterNextLine.{absent_first, absent_line, tail_line, some_left}
+use Rattle.work_registry.proofs.Audited.{rest_of_left}
 use Rattle.work_registry.proofs.register.auditor.Auditor.end.Goals as goal
 
-pub returns-in_default-clause-fault : goal.returns-in_default-clause-fault
-returns-in_default-clause-fault g c = λ text left.
-    let P : AuditState → Type 0 = λ s. IsLeft s text c.args.left.now in
-    let Q : List ℕ → Type 0 = λ xs. IsRefusal most_entries xs c.no_line.result in
-    subst Q (sym (left_first _ text c.args.left.now c.in_default.is (subst P (sym c.self.view_is) left)))
-    (absent_first most_entries c.args.left.now c.no_line.result c.requires c.no_line.ensures.missing c.no_line.ensures.unended)
-
-pub returns-then-len-count-clause-fault : goal.returns-then-len-count-clause-fault
-returns-then-len-count-clause-fault g c = λ text left.
-    let P : AuditState → Type 0 = λ s. IsLeft s text c.args.left.now in
-    let read = left_later _ c.in-Some.count text c.args.left.now c.in-Some.is (subst P (sym c.self.view_is) left) in
-    let most = counted_later c.self.inside.count c.self.inside.ledger c.in-Some.count c.in-Some.is c.self.invariant in
-    let counted : length c.self.inside.ledger < c.in-Some.count = omega (arith, most, c.len.ensures.value, c.if-len-count.true) in
-    absent_line most_entries c.in-Some.count c.next_number-number.result text c.args.left.now c.self.inside.ledger c.no_line-then-len-count.result c.next_number-number.ensures c.requires
-    c.no_line-then-len-count.ensures.missing c.no_line-then-len-count.ensures.unended counted read
-
-pub returns-then-not-is_empty-clause-fault : goal.returns-then-not-is_empty-clause-fault
-returns-then-not-is_empty-clause-fault g c = λ text left.
-    let P : AuditState → Type 0 = λ s. IsLeft s text c.args.left.now in
-    let read = left_later _ c.in-Some.count text c.args.left.now c.in-Some.is (subst P (sym c.self.view_is) left) in
-    let full : length c.self.inside.ledger ≡ c.in-Some.count = sym c.len.ensures.value ∙ c.if-len-count.false in
-    rw c.fault.ensures (tail_line most_entries c.in-Some.count c.next_number-number.result text c.args.left.now c.self.inside.ledger read
-    (some_left (length c.args.left.now) c.is_empty.result c.is_empty.ensures c.if-not-is_empty.true) full (c.next_number-number.ensures ∙ ap (λ (n : ℕ). n + 2) full))
+pub returns-in-Ok-clause-entries : goal.returns-in-Ok-clause-entries
+returns-in-Ok-clause-entries g c = λ text left.
+    let s = c.self.inside.lines in
+    let P : AuditState → Type 0 = λ x. IsLeft x text c.args.left.now in
+    let rest = rest_of_left s.limit s.count s.history text c.args.left.now c.self.invariant (subst P (sym c.self.view_is) left) in
+    let e = c.in-Ok.ensures in
+    let count = e.entries in
+    let few = e.few in
+    record {
+      history = s.history;
+      register = e.text text rest;
+      lawful = e.lawful;
+      opening = e.opening;
+      whole = e.whole text rest;
+      entries = count;
+      few = omega (arith, count, few);
+    }

@@ -1,4 +1,4 @@
-use Rattle.std.proofs.Common.{arith, ◌≡◌, ◌∙◌, ◌++◌, ◌∷◌, [], List, ap, sym, length-append, nat_eq}
+use Rattle.std.proofs.Common.{arith, ◌≡◌, ◌++◌, ◌∷◌, [], ap, length-append, nat_eq}
 use Rattle.indexmap.specs.IndexMap.{get}
 use Rattle.work_registry.specs.EntryValue.{EntryValue, entry_of}
 use Rattle.work_registry.specs.Rows.{rows_of, same_key}
@@ -7,22 +7,20 @@ use Rattle.work_registry.proofs.SoundHistories.{sound, history-push}
 use Rattle.work_registry.proofs.KeptRows.{step-place}
 use Rattle.work_registry.proofs.Decided.{decided-change}
 use Rattle.work_registry.proofs.GrowingBooks.{indexes-push}
-use Rattle.work_registry.proofs.ledger.Ledger.answer.Goals as goal
+use Rattle.work_registry.proofs.ledger.Ledger.enter.Goals as goal
 
 pub store-requires-clause-place : goal.store-requires-clause-place
 store-requires-clause-place g c =
     let h = c.self.inside.past in
-    let known : c.known.result ≡ h = c.known.ensures ∙ sym c.self.view_is in
-    let decided : c.decide-decision.result ≡ decision_on (rows_of h) c.args.call.now = c.decide-decision.ensures ∙ ap (λ (x : List EntryValue). decision_on (rows_of x) c.args.call.now) known in
-    step-place (rows_of h) c.args.call.now c.decide-decision.result.reply c.decide-decision.result.change (sound h c.self.invariant.0) (ap (λ d. d.reply) decided) (decided-change (rows_of h) c.args.call.now c.decide-decision.result decided)
+    let decided : c.args.decision ≡ decision_on (rows_of h) c.args.call.now = rw (← c.self.view_is) at c.requires.decided in
+    step-place (rows_of h) c.args.call.now c.args.decision.reply c.args.decision.change (sound h c.self.invariant.0) (ap (λ d. d.reply) decided) (decided-change (rows_of h) c.args.call.now c.args.decision decided)
 
 pub invariant_of-self-2 : goal.invariant_of-self-2
 invariant_of-self-2 g c =
     let h = c.self.inside.past in
-    let d = c.decide-decision.result in
+    let d = c.args.decision in
     let e : EntryValue = entry_of 0 c.args.call.now d.reply in
-    let known : c.known.result ≡ h = c.known.ensures ∙ sym c.self.view_is in
-    let decided : d ≡ decision_on (rows_of h) c.args.call.now = c.decide-decision.ensures ∙ ap (λ (x : List EntryValue). decision_on (rows_of x) c.args.call.now) known in
+    let decided : d ≡ decision_on (rows_of h) c.args.call.now = rw (← c.self.view_is) at c.requires.decided in
     let grown : c.push.new.self ≡ h ++ e ∷ [] = c.push.ensures in
     let nine_digits = rw c.iswc.ensures.value at c.iswc.ensures.nine_digits in
     let claims = rw c.key.ensures at c.store.ensures.claims in
@@ -33,5 +31,5 @@ invariant_of-self-2 g c =
     c.self.invariant.0 nine_digits decided c.self.invariant.2 c.make_room.ensures.claims c.make_room.ensures.iswcs c.make_room.ensures.works claims iswcs c.store.ensures.works in
     let size = length-append h (e ∷ []) in
     let len = c.self.invariant.3 in
-    let room_left = rw (← c.self.view_is) at c.requires in
+    let room_left = rw (← c.self.view_is) at c.requires.room in
     rw grown (history-push h e c.self.invariant.0 (ap (λ t. t.reply) decided), omega (arith, size, room_left), kept, omega (arith, size, len))

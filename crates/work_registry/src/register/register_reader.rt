@@ -1,0 +1,115 @@
+//! A register that is read as it comes.
+
+ghost use Rattle.std.specs.Prelude.{◌≡◌, ◌≤◌, ◌++◌, ◌∷◌, [], ℕ, List, None, IsTrue, true, false, length, drop, OnOk, OnErr, IfOk, IfErr};
+ghost use Rattle.std.specs.List.{AllByRecursion};
+ghost use Rattle.work_registry.specs.History.{IsHistory};
+ghost use Rattle.work_registry.specs.Numbers.{most_entries};
+ghost use Rattle.work_registry.specs.Register.{register_text, IsWholeEntry};
+ghost use Rattle.work_registry.specs.RegisterFaults.{has_end, IsRefusal};
+ghost use Rattle.work_registry.specs.RegisterReader.{IsRest};
+ghost use Rattle.work_registry.specs.Replay.{is_opening};
+
+use super::line_reader::LineReader;
+use super::lines::cut_line;
+use super::refusal::RegisterRefusal;
+use crate::book::{Book, store_entry};
+use crate::entry::Entry;
+use std::alloc::{Allocator, Global};
+use std::marker::Model;
+
+/// Reads the book of a register that comes a piece at a time.
+///
+/// A contract sees how many entries there may be, how many the first line tells, once it was read, and the entries so
+/// far.
+#[derive(Drop)]
+pub struct RegisterReader<A: Allocator + Copy + Drop = Global> {
+    lines: LineReader<A>,
+    /// The entries so far.
+    history: Vec<Entry<A>, A>,
+    limit: u32,
+}
+
+impl<A: Allocator + Copy + Drop> Model for RegisterReader<A> {
+    ghost use Rattle.std.specs.Prelude.{◌≡◌, ◌≤◌};
+    ghost use Rattle.work_registry.specs.Numbers.{most_entries};
+    ghost use Rattle.work_registry.specs.RegisterReader.{ReaderState};
+
+    ghost Value = { ReaderState };
+
+    ghost view = { λ r. r.lines };
+
+    ghost invariant = { λ r. (r.history.items ≡ r.lines.history) × (r.limit ≡ r.lines.limit) × (1 ≤ r.limit) × (r.limit ≤ most_entries) };
+}
+
+impl<A: Allocator + Copy + Drop> RegisterReader<A> {
+    /// Begins before the first line, for a book with this limit. No memory is asked for.
+    pub fn new(alloc: A, limit: u32) -> RegisterReader<A>
+        requires least { 1 ≤ limit }
+        requires most { limit ≤ most_entries }
+        ensures { result ≡ record { limit = limit; count = None; history = [] } }
+    {
+        RegisterReader {
+            lines: LineReader::new(alloc, limit),
+            history: Vec::new(alloc),
+            limit,
+        }
+    }
+
+    /// Reads the whole lines of a piece, and answers how many bytes they are. What stands behind them comes again, with
+    /// what follows it.
+    ///
+    /// A refusal is that of the whole register, whatever follows the piece.
+    pub fn take_lines(&mut self, piece: &[u8]) -> Result<usize, RegisterRefusal>
+        ensures within { IfOk result (λ count. count ≤ length piece.now) }
+        ensures whole { IfOk result (λ count. has_end (drop count piece.now) ≡ false) }
+        ensures read { IfOk result (λ count. (text later : List ℕ) → IsRest self.old text (piece.now ++ later) → IsRest self.new text (drop count piece.now ++ later)) }
+        ensures limit { self.new.limit ≡ self.old.limit }
+        ensures fault { IfErr result (λ refusal. (text later : List ℕ) → IsRest self.old text (piece.now ++ later) → IsRefusal self.old.limit text refusal) }
+    {
+        let mut rest = piece;
+        while let Some((line, more)) = cut_line(rest) {
+            self.take_line(line)?;
+            rest = more;
+        }
+        Ok(piece.len() - rest.len())
+    }
+
+    /// The book of the register, of which this is the rest. All its entries are of the opening, session 0.
+    pub fn finish(mut self, rest: &[u8]) -> Result<Book<A>, RegisterRefusal>
+        ensures text { IfOk result (λ book. (text : List ℕ) → IsRest self text rest.now → text ≡ register_text book.history) }
+        ensures whole { IfOk result (λ book. (text : List ℕ) → IsRest self text rest.now → AllByRecursion IsWholeEntry book.history) }
+        ensures lawful { IfOk result (λ book. IsHistory book.history) }
+        ensures opening { IfOk result (λ book. IsTrue (is_opening book.history)) }
+        ensures limit { IfOk result (λ book. book.limit ≡ self.limit) }
+        ensures fault { IfErr result (λ refusal. (text : List ℕ) → IsRest self text rest.now → IsRefusal self.limit text refusal) }
+    {
+        let taken = self.take_lines(rest)?;
+        self.lines.end(&rest[taken..])?;
+        Ok(self.book())
+    }
+
+    /// Reads a line, which has no LF at its end here, and keeps its entry. With a refusal nothing is changed.
+    fn take_line(&mut self, line: &[u8]) -> Result<(), RegisterRefusal>
+        requires { has_end line.now ≡ false }
+        ensures read { OnOk result ((text more : List ℕ) → IsRest self.old text (line.now ++ 10 ∷ more) → IsRest self.new text more) }
+        ensures limit { self.new.limit ≡ self.old.limit }
+        ensures unchanged { OnErr result (self.new ≡ self.old) }
+        ensures fault { IfErr result (λ refusal. (text more : List ℕ) → IsRest self.old text (line.now ++ 10 ∷ more) → IsRefusal self.old.limit text refusal) }
+    {
+        let Ok(()) = self.history.reserve(1) else {
+            return Err(RegisterRefusal::Memory);
+        };
+        if let Some(entry) = self.lines.take_line(line)? {
+            store_entry(&mut self.history, entry);
+        }
+        Ok(())
+    }
+
+    /// The book of the entries so far.
+    fn book(self) -> Book<A>
+        ensures value { result ≡ record { history = self.history; limit = self.limit } }
+        ensures opening { is_opening result.history ≡ true }
+    {
+        Book::opening_of(self.history, self.lines.into_ledger(), self.limit)
+    }
+}
