@@ -1,22 +1,17 @@
 //! What the rules ask.
 
+use crate::arguments::{Argument, CommandWords};
 use crate::status::{BAD_WORDS, no_memory};
-use clap::{Arg, ArgAction, ArgMatches, Command};
+use clap::ArgMatches;
 use rule_pages::{Rule, every_rule, pages_text, rule_named};
-use std::alloc::{AllocError, Global};
 use std::process::ExitCode;
 
 /// `explain [RULE..]`.
-pub(crate) fn explain_command<'a>(alloc: Global) -> Result<Command<'a>, AllocError> {
-    Command::new(alloc, "explain")
-        .about("Tells what rules ask, and how to mend what breaks them")
-        .arg(
-            Arg::new(alloc, "RULE")
-                .action(ArgAction::Append)
-                .num_args(0..)
-                .help("a rule, such as F9, J11 or G3; else all of them"),
-        )
-}
+pub(crate) const EXPLAIN: CommandWords = CommandWords {
+    name: "explain",
+    about: "Tells what rules ask, and how to mend what breaks them",
+    arguments: &[Argument::AnyWords("RULE", "a rule, such as F9, J11 or G3; else all of them")],
+};
 
 /// Tells on standard output the pages of the rules that the words name, or of all rules where they name none. A word that
 /// names no rule is told on standard error, and then nothing else is told.

@@ -1,39 +1,36 @@
 //! The command lines of `explain`, of the tables, of the summary and of `verify`. They stand apart, so that the list of
 //! commands that the reader prints for `--help`, its other texts and its guesses stay as they were.
 
-use crate::command_line::with_command;
-use crate::explain::{explain_command, explain_rules};
+use crate::arguments::{CommandWords, command_lines};
+use crate::explain::{EXPLAIN, explain_rules};
 use crate::status::bad_words;
-use crate::tables::{
-    Table, claims_command, history_command, summary_command, tell_summary, tell_table,
-    works_command,
-};
-use crate::verified_files::{verify_command, verify_files};
+use crate::tables::{CLAIMS, HISTORY, SUMMARY, Table, WORKS, tell_summary, tell_table};
+use crate::verified_files::{VERIFY, verify_files};
 use clap::{ArgMatches, Command};
 use std::alloc::{AllocError, Global};
 use std::process::ExitCode;
 use std::rt::Files;
+
+/// These commands.
+const FURTHER: [CommandWords; 6] = [EXPLAIN, CLAIMS, WORKS, HISTORY, SUMMARY, VERIFY];
 
 /// Whether the word behind the program's name is one of these commands.
 pub(crate) fn names_further(words: &[String]) -> bool {
     let Some(word) = words.get(1) else {
         return false;
     };
-    match word.as_str() {
-        "explain" | "claims" | "works" | "history" | "summary" | "verify" => true,
-        _ => false,
+    for command in &FURTHER {
+        if command.name == word.as_str() {
+            return true;
+        }
     }
+    false
 }
 
 /// The program's name, and these commands.
 pub(crate) fn further_line<'a>(alloc: Global) -> Result<Command<'a>, AllocError> {
-    let line = Command::new(alloc, "purvilgo");
-    let line = with_command(line, explain_command(alloc))?;
-    let line = with_command(line, claims_command(alloc))?;
-    let line = with_command(line, works_command(alloc))?;
-    let line = with_command(line, history_command(alloc))?;
-    let line = with_command(line, summary_command(alloc))?;
-    with_command(line, verify_command(alloc))
+    let commands = command_lines(alloc, &FURTHER)?;
+    Command::new(alloc, "purvilgo").subcommands(commands)
 }
 
 /// Runs the one that the words name.
@@ -42,13 +39,28 @@ pub(crate) fn run_further<R: AllocGlobal + Input + Print + Eprint + Files>(
     name: &str,
     given: &ArgMatches,
 ) -> ExitCode {
-    match (name, given.get_str("REGISTER")) {
-        ("explain", _) => explain_rules(rt, given),
-        ("claims", Some(path)) => tell_table(rt, Table::Claims, path, given),
-        ("works", Some(path)) => tell_table(rt, Table::Works, path, given),
-        ("history", Some(path)) => tell_table(rt, Table::History, path, given),
-        ("summary", Some(path)) => tell_summary(rt, path, given),
-        ("verify", Some(path)) => verify_files(rt, path, given),
+    if name == EXPLAIN.name {
+        return explain_rules(rt, given);
+    }
+    match given.get_str("REGISTER") {
+        Some(path) => run_on_register(rt, name, path, given),
+        None => bad_words(rt, "the command line is not taken"),
+    }
+}
+
+/// Runs one that tells of a register.
+fn run_on_register<R: AllocGlobal + Input + Print + Eprint + Files>(
+    rt: &R,
+    name: &str,
+    path: &str,
+    given: &ArgMatches,
+) -> ExitCode {
+    match name {
+        "claims" => tell_table(rt, Table::Claims, path, given),
+        "works" => tell_table(rt, Table::Works, path, given),
+        "history" => tell_table(rt, Table::History, path, given),
+        "summary" => tell_summary(rt, path, given),
+        "verify" => verify_files(rt, path, given),
         _ => bad_words(rt, "the command line is not taken"),
     }
 }

@@ -13,19 +13,26 @@ pub(crate) fn page_asked_for(words: &[String]) -> Option<&'static str> {
 
 /// The page of a command.
 fn page_of(command: &str) -> Option<&'static str> {
-    match command {
-        "run" => Some(RUN),
-        "check" => Some(CHECK),
-        "audit" => Some(AUDIT),
-        "explain" => Some(EXPLAIN),
-        "claims" => Some(CLAIMS),
-        "works" => Some(WORKS),
-        "history" => Some(HISTORY),
-        "summary" => Some(SUMMARY),
-        "verify" => Some(VERIFY),
-        _ => None,
+    for (name, page) in PAGES {
+        if name == command {
+            return Some(page);
+        }
     }
+    None
 }
+
+/// Each command, and its page.
+const PAGES: [(&str, &str); 9] = [
+    ("run", RUN),
+    ("check", CHECK),
+    ("audit", AUDIT),
+    ("explain", EXPLAIN),
+    ("claims", CLAIMS),
+    ("works", WORKS),
+    ("history", HISTORY),
+    ("summary", SUMMARY),
+    ("verify", VERIFY),
+];
 
 const PROGRAM: &str = "\
 Keeps a copyright society's registry of musical works.

@@ -1,5 +1,8 @@
 //! What a run leaves: the register, and then the acknowledgements.
 
+ghost use Rattle.std.specs.Prelude.{◌≡◌, false, IfSome};
+ghost use Rattle.kept_file.specs.Looking.{Only};
+
 use crate::output::OutputFile;
 use crate::run_command::RunWords;
 use crate::telling::tell_reason;
@@ -69,37 +72,79 @@ pub(crate) fn keep_run<'a, I: Drop, R: AllocGlobal + Eprint + Files>(
     register: Option<&'a FileNames>,
     words: &RunWords,
 ) -> bool {
-    let mut placed = true;
+    let added = add_all(rt, jobs, &mut waiting, !words.no_clobber);
+    let placed = place_all(rt, book, waiting, register, words.verbose);
+    placed && added
+}
+
+/// Adds the acknowledgements of these jobs, and answers whether there was memory for all. Of which there was none is told on
+/// standard error.
+fn add_all<'a, I: Drop, R: AllocGlobal + Eprint + Files>(
+    rt: &'a R,
+    jobs: Vec<Job<I, OutputFile<'a, R>>>,
+    waiting: &mut Waiting<'a>,
+    replaces: bool,
+) -> bool {
+    let mut added = true;
     for job in jobs {
         let Job { reader: _, writer } = job;
         if let Some(names) = writer.into_waiting() {
-            if waiting.add(names, !words.no_clobber).is_err() {
-                placed = tell_out_of_place(rt, names);
+            if waiting.add(names, replaces).is_err() {
+                added = tell_out_of_place(rt, names);
             }
         }
     }
+    added
+}
+
+/// Keeps the register, where one is asked for, and gives the acknowledgements that wait their names. Answers whether all of
+/// it is in place.
+fn place_all<'a, R: AllocGlobal + Eprint + Files>(
+    rt: &'a R,
+    book: &Book,
+    waiting: Waiting<'a>,
+    register: Option<&'a FileNames>,
+    verbose: bool,
+) -> bool {
     let Waiting { names, followers } = waiting;
-    let telling = Telling {
-        rt,
-        verbose: words.verbose,
-    };
-    let mut place = SystemPlace::new(rt, register, followers, telling);
-    let kept = match register {
+    let mut place = SystemPlace::new(rt, register, followers, Telling { rt, verbose });
+    let kept = keep_at(rt, &mut place, book, register, verbose);
+    are_in_place(rt, &place, &names) && kept
+}
+
+/// Keeps the register of a book at its place, where one is asked for, and puts those that follow it in theirs. Answers
+/// whether the register is kept, or none is asked for.
+fn keep_at<R: AllocGlobal + Eprint, P: Place>(
+    rt: &R,
+    place: &mut P,
+    book: &Book,
+    register: Option<&FileNames>,
+    verbose: bool,
+) -> bool
+    requires works { P.has_failed place.old ≡ false }
+    requires settled { IfSome (P.told place.old) (λ s. Only s.names (P.may_find place.old)) }
+{
+    match register {
         Some(register) => {
-            let kept = keep_register(&mut place, rt.alloc(), book);
-            tell_kept(rt, kept, register, book.len(), words.verbose)
+            let kept = keep_register(place, rt.alloc(), book);
+            tell_kept(rt, kept, register, book.len(), verbose)
         }
         None => {
-            put_followers(&mut place);
+            put_followers(place);
             true
         }
-    };
+    }
+}
+
+/// Whether the followers of these names are in place. Which are not is told on standard error.
+fn are_in_place<R: Eprint, P: Place>(rt: &R, place: &P, names: &[&FileNames]) -> bool {
+    let mut placed = true;
     for (at, names) in names.iter().enumerate() {
         if place.is_refused(at) {
             placed = tell_out_of_place(rt, names);
         }
     }
-    kept && placed
+    placed
 }
 
 /// Tells on standard error whether a register of so many entries was kept, and answers it.

@@ -2,6 +2,7 @@
 //! exit status. What it does with their bytes stands in the libraries below.
 #![tactic(auto)]
 
+mod arguments;
 mod command_line;
 mod explain;
 mod files;

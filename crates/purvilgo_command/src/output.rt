@@ -120,16 +120,23 @@ impl<'a, R: AllocGlobal + Eprint + Files> OutputFile<'a, R> {
         };
         match written {
             Ok(n) => {
-                self.began = self.began || n > 0;
-                if n == bytes.len() && n < LAST_PIECE {
-                    self.close();
-                }
-                if self.verbose {
-                    let _ = eprintln!(self.rt; "{}: written, {n} bytes", self.names.word());
-                }
+                self.took(n, n == bytes.len());
                 Ok(n)
             }
             Err(error) => Err(self.fail(&error)),
+        }
+    }
+
+    /// Closes the draft where it took what looks like the last piece, the whole of it, and tells how many bytes it took.
+    fn took(&mut self, n: usize, whole: bool)
+        ensures { self.new.failed ≡ self.old.failed }
+    {
+        self.began = self.began || n > 0;
+        if whole && n < LAST_PIECE {
+            self.close();
+        }
+        if self.verbose {
+            let _ = eprintln!(self.rt; "{}: written, {n} bytes", self.names.word());
         }
     }
 

@@ -181,12 +181,21 @@ fn checked_file<R: AllocGlobal + Input + Eprint + Files>(
     verbose: bool,
 ) -> Result<Checked, ReadRefused> {
     let alloc = rt.alloc();
-    let checked = match form {
-        CheckForm::Short => return read_named(rt, path, verbose, ShortCheck { alloc }),
-        CheckForm::Long => remarked_long(alloc, &bytes_of(rt, path, MOST_BYTES, verbose)?),
-        CheckForm::Json => remarked_json(alloc, &bytes_of(rt, path, MOST_BYTES, verbose)?),
+    match form {
+        CheckForm::Short => read_named(rt, path, verbose, ShortCheck { alloc }),
+        CheckForm::Long => told_of(alloc, &bytes_of(rt, path, MOST_BYTES, verbose)?, false),
+        CheckForm::Json => told_of(alloc, &bytes_of(rt, path, MOST_BYTES, verbose)?, true),
+    }
+}
+
+/// What is told of a file with these bytes, as JSON or for a person.
+fn told_of(alloc: Global, bytes: &[u8], as_json: bool) -> Result<Checked, ReadRefused> {
+    let told = if as_json {
+        remarked_json(alloc, bytes)
+    } else {
+        remarked_long(alloc, bytes)
     };
-    match checked {
+    match told {
         Ok(checked) => Ok(checked),
         Err(_) => Err(ReadRefused::Memory),
     }
@@ -219,16 +228,22 @@ fn tell_check<R: Print>(rt: &R, checked: &Checked) -> ExitCode {
 fn acknowledge_input<R: AllocGlobal + Input + Print + Eprint>(rt: &R) -> ExitCode {
     let mut reader = Through::new(rt.reader());
     let mut writer = Through::new(io::writer(rt));
-    let outcome = acknowledge(rt.alloc(), &mut reader, &mut writer, &fixed_stamp());
-    if let FileOutcome::Acked { transactions: _ } = outcome {
-        return ExitCode::SUCCESS;
+    match acknowledge(rt.alloc(), &mut reader, &mut writer, &fixed_stamp()) {
+        FileOutcome::Acked { transactions: _ } => ExitCode::SUCCESS,
+        outcome => {
+            tell_input_end(rt, &outcome);
+            ExitCode::FAILURE
+        }
     }
-    if let Ok(line) = outcome_line(rt.alloc(), b"-", &outcome) {
+}
+
+/// Tells on standard error how the acknowledging of standard input ended. Where there is no memory, nothing.
+fn tell_input_end<R: AllocGlobal + Eprint>(rt: &R, outcome: &FileOutcome) {
+    if let Ok(line) = outcome_line(rt.alloc(), b"-", outcome) {
         if let Ok(text) = str::from_utf8(&line) {
             let _ = eprint!(rt; "{text}");
         }
     }
-    ExitCode::FAILURE
 }
 
 /// Society 000, `CWR REGISTRY`, 1 June 2024, 09:00:00.

@@ -36,15 +36,20 @@ fn book_in<R: AllocGlobal + Eprint + Files>(rt: &R, path: &str, verbose: bool) -
 {
     match read_book(rt.alloc(), &mut InputFile::new(rt, path, verbose)) {
         Ok(book) => {
-            if verbose {
-                let _ = eprintln!(rt; "{path}: register read, {} entries", book.len());
-            }
+            tell_read(rt, path, &book, verbose);
             Some(book)
         }
         Err(refusal) => {
             let _ = eprintln!(rt; "register: {refusal}");
             None
         }
+    }
+}
+
+/// Tells on standard error how many entries a register has that was read, where that is asked for.
+fn tell_read<R: Eprint>(rt: &R, path: &str, book: &Book, verbose: bool) {
+    if verbose {
+        let _ = eprintln!(rt; "{path}: register read, {} entries", book.len());
     }
 }
 

@@ -3,59 +3,51 @@
 ghost use Rattle.std.specs.Prelude.{◌≡◌, ◌<◌, None, map, option_map, length, IfOk};
 ghost use Rattle.run_words.specs.RunFault.{words_fault, run_stamp};
 
+use crate::arguments::{Argument, CommandWords};
 use crate::status::bad_words;
-use clap::{Arg, ArgAction, ArgMatches, Command};
+use clap::ArgMatches;
 use cwr_field::{cut, date, digits, time};
 use cwr_record::Stamp;
 use run_words::{RunFault, words_fault};
-use std::alloc::{AllocError, Global};
 use std::process::ExitCode;
 
 /// `run --society NNN --name TEXT --date YYYYMMDD --time HHMMSS [--from REGISTER] [--to REGISTER] [--in-turn]
 /// [--no-clobber] [--verbose] FILE..`
-pub(crate) fn run_command<'a>(alloc: Global) -> Result<Command<'a>, AllocError> {
-    Command::new(alloc, "run")
-        .about("Acknowledges CWR 2.2 files, the acknowledgement of FILE in FILE.ack")
-        .arg(option(alloc, "society", "NNN", "number of the society").required(true))?
-        .arg(option(alloc, "name", "TEXT", "its name, 1 to 45 bytes").required(true))?
-        .arg(option(alloc, "date", "YYYYMMDD", "date of the run").required(true))?
-        .arg(option(alloc, "time", "HHMMSS", "time of the run").required(true))?
-        .arg(option(alloc, "from", "REGISTER", "the register to go on from"))?
-        .arg(option(alloc, "to", "REGISTER", "the register to write"))?
-        .arg(flag(alloc, "in-turn", "one file after another, in their order"))?
-        .arg(flag(alloc, "no-clobber", "write over no acknowledgement"))?
-        .arg(verbose_flag(alloc))?
-        .arg(files_to_run(alloc))
+pub(crate) const RUN: CommandWords = CommandWords {
+    name: "run",
+    about: "Acknowledges CWR 2.2 files, the acknowledgement of FILE in FILE.ack",
+    arguments: &[
+        Argument::NeededValue("society", "NNN", "number of the society"),
+        Argument::NeededValue("name", "TEXT", "its name, 1 to 45 bytes"),
+        Argument::NeededValue("date", "YYYYMMDD", "date of the run"),
+        Argument::NeededValue("time", "HHMMSS", "time of the run"),
+        Argument::Value("from", "REGISTER", "the register to go on from"),
+        Argument::Value("to", "REGISTER", "the register to write"),
+        Argument::Flag("in-turn", "one file after another, in their order"),
+        Argument::Flag("no-clobber", "write over no acknowledgement"),
+        Argument::Verbose,
+        Argument::Words("FILE", "a CWR 2.2 file"),
+    ],
+};
+
+/// The words of the stamp of all acknowledgements, as they were given.
+#[derive(Clone, Copy)]
+struct StampWords<'a> {
+    society: &'a str,
+    name: &'a str,
+    date: &'a str,
+    time: &'a str,
 }
 
-/// The files of a run, one or more.
-fn files_to_run<'a>(alloc: Global) -> Arg<'a> {
-    Arg::new(alloc, "FILE")
-        .action(ArgAction::Append)
-        .num_args(1..)
-        .required(true)
-        .help("a CWR 2.2 file")
-}
-
-/// An option with one value, which is given at most once.
-pub(crate) fn option<'a>(alloc: Global, name: &'a str, value: &'a str, help: &'a str) -> Arg<'a> {
-    Arg::new(alloc, name)
-        .long(name)
-        .value_name(value)
-        .help(help)
-}
-
-/// An option without a value.
-pub(crate) fn flag<'a>(alloc: Global, name: &'a str, help: &'a str) -> Arg<'a> {
-    Arg::new(alloc, name)
-        .long(name)
-        .action(ArgAction::SetTrue)
-        .help(help)
-}
-
-/// `--verbose`, as each command takes it.
-pub(crate) fn verbose_flag<'a>(alloc: Global) -> Arg<'a> {
-    flag(alloc, "verbose", "tell steps and reasons on standard error").short('v')
+impl<'a> StampWords<'a> {
+    fn given(matches: &ArgMatches<'a>) -> Option<StampWords<'a>> {
+        Some(StampWords {
+            society: matches.get_str("society")?,
+            name: matches.get_str("name")?,
+            date: matches.get_str("date")?,
+            time: matches.get_str("time")?,
+        })
+    }
 }
 
 /// The words of a run, as they were given.
@@ -84,13 +76,19 @@ pub(crate) struct RunWords<'m, 'a> {
 }
 
 impl<'m, 'a> RunWords<'m, 'a> {
-    /// The words that a command line of [`run_command`] was given.
+    /// The words that a command line of [`RUN`] was given.
     fn given(matches: &'m ArgMatches<'a>) -> Option<RunWords<'m, 'a>> {
+        let StampWords {
+            society,
+            name,
+            date,
+            time,
+        } = StampWords::given(matches)?;
         Some(RunWords {
-            society: matches.get_str("society")?,
-            name: matches.get_str("name")?,
-            date: matches.get_str("date")?,
-            time: matches.get_str("time")?,
+            society,
+            name,
+            date,
+            time,
             from: matches.get_str("from"),
             to: matches.get_str("to"),
             in_turn: matches.get_flag("in-turn"),

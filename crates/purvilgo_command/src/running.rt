@@ -12,11 +12,14 @@ use crate::same_files::is_one_file_twice;
 use crate::status::{bad_words, no_memory};
 use crate::targets::Targets;
 use clap::ArgMatches;
-use cwr_desk::{Book, FileOutcome, Job, OpenGate, Run, outcome_line, serve, serve_in_turn};
+use cwr_desk::{
+    Book, FileOutcome, Job, OpenGate, Run, Sink, Source, outcome_line, serve, serve_in_turn,
+};
 use cwr_field::Memory;
 use cwr_record::Stamp;
 use kept_file::{Exclusive, FileNames};
 use run_words::RunFault;
+use std::alloc::Global;
 use std::process::ExitCode;
 use std::rt::Files;
 use std::sync::Wait;
@@ -42,28 +45,67 @@ where
     R::File: Send + Exclusive,
     R::Dir: Send,
 {
-    let words = match right_words(rt, matches) {
-        Ok(words) => words,
-        Err(status) => return status,
-    };
+    match right_words(rt, matches) {
+        Ok(words) => run_words(rt, &words),
+        Err(status) => status,
+    }
+}
+
+/// Acknowledges the files of words with which nothing is wrong.
+fn run_words<R: AllocGlobal + Print + Eprint + Files + Threads + Wait + Sync>(
+    rt: &R,
+    words: &RunWords,
+) -> ExitCode
+where
+    R::File: Send + Exclusive,
+    R::Dir: Send,
+    requires few { length words.now.files.now < 64 }
+{
     let Some(stamp) = words.stamp() else {
         return bad_words(rt, "the words name no stamp");
     };
-    let Ok(targets) = Targets::of(rt, &words) else {
-        return no_memory(rt);
-    };
-    match is_one_file_twice(rt, words.files, words.from, &targets) {
-        Ok(false) => {}
-        Ok(true) => return bad_words(rt, RunFault::Twice.text()),
-        Err(_) => return no_memory(rt),
+    match Targets::of(rt, words) {
+        Ok(targets) => run_to(rt, words, &stamp, &targets),
+        Err(_) => no_memory(rt),
     }
-    if words.no_clobber && tell_taken(rt, &targets.answers) {
-        return ExitCode::FAILURE;
+}
+
+/// Acknowledges them to these targets, unless files are in the way, or another run has the register.
+fn run_to<R: AllocGlobal + Print + Eprint + Files + Threads + Wait + Sync>(
+    rt: &R,
+    words: &RunWords,
+    stamp: &Stamp,
+    targets: &Targets,
+) -> ExitCode
+where
+    R::File: Send + Exclusive,
+    R::Dir: Send,
+    requires few { length words.now.files.now < 64 }
+{
+    if let Some(status) = refusal_of(rt, words, targets) {
+        return status;
     }
-    let Some(_held) = locked_register(rt, targets.register.as_ref()) else {
-        return ExitCode::FAILURE;
-    };
-    run_into(rt, &words, &stamp, &targets)
+    match locked_register(rt, targets.register.as_ref()) {
+        Some(_held) => run_into(rt, words, stamp, targets),
+        None => ExitCode::FAILURE,
+    }
+}
+
+/// How a run ends that may not be begun, since it would write over what it reads, twice over one file, or over what is to
+/// stay. Which of these it is is told on standard error.
+fn refusal_of<R: AllocGlobal + Eprint + Files>(
+    rt: &R,
+    words: &RunWords,
+    targets: &Targets,
+) -> Option<ExitCode> {
+    match is_one_file_twice(rt, words.files, words.from, targets) {
+        Ok(true) => Some(bad_words(rt, RunFault::Twice.text())),
+        Ok(false) if words.no_clobber && tell_taken(rt, &targets.answers) => {
+            Some(ExitCode::FAILURE)
+        }
+        Ok(false) => None,
+        Err(_) => Some(no_memory(rt)),
+    }
 }
 
 /// Acknowledges the files of these words to these targets, and leaves the register.
@@ -98,28 +140,48 @@ where
     requires few { length words.now.files.now < 64 }
     requires opening { is_opening book.history ≡ true }
 {
-    let made = jobs_of(rt, words.files, &targets.answers, words);
-    let room = Waiting::room_for(rt.alloc(), words.files.len());
-    let (Ok(jobs), Ok(waiting)) = (made, room) else {
+    let Ok(waiting) = Waiting::room_for(rt.alloc(), words.files.len()) else {
         return no_memory(rt);
     };
-    let served = if words.in_turn {
-        serve_in_turn(rt.alloc(), jobs, book, stamp)
+    let Ok(jobs) = jobs_of(rt, words.files, &targets.answers, words) else {
+        return no_memory(rt);
+    };
+    match serve_jobs(rt, rt.alloc(), words.in_turn, jobs, book, stamp) {
+        Some(run) => end_run(rt, words, targets, run, waiting),
+        None => no_memory(rt),
+    }
+}
+
+/// Works jobs at a book, in turn or on threads. Where there is no memory, none is worked.
+fn serve_jobs<T: Threads + Wait + Sync, I: Source + Send + Drop, O: Sink + Send + Drop>(
+    rt: &T,
+    alloc: Global,
+    in_turn: bool,
+    jobs: Vec<Job<I, O>>,
+    book: Book,
+    stamp: &Stamp,
+) -> Option<Run<I, O>>
+    requires few { vec_len jobs < 64 }
+    requires opening { is_opening book.history ≡ true }
+    requires works { All (λ j. (I.has_failed j.reader ≡ false) × (O.has_failed j.writer ≡ false)) jobs.items }
+{
+    let served = if in_turn {
+        serve_in_turn(alloc, jobs, book, stamp)
     } else {
-        serve(rt, rt.alloc(), jobs, book, stamp, &OpenGate)
+        serve(rt, alloc, jobs, book, stamp, &OpenGate)
     };
     match served {
-        Ok(run) => end_run(rt, words, targets, run, waiting),
-        Err(_) => no_memory(rt),
+        Ok(run) => Some(run),
+        Err(_) => None,
     }
 }
 
 /// Tells how the jobs of a run ended, and keeps what they left.
-fn end_run<'a, R: AllocGlobal + Print + Eprint + Files>(
+fn end_run<'a, I: Drop, R: AllocGlobal + Print + Eprint + Files>(
     rt: &'a R,
     words: &RunWords,
     targets: &'a Targets,
-    run: Run<InputFile<'a, R>, OutputFile<'a, R>>,
+    run: Run<I, OutputFile<'a, R>>,
     waiting: Waiting<'a>,
 ) -> ExitCode {
     let Run {
@@ -127,16 +189,30 @@ fn end_run<'a, R: AllocGlobal + Print + Eprint + Files>(
         outcomes,
         jobs,
     } = run;
-    if words.verbose {
-        tell_ends(rt, words.files, &outcomes);
-    }
-    let told = tell_outcomes(rt, words.files, &outcomes);
+    let told = tell_run(rt, words, &outcomes);
     let kept = keep_run(rt, &book, jobs, waiting, targets.register.as_ref(), words);
-    if told && kept {
+    status_of(told && kept)
+}
+
+/// The status of a run of which all is done, or not.
+fn status_of(done: bool) -> ExitCode {
+    if done {
         ExitCode::SUCCESS
     } else {
         ExitCode::FAILURE
     }
+}
+
+/// Tells how each job ended, and answers whether all are acknowledged and told.
+fn tell_run<R: AllocGlobal + Print + Eprint>(
+    rt: &R,
+    words: &RunWords,
+    outcomes: &[FileOutcome],
+) -> bool {
+    if words.verbose {
+        tell_ends(rt, words.files, outcomes);
+    }
+    tell_outcomes(rt, words.files, outcomes)
 }
 
 /// Tells on standard error which acknowledgements are there already, and answers whether any is.
@@ -163,11 +239,24 @@ fn jobs_of<'a, R: AllocGlobal + Eprint + Files>(
 {
     let mut jobs = Vec::with_capacity(rt.alloc(), files.len())?;
     for (file, answer) in files.iter().zip(answers) {
-        let reader = InputFile::new(rt, file, words.verbose);
-        let writer = OutputFile::new(rt, answer, !words.no_clobber, words.verbose);
-        jobs.push(Job { reader, writer })?;
+        jobs.push(job_of(rt, file, answer, words))?;
     }
     Ok(jobs)
+}
+
+/// The job of a file and its acknowledgement.
+fn job_of<'a, R: AllocGlobal + Eprint + Files>(
+    rt: &'a R,
+    file: &'a str,
+    answer: &'a FileNames,
+    words: &RunWords,
+) -> Job<InputFile<'a, R>, OutputFile<'a, R>>
+    ensures { (result.reader.failed ≡ false) × (result.writer.failed ≡ false) }
+{
+    Job {
+        reader: InputFile::new(rt, file, words.verbose),
+        writer: OutputFile::new(rt, answer, !words.no_clobber, words.verbose),
+    }
 }
 
 /// Tells on standard error how each job ended whose file is not acknowledged. Where there is no memory, nothing.

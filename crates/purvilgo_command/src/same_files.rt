@@ -4,9 +4,13 @@ use crate::targets::Targets;
 use cwr_field::Memory;
 use kept_file::FileNames;
 use std::fs;
+use std::io::ErrorKind;
 use std::os::unix::fs::MetadataExt;
 use std::path::Path;
 use std::rt::Files;
+
+/// What a directory without a name is called.
+const HERE: &str = ".";
 
 /// A file or a directory that is there: its device, and its number on it.
 #[derive(Clone, Copy, Debug, PartialEq, Eq)]
@@ -46,14 +50,17 @@ struct Written {
 }
 
 impl Written {
-    /// The places of these files.
-    fn of<R: AllocGlobal + Files>(rt: &R, files: &[FileNames]) -> Result<Written, Memory> {
+    /// The places of the files that a run writes: the acknowledgements, and behind them the register.
+    fn of<R: AllocGlobal + Files>(rt: &R, targets: &Targets) -> Result<Written, Memory> {
         let mut written = Written {
             files: Vec::new(rt.alloc()),
             drafts: Vec::new(rt.alloc()),
         };
-        for names in files {
+        for names in &targets.answers {
             written.add(rt, names)?;
+        }
+        if let Some(register) = &targets.register {
+            written.add(rt, register)?;
         }
         Ok(written)
     }
@@ -101,32 +108,86 @@ pub(crate) fn is_one_file_twice<R: AllocGlobal + Files>(
     from: Option<&str>,
     targets: &Targets,
 ) -> Result<bool, Memory> {
-    let mut read = Vec::new(rt.alloc());
-    for file in files {
-        read.push(place_of(rt, file)?)?;
+    let places = Places::of(rt, files, from, targets)?;
+    Ok(places.has_one_twice())
+}
+
+/// The places of all files of a run.
+#[derive(Drop)]
+struct Places {
+    /// The files that it acknowledges.
+    read: Vec<Place>,
+    /// The register that it begins with, where there is one.
+    begun: Place,
+    /// The files that it writes.
+    written: Written,
+    /// How many of these are acknowledgements.
+    answers: usize,
+    /// The lock of the register that it leaves, where it leaves one.
+    lock: Place,
+}
+
+impl Places {
+    /// The places of these files.
+    fn of<R: AllocGlobal + Files>(
+        rt: &R,
+        files: &[&str],
+        from: Option<&str>,
+        targets: &Targets,
+    ) -> Result<Places, Memory> {
+        let written = Written::of(rt, targets)?;
+        let read = places_of(rt, files)?;
+        let begun = place_if(rt, from)?;
+        let lock = place_if(rt, targets.lock())?;
+        Ok(Places {
+            read,
+            begun,
+            written,
+            answers: targets.answers.len(),
+            lock,
+        })
     }
-    let mut written = Written::of(rt, &targets.answers)?;
-    let begun = match from {
-        Some(word) => place_of(rt, word)?,
-        None => Place::Untold,
-    };
-    if is_among(&begun, &written.files) {
-        return Ok(true);
+
+    /// Whether the run would write over what it reads, or twice over one of them.
+    fn has_one_twice(&self) -> bool {
+        self.answers_its_register()
+            || self.locks_another()
+            || is_twice(&self.read)
+            || are_crossed(&self.read, &self.written.files)
+            || are_crossed(&self.read, &self.written.drafts)
+            || is_among(&self.begun, &self.written.drafts)
+            || self.written.is_twice()
     }
-    if let Some(register) = &targets.register {
-        written.add(rt, register)?;
-        let lock = place_of(rt, register.lock())?;
-        if lock.is_one_with(&begun) || is_among(&lock, &read) || written.has(&lock) {
-            return Ok(true);
-        }
+
+    /// Whether the register that the run begins with is one of the acknowledgements.
+    fn answers_its_register(&self) -> bool {
+        let answers = self.written.files.get(..self.answers).unwrap_or(&[]);
+        is_among(&self.begun, answers)
     }
-    Ok(
-        is_twice(&read)
-            || are_crossed(&read, &written.files)
-            || are_crossed(&read, &written.drafts)
-            || is_among(&begun, &written.drafts)
-            || written.is_twice(),
-    )
+
+    /// Whether the lock is one of the other files.
+    fn locks_another(&self) -> bool {
+        self.lock.is_one_with(&self.begun)
+            || is_among(&self.lock, &self.read)
+            || self.written.has(&self.lock)
+    }
+}
+
+/// The places of files of these names.
+fn places_of<R: AllocGlobal + Files>(rt: &R, names: &[&str]) -> Result<Vec<Place>, Memory> {
+    let mut places = Vec::with_capacity(rt.alloc(), names.len())?;
+    for name in names {
+        places.push(place_of(rt, name)?)?;
+    }
+    Ok(places)
+}
+
+/// Where a name leads, where there is one.
+fn place_if<R: AllocGlobal + Files>(rt: &R, name: Option<&str>) -> Result<Place, Memory> {
+    match name {
+        Some(name) => place_of(rt, name),
+        None => Ok(Place::Untold),
+    }
 }
 
 /// Whether two of the places, at different positions, are one.
@@ -159,22 +220,44 @@ fn is_among(place: &Place, others: &[Place]) -> bool {
     false
 }
 
-/// Where a name leads.
+/// Where a name leads. Only a link to no file is followed, by the names in it: what is no link is where its name says.
 fn place_of<R: AllocGlobal + Files>(rt: &R, name: &str) -> Result<Place, Memory> {
     if let Some(node) = node_of(rt, name) {
         return Ok(Place::Taken(node));
     }
-    free_place(rt, &FileNames::of_word(rt, name)?)
+    if is_link(rt, name)? {
+        let names = FileNames::of_word(rt, name)?;
+        return free_place(rt, names.name());
+    }
+    free_place(rt, name)
 }
 
-/// The place of a file that would be made under these names.
-fn free_place<R: AllocGlobal + Files>(rt: &R, names: &FileNames) -> Result<Place, Memory> {
-    let Some(name) = Path::new(names.name()).file_name() else {
+/// Whether the system tells that a name is that of a link.
+fn is_link<R: AllocGlobal + Files>(rt: &R, name: &str) -> Result<bool, Memory> {
+    match fs::read_link(rt, name) {
+        Ok(_) => Ok(true),
+        Err(error) if error.kind() == ErrorKind::OutOfMemory => Err(Memory),
+        Err(_) => Ok(false),
+    }
+}
+
+/// The place of a file that would be made under this name.
+fn free_place<R: AllocGlobal + Files>(rt: &R, name: &str) -> Result<Place, Memory> {
+    let path = Path::new(name);
+    let Some(file) = path.file_name() else {
         return Ok(Place::Untold);
     };
-    match node_of(rt, names.directory()) {
-        Some(node) => Ok(Place::Free(node, String::from_str(rt.alloc(), name)?)),
+    match node_of(rt, directory_of(path)) {
+        Some(node) => Ok(Place::Free(node, String::from_str(rt.alloc(), file)?)),
         None => Ok(Place::Untold),
+    }
+}
+
+/// The directory in which a file of this name lies.
+fn directory_of(path: Path<'_>) -> &str {
+    match path.parent() {
+        Some(parent) if !parent.as_os_str().is_empty() => parent.as_os_str(),
+        Some(_) | None => HERE,
     }
 }
 

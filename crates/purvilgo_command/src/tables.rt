@@ -1,14 +1,13 @@
 //! A register as tables, and its summary.
 
+use crate::arguments::{Argument, CommandWords};
 use crate::files::bytes_of;
 use crate::registers::MOST_REGISTER_BYTES;
-use crate::run_command::{option, verbose_flag};
 use crate::status::{bad_words, no_memory};
-use clap::{Arg, ArgMatches, Command};
+use clap::ArgMatches;
 use cwr_desk::MOST_ENTRIES;
 use cwr_field::{cut, digits, filled};
 use register_tables::{Unwritten, Wanted, claims_text, history_text, summary_text, works_text};
-use std::alloc::{AllocError, Global};
 use std::io;
 use std::process::ExitCode;
 use std::rt::Files;
@@ -26,76 +25,59 @@ pub(crate) enum Table {
 }
 
 /// `claims [--work N] [--submitter S] [--number W] [--verbose] REGISTER`.
-pub(crate) fn claims_command<'a>(alloc: Global) -> Result<Command<'a>, AllocError> {
-    table_command(alloc, "claims", "Tells the current claims of a register")?
-        .arg(submitter_option(alloc))?
-        .arg(number_option(alloc))
-}
+pub(crate) const CLAIMS: CommandWords = CommandWords {
+    name: "claims",
+    about: "Tells the current claims of a register",
+    arguments: &[REGISTER, Argument::Verbose, WORK, SUBMITTER, NUMBER],
+};
 
 /// `works [--work N] [--verbose] REGISTER`.
-pub(crate) fn works_command<'a>(alloc: Global) -> Result<Command<'a>, AllocError> {
-    table_command(alloc, "works", "Tells the works of a register")
-}
+pub(crate) const WORKS: CommandWords = CommandWords {
+    name: "works",
+    about: "Tells the works of a register",
+    arguments: &[REGISTER, Argument::Verbose, WORK],
+};
 
 /// `history [--work N] [--submitter S] [--number W] [--status AS|DU|CO|RJ] [--verbose] REGISTER`.
-pub(crate) fn history_command<'a>(alloc: Global) -> Result<Command<'a>, AllocError> {
-    table_command(alloc, "history", "Tells every entry of a register")?
-        .arg(submitter_option(alloc))?
-        .arg(number_option(alloc))?
-        .arg(option(
-            alloc,
-            "status",
-            "AS|DU|CO|RJ",
-            "those with this status alone",
-        ))
-}
+pub(crate) const HISTORY: CommandWords = CommandWords {
+    name: "history",
+    about: "Tells every entry of a register",
+    arguments: &[
+        REGISTER,
+        Argument::Verbose,
+        WORK,
+        SUBMITTER,
+        NUMBER,
+        Argument::Value("status", "AS|DU|CO|RJ", "those with this status alone"),
+    ],
+};
 
 /// `summary [--verbose] REGISTER`.
-pub(crate) fn summary_command<'a>(alloc: Global) -> Result<Command<'a>, AllocError> {
-    register_command(alloc, "summary", "Tells how much of what is in a register")
-}
+pub(crate) const SUMMARY: CommandWords = CommandWords {
+    name: "summary",
+    about: "Tells how much of what is in a register",
+    arguments: &[REGISTER, Argument::Verbose],
+};
 
-/// What each table's command takes.
-fn table_command<'a>(
-    alloc: Global,
-    name: &'a str,
-    about: &'a str,
-) -> Result<Command<'a>, AllocError> {
-    register_command(alloc, name, about)?.arg(option(
-        alloc,
-        "work",
-        "N",
-        "those of this work alone",
-    ))
-}
+const REGISTER: Argument = Argument::Word("REGISTER", "a register");
 
-/// What each command that tells of a register takes.
-fn register_command<'a>(
-    alloc: Global,
-    name: &'a str,
-    about: &'a str,
-) -> Result<Command<'a>, AllocError> {
-    Command::new(alloc, name)
-        .about(about)
-        .arg(
-            Arg::new(alloc, "REGISTER")
-                .required(true)
-                .help("a register"),
-        )?
-        .arg(verbose_flag(alloc))
-}
+const WORK: Argument = Argument::Value("work", "N", "those of this work alone");
 
-fn submitter_option<'a>(alloc: Global) -> Arg<'a> {
-    option(alloc, "submitter", "S", "those of this submitter alone")
-}
+const SUBMITTER: Argument = Argument::Value("submitter", "S", "those of this submitter alone");
 
-fn number_option<'a>(alloc: Global) -> Arg<'a> {
-    option(
-        alloc,
-        "number",
-        "W",
-        "those of this submitter work number alone",
-    )
+const NUMBER: Argument = Argument::Value(
+    "number",
+    "W",
+    "those of this submitter work number alone",
+);
+
+/// What is told of a register.
+#[derive(Clone, Copy)]
+enum Told {
+    /// What is wanted of a table.
+    Rows(Table, Wanted),
+    /// A summary.
+    Summary,
 }
 
 /// Tells a table of a register on standard output, or the register's first fault. The register is that of standard input
@@ -106,17 +88,12 @@ pub(crate) fn tell_table<R: AllocGlobal + Input + Print + Eprint + Files>(
     path: &str,
     given: &ArgMatches,
 ) -> ExitCode {
-    let wanted = match wanted_in(given) {
-        Ok(wanted) => wanted,
-        Err(text) => return bad_words(rt, text),
-    };
-    let book = match book_of(rt, path, given.get_flag("verbose")) {
-        Ok(book) => book,
-        Err(status) => return status,
-    };
-    match put_table(rt, table, &book, &wanted) {
-        Ok(()) => ExitCode::SUCCESS,
-        Err(unwritten) => tell_unwritten(rt, unwritten),
+    match wanted_in(given) {
+        Ok(wanted) => {
+            let told = Told::Rows(table, wanted);
+            tell_register(rt, path, given.get_flag("verbose"), told)
+        }
+        Err(text) => bad_words(rt, text),
     }
 }
 
@@ -127,21 +104,51 @@ pub(crate) fn tell_summary<R: AllocGlobal + Input + Print + Eprint + Files>(
     path: &str,
     given: &ArgMatches,
 ) -> ExitCode {
-    let book = match book_of(rt, path, given.get_flag("verbose")) {
-        Ok(book) => book,
-        Err(status) => return status,
-    };
-    match summary_text(rt.alloc(), io::writer(rt), &book) {
-        Ok(_) => ExitCode::SUCCESS,
-        Err(unwritten) => tell_unwritten(rt, unwritten),
+    tell_register(rt, path, given.get_flag("verbose"), Told::Summary)
+}
+
+/// Reads a register, and tells this of it.
+fn tell_register<R: AllocGlobal + Input + Print + Eprint + Files>(
+    rt: &R,
+    path: &str,
+    verbose: bool,
+    told: Told,
+) -> ExitCode {
+    match book_of(rt, path, verbose) {
+        Ok(book) => tell_book(rt, &book, told),
+        Err(status) => status,
     }
 }
 
-/// Tells why something was not written whole, where that can be told.
-fn tell_unwritten<R: Eprint>(rt: &R, unwritten: Unwritten) -> ExitCode {
-    match unwritten {
-        Unwritten::Memory => no_memory(rt),
-        Unwritten::Write => ExitCode::FAILURE,
+/// Tells this of a book.
+fn tell_book<R: AllocGlobal + Print + Eprint>(rt: &R, book: &Book, told: Told) -> ExitCode {
+    match told {
+        Told::Rows(table, wanted) => tell_rows(rt, book, table, &wanted),
+        Told::Summary => tell_end(rt, summary_text(rt.alloc(), io::writer(rt), book)),
+    }
+}
+
+/// Tells what is wanted of a table.
+fn tell_rows<R: AllocGlobal + Print + Eprint>(
+    rt: &R,
+    book: &Book,
+    table: Table,
+    wanted: &Wanted,
+) -> ExitCode {
+    let (alloc, to) = (rt.alloc(), io::writer(rt));
+    match table {
+        Table::Claims => tell_end(rt, claims_text(alloc, to, book, wanted)),
+        Table::Works => tell_end(rt, works_text(alloc, to, book, wanted)),
+        Table::History => tell_end(rt, history_text(alloc, to, book, wanted)),
+    }
+}
+
+/// Tells why something was not written whole, where it was not and that can be told.
+fn tell_end<R: Eprint, W: Drop>(rt: &R, written: Result<W, Unwritten>) -> ExitCode {
+    match written {
+        Ok(_) => ExitCode::SUCCESS,
+        Err(Unwritten::Memory) => no_memory(rt),
+        Err(Unwritten::Write) => ExitCode::FAILURE,
     }
 }
 
@@ -151,55 +158,75 @@ pub(crate) fn book_of<R: AllocGlobal + Input + Print + Eprint + Files>(
     path: &str,
     verbose: bool,
 ) -> Result<Book, ExitCode> {
-    let bytes = match bytes_of(rt, path, MOST_REGISTER_BYTES, verbose) {
-        Ok(bytes) => bytes,
-        Err(unread) => {
-            let _ = eprintln!(rt; "stopped: {unread}");
-            return Err(ExitCode::FAILURE);
-        }
-    };
+    let bytes = register_bytes(rt, path, verbose)?;
     match read_register(rt.alloc(), &bytes, MOST_ENTRIES) {
         Ok(book) => Ok(book),
-        Err(RegisterRefusal::Memory) => Err(no_memory(rt)),
-        Err(refusal) => {
-            let _ = println!(rt; "{refusal}");
+        Err(refusal) => Err(tell_refusal(rt, refusal)),
+    }
+}
+
+/// The bytes of a register. Why they cannot be read is told on standard error.
+fn register_bytes<R: AllocGlobal + Input + Eprint + Files>(
+    rt: &R,
+    path: &str,
+    verbose: bool,
+) -> Result<Vec<u8>, ExitCode> {
+    match bytes_of(rt, path, MOST_REGISTER_BYTES, verbose) {
+        Ok(bytes) => Ok(bytes),
+        Err(unread) => {
+            let _ = eprintln!(rt; "stopped: {unread}");
             Err(ExitCode::FAILURE)
         }
     }
 }
 
-/// Writes a table to standard output.
-fn put_table<R: AllocGlobal + Print>(
-    rt: &R,
-    table: Table,
-    book: &Book,
-    wanted: &Wanted,
-) -> Result<(), Unwritten> {
-    let (alloc, to) = (rt.alloc(), io::writer(rt));
-    match table {
-        Table::Claims => claims_text(alloc, to, book, wanted)?,
-        Table::Works => works_text(alloc, to, book, wanted)?,
-        Table::History => history_text(alloc, to, book, wanted)?,
-    };
-    Ok(())
+/// Tells why a register has no book.
+fn tell_refusal<R: Print + Eprint>(rt: &R, refusal: RegisterRefusal) -> ExitCode {
+    match refusal {
+        RegisterRefusal::Memory => no_memory(rt),
+        RegisterRefusal::Fault { .. } => {
+            let _ = println!(rt; "{refusal}");
+            ExitCode::FAILURE
+        }
+    }
 }
 
-/// What the words want of a table, or what is wrong with them.
+/// What the words want of a table, or what is wrong with them: of several, the first in this order.
 fn wanted_in(given: &ArgMatches) -> Result<Wanted, &'static str> {
-    let mut wanted = Wanted::all();
-    if let Some(word) = given.get_str("work") {
-        wanted.work = Some(work_in(word.as_bytes()).ok_or("bad --work")?);
+    Ok(Wanted {
+        work: wanted_work(given)?,
+        submitter: wanted_submitter(given)?,
+        number: wanted_number(given)?,
+        status: wanted_status(given)?,
+    })
+}
+
+fn wanted_work(given: &ArgMatches) -> Result<Option<u32>, &'static str> {
+    match given.get_str("work") {
+        Some(word) => Ok(Some(work_in(word.as_bytes()).ok_or("bad --work")?)),
+        None => Ok(None),
     }
-    if let Some(word) = given.get_str("submitter") {
-        wanted.submitter = Some(text_in(word.as_bytes()).ok_or("bad --submitter")?);
+}
+
+fn wanted_submitter(given: &ArgMatches) -> Result<Option<[u8; 11]>, &'static str> {
+    match given.get_str("submitter") {
+        Some(word) => Ok(Some(text_in(word.as_bytes()).ok_or("bad --submitter")?)),
+        None => Ok(None),
     }
-    if let Some(word) = given.get_str("number") {
-        wanted.number = Some(text_in(word.as_bytes()).ok_or("bad --number")?);
+}
+
+fn wanted_number(given: &ArgMatches) -> Result<Option<[u8; 14]>, &'static str> {
+    match given.get_str("number") {
+        Some(word) => Ok(Some(text_in(word.as_bytes()).ok_or("bad --number")?)),
+        None => Ok(None),
     }
-    if let Some(word) = given.get_str("status") {
-        wanted.status = Some(status_in(word.as_bytes()).ok_or("bad --status")?);
+}
+
+fn wanted_status(given: &ArgMatches) -> Result<Option<Status>, &'static str> {
+    match given.get_str("status") {
+        Some(word) => Ok(Some(status_in(word.as_bytes()).ok_or("bad --status")?)),
+        None => Ok(None),
     }
-    Ok(wanted)
 }
 
 /// The number of a work: one to eight digits, and not 0.

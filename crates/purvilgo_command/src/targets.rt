@@ -17,15 +17,42 @@ pub(crate) struct Targets {
 impl Targets {
     /// The files that a run of these words writes.
     pub(crate) fn of<R: AllocGlobal + Files>(rt: &R, words: &RunWords) -> Result<Targets, Memory> {
-        let mut answers = Vec::with_capacity(rt.alloc(), words.files.len())?;
-        for file in words.files {
-            let word = format!(in rt.alloc(); "{file}.ack")?;
-            answers.push(FileNames::of_word(rt, word.as_str())?)?;
-        }
-        let register = match words.to {
-            Some(word) => Some(FileNames::of_word(rt, word)?),
-            None => None,
-        };
+        let answers = answers_to(rt, words.files)?;
+        let register = register_of(rt, words.to)?;
         Ok(Targets { answers, register })
+    }
+
+    /// The lock of the register.
+    pub(crate) fn lock(&self) -> Option<&str> {
+        match &self.register {
+            Some(names) => Some(names.lock()),
+            None => None,
+        }
+    }
+}
+
+/// The names of the acknowledgements of these files.
+fn answers_to<R: AllocGlobal + Files>(rt: &R, files: &[&str]) -> Result<Vec<FileNames>, Memory> {
+    let mut answers = Vec::with_capacity(rt.alloc(), files.len())?;
+    for file in files {
+        answers.push(answer_to(rt, file)?)?;
+    }
+    Ok(answers)
+}
+
+/// The names of the acknowledgement of a file.
+fn answer_to<R: AllocGlobal + Files>(rt: &R, file: &str) -> Result<FileNames, Memory> {
+    let word = format!(in rt.alloc(); "{file}.ack")?;
+    FileNames::of_word(rt, word.as_str())
+}
+
+/// The names of the register that a word leads to, where there is one.
+fn register_of<R: AllocGlobal + Files>(
+    rt: &R,
+    to: Option<&str>,
+) -> Result<Option<FileNames>, Memory> {
+    match to {
+        Some(word) => Ok(Some(FileNames::of_word(rt, word)?)),
+        None => Ok(None),
     }
 }

@@ -1,37 +1,29 @@
 //! Files and their acknowledgements against a register.
 
+use crate::arguments::{Argument, CommandWords};
 use crate::files::InputFile;
 use crate::registers::MOST_REGISTER_BYTES;
-use crate::run_command::verbose_flag;
 use crate::status::no_memory;
 use crate::tables::book_of;
 use byte_streams::{ReadRefused, read_file};
-use clap::{Arg, ArgAction, ArgMatches, Command};
+use clap::ArgMatches;
 use cwr_desk::MOST_BYTES;
 use cwr_verify::{SentFile, Unverified, verify};
-use std::alloc::{AllocError, Global};
+use std::io;
 use std::process::ExitCode;
 use std::rt::Files;
 use work_registry::Book;
 
 /// `verify [--verbose] REGISTER FILE..`.
-pub(crate) fn verify_command<'a>(alloc: Global) -> Result<Command<'a>, AllocError> {
-    Command::new(alloc, "verify")
-        .about("Checks a register against files and their acknowledgements")
-        .arg(
-            Arg::new(alloc, "REGISTER")
-                .required(true)
-                .help("a register"),
-        )?
-        .arg(
-            Arg::new(alloc, "FILE")
-                .action(ArgAction::Append)
-                .num_args(1..)
-                .required(true)
-                .help("a CWR 2.2 file, whose acknowledgement is FILE.ack"),
-        )?
-        .arg(verbose_flag(alloc))
-}
+pub(crate) const VERIFY: CommandWords = CommandWords {
+    name: "verify",
+    about: "Checks a register against files and their acknowledgements",
+    arguments: &[
+        Argument::Word("REGISTER", "a register"),
+        Argument::Words("FILE", "a CWR 2.2 file, whose acknowledgement is FILE.ack"),
+        Argument::Verbose,
+    ],
+};
 
 /// A file that was sent, and its acknowledgement.
 #[derive(Drop)]
@@ -49,12 +41,21 @@ pub(crate) fn verify_files<R: AllocGlobal + Input + Print + Eprint + Files>(
 ) -> ExitCode {
     let verbose = given.get_flag("verbose");
     let names = given.get_strs("FILE").unwrap_or(&[]);
-    let book = match book_of(rt, register, verbose) {
-        Ok(book) => book,
-        Err(status) => return status,
-    };
+    match book_of(rt, register, verbose) {
+        Ok(book) => verify_at(rt, &book, names, verbose),
+        Err(status) => status,
+    }
+}
+
+/// The same at a book.
+fn verify_at<R: AllocGlobal + Print + Eprint + Files>(
+    rt: &R,
+    book: &Book,
+    names: &[&str],
+    verbose: bool,
+) -> ExitCode {
     match pairs_of(rt, names, verbose) {
-        Ok(pairs) => tell_verified(rt, &book, names, &pairs),
+        Ok(pairs) => tell_verified(rt, book, names, &pairs),
         Err(status) => status,
     }
 }
@@ -67,18 +68,32 @@ fn pairs_of<R: AllocGlobal + Eprint + Files>(
 ) -> Result<Vec<FilePair>, ExitCode> {
     let mut pairs = Vec::new(rt.alloc());
     for name in names {
-        let Ok(answer) = format!(in rt.alloc(); "{name}.ack") else {
-            return Err(no_memory(rt));
-        };
-        let pair = FilePair {
-            text: whole_file(rt, name, MOST_BYTES, verbose)?,
-            acknowledgement: whole_file(rt, &answer, MOST_REGISTER_BYTES, verbose)?,
-        };
-        if pairs.push(pair).is_err() {
+        if pairs.push(pair_of(rt, name, verbose)?).is_err() {
             return Err(no_memory(rt));
         }
     }
     Ok(pairs)
+}
+
+/// The file of this name, with its acknowledgement.
+fn pair_of<R: AllocGlobal + Eprint + Files>(
+    rt: &R,
+    name: &str,
+    verbose: bool,
+) -> Result<FilePair, ExitCode> {
+    let answer = answer_to(rt, name)?;
+    Ok(FilePair {
+        text: whole_file(rt, name, MOST_BYTES, verbose)?,
+        acknowledgement: whole_file(rt, &answer, MOST_REGISTER_BYTES, verbose)?,
+    })
+}
+
+/// The name of the acknowledgement of a file.
+fn answer_to<R: AllocGlobal + Eprint>(rt: &R, name: &str) -> Result<String, ExitCode> {
+    match format!(in rt.alloc(); "{name}.ack") {
+        Ok(answer) => Ok(answer),
+        Err(_) => Err(no_memory(rt)),
+    }
 }
 
 /// The bytes of a file. Why it cannot be read is told on standard error.
@@ -126,7 +141,12 @@ fn tell_verified<R: AllocGlobal + Print + Eprint>(
 
 /// Tells how many entries answer one of so many files.
 fn tell_count<R: Print>(rt: &R, owners: &[usize], files: usize) -> ExitCode {
-    let transactions = owners.iter().filter(|owner| **owner < files).count();
+    let mut transactions: usize = 0;
+    for owner in owners {
+        if *owner < files {
+            transactions = transactions.saturating_add(1);
+        }
+    }
     match println!(rt; "{transactions} transactions of {files} files") {
         Ok(()) => ExitCode::SUCCESS,
         Err(_) => ExitCode::FAILURE,
@@ -139,28 +159,34 @@ fn tell_unverified<R: Print + Eprint>(rt: &R, names: &[&str], unverified: Unveri
         Unverified::Memory => eprintln!(rt; "stopped: memory"),
         Unverified::TooLong { file } => println!(rt; "{}: too long", name_of(names, file)),
         Unverified::Refused { file, number, line } => {
-            println!(rt;
-                "{}: refused F{number} at line {line}",
-                name_of(names, file)
-            )
+            tell_refused(rt, name_of(names, file), number, line)
         }
         Unverified::Transaction {
             file,
             group,
             sequence,
-        } => {
-            let name = name_of(names, file);
-            println!(rt;
-                "{name}: group {group}, transaction {sequence}: not in the register as {name}.ack tells it"
-            )
-        }
+        } => tell_transaction(rt, name_of(names, file), group, sequence),
         Unverified::Acknowledgement { file, line } => {
-            println!(rt;
-                "{}.ack: line {line} is another in the register",
-                name_of(names, file)
-            )
+            tell_other_line(rt, name_of(names, file), line)
         }
     };
+}
+
+/// Tells the first fault of a file.
+fn tell_refused<R: Print>(rt: &R, name: &str, number: u8, line: u64) -> io::Result<()> {
+    println!(rt; "{name}: refused F{number} at line {line}")
+}
+
+/// Tells which transaction of a file the register has not.
+fn tell_transaction<R: Print>(rt: &R, name: &str, group: u32, sequence: u32) -> io::Result<()> {
+    println!(rt;
+        "{name}: group {group}, transaction {sequence}: not in the register as {name}.ack tells it"
+    )
+}
+
+/// Tells which line of an acknowledgement is another one.
+fn tell_other_line<R: Print>(rt: &R, name: &str, line: usize) -> io::Result<()> {
+    println!(rt; "{name}.ack: line {line} is another in the register")
 }
 
 /// The name of a file, by its number from 0.

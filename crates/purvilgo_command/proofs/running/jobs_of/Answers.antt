@@ -11,5 +11,5 @@ loop-file-preserved g c = record {
   count = grind (arith, common_steps);
   works =
       rw c.in_ok-push.ensures.items (All-push (λ (j : Job (InputFile _ _ _) (OutputFile _ _ _)). (j.reader.failed ≡ false) × (j.writer.failed ≡ false)) _ _
-      c.loop-file.invariant.works (c.new-reader.ensures, c.new-writer.ensures));
+      c.loop-file.invariant.works c.job_of.ensures);
 }

@@ -1,0 +1,126 @@
+//! What commands take, as lists of which their command lines are made.
+
+use clap::{Arg, ArgAction, Command};
+use std::alloc::{AllocError, Global};
+
+/// An argument of a command: its name, and last its help.
+#[derive(Clone, Copy)]
+pub(crate) enum Argument {
+    /// A word that has to be given.
+    Word(&'static str, &'static str),
+    /// One word or more.
+    Words(&'static str, &'static str),
+    /// Any number of words.
+    AnyWords(&'static str, &'static str),
+    /// An option with one value, of this name, which is given at most once.
+    Value(&'static str, &'static str, &'static str),
+    /// Such an option that has to be given.
+    NeededValue(&'static str, &'static str, &'static str),
+    /// An option without a value.
+    Flag(&'static str, &'static str),
+    /// Such an option that the list of options leaves out.
+    HiddenFlag(&'static str, &'static str),
+    /// Such an option that excludes another one.
+    OtherFlag(&'static str, &'static str, &'static str),
+    /// `--verbose`, as each command takes it.
+    Verbose,
+    /// The same, which the list of options leaves out.
+    HiddenVerbose,
+}
+
+/// A command: its name, what it does, and its arguments in their order.
+#[derive(Clone, Copy)]
+pub(crate) struct CommandWords {
+    pub(crate) name: &'static str,
+    pub(crate) about: &'static str,
+    pub(crate) arguments: &'static [Argument],
+}
+
+/// The command lines of commands.
+pub(crate) fn command_lines<'a>(
+    alloc: Global,
+    all: &[CommandWords],
+) -> Result<Vec<Command<'a>>, AllocError> {
+    let mut lines = Vec::with_capacity(alloc, all.len())?;
+    for words in all {
+        lines.push(command_line_of(alloc, *words)?)?;
+    }
+    Ok(lines)
+}
+
+fn command_line_of<'a>(alloc: Global, words: CommandWords) -> Result<Command<'a>, AllocError> {
+    let arguments = arguments_of(alloc, words.arguments)?;
+    Command::new(alloc, words.name)
+        .about(words.about)
+        .args(arguments)
+}
+
+fn arguments_of<'a>(alloc: Global, all: &[Argument]) -> Result<Vec<Arg<'a>>, AllocError> {
+    let mut arguments = Vec::with_capacity(alloc, all.len())?;
+    for argument in all {
+        arguments.push(argument_of(alloc, *argument)?)?;
+    }
+    Ok(arguments)
+}
+
+fn argument_of<'a>(alloc: Global, argument: Argument) -> Result<Arg<'a>, AllocError> {
+    match argument {
+        Argument::Word(name, help) => Ok(word(alloc, name, help)),
+        Argument::Words(name, help) => Ok(words(alloc, name, help)),
+        Argument::AnyWords(name, help) => Ok(any_words(alloc, name, help)),
+        Argument::Value(name, value, help) => Ok(option(alloc, name, value, help)),
+        Argument::NeededValue(name, value, help) => Ok(needed_option(alloc, name, value, help)),
+        Argument::Flag(name, help) => Ok(flag(alloc, name, help)),
+        Argument::HiddenFlag(name, help) => Ok(hidden_flag(alloc, name, help)),
+        Argument::OtherFlag(name, other, help) => {
+            hidden_flag(alloc, name, help).conflicts_with(other)
+        }
+        Argument::Verbose => Ok(verbose_flag(alloc)),
+        Argument::HiddenVerbose => Ok(verbose_flag(alloc).hide(true)),
+    }
+}
+
+fn word<'a>(alloc: Global, name: &'a str, help: &'a str) -> Arg<'a> {
+    Arg::new(alloc, name).required(true).help(help)
+}
+
+fn words<'a>(alloc: Global, name: &'a str, help: &'a str) -> Arg<'a> {
+    Arg::new(alloc, name)
+        .action(ArgAction::Append)
+        .num_args(1..)
+        .required(true)
+        .help(help)
+}
+
+fn any_words<'a>(alloc: Global, name: &'a str, help: &'a str) -> Arg<'a> {
+    Arg::new(alloc, name)
+        .action(ArgAction::Append)
+        .num_args(0..)
+        .help(help)
+}
+
+fn option<'a>(alloc: Global, name: &'a str, value: &'a str, help: &'a str) -> Arg<'a> {
+    Arg::new(alloc, name)
+        .long(name)
+        .value_name(value)
+        .help(help)
+}
+
+fn needed_option<'a>(alloc: Global, name: &'a str, value: &'a str, help: &'a str) -> Arg<'a> {
+    option(alloc, name, value, help).required(true)
+}
+
+fn flag<'a>(alloc: Global, name: &'a str, help: &'a str) -> Arg<'a> {
+    Arg::new(alloc, name)
+        .long(name)
+        .action(ArgAction::SetTrue)
+        .help(help)
+}
+
+fn hidden_flag<'a>(alloc: Global, name: &'a str, help: &'a str) -> Arg<'a> {
+    flag(alloc, name, help).hide(true)
+}
+
+fn verbose_flag<'a>(alloc: Global) -> Arg<'a> {
+    flag(alloc, "verbose", "tell steps and reasons on standard error").short('v')
+}
