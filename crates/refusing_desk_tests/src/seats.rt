@@ -171,6 +171,28 @@ fn apply_again<'m>(
     is_taken(inside.apply(back.call), number, true)
 }
 
+/// The call with this number inside a turn of a seat, which must come at once, and what came of the call.
+fn turn_inside<'m>(
+    rt: &impl Abort,
+    desk: &Desk<&'m Refusing>,
+    seat: Seat<&'m Refusing>,
+    call: Call<&'m Refusing>,
+    number: u16,
+) -> (Seat<&'m Refusing>, Taken)
+    requires desk { seat.desk ≡ desk.now }
+    ensures desk { result.0.desk ≡ desk.now }
+{
+    if seat.turns_left() == 0 {
+        panic!(rt; "no turn left");
+    }
+    if seat.session() == 0 {
+        panic!(rt; "the opening seat");
+    }
+    let mut inside = let_in(rt, desk, desk.draw(seat));
+    let taken = apply_at_last(&mut inside, call, number);
+    (inside.leave(desk), taken)
+}
+
 /// The call with this number inside a turn of the one seat of a desk that is opened with this book: the book then, and
 /// what came of the call; `None` where there was no memory for a desk.
 fn applied_inside<'m>(
@@ -184,9 +206,7 @@ fn applied_inside<'m>(
 {
     let (desk, mut opening) = Desk::open(memory, book, 2).ok()?;
     let seat = desk.split(&mut opening);
-    let mut inside = let_in(rt, &desk, desk.draw(seat));
-    let taken = apply_at_last(&mut inside, call, number);
-    let seat = inside.leave(&desk);
+    let (seat, taken) = turn_inside(rt, &desk, seat, call, number);
     desk.meet(&mut opening, seat);
     Some((desk.close(opening), taken))
 }
