@@ -1,11 +1,10 @@
-use Rattle.std.proofs.Common.{◌∙◌, map, refl, sym, ap, subst, arith}
+use Rattle.std.proofs.Common.{◌∙◌, refl, sym, ap, subst, arith}
 use Rattle.cwr_grammar.specs.Awaited.{next_detail, digits_of}
-use Rattle.cwr_grammar.specs.ReadUpTo.{ReaderState, IsReadUpTo}
-use Rattle.cwr_grammar.specs.Roles.{role_of}
+use Rattle.cwr_grammar.specs.ReadUpTo.{ReaderState, IsPast, IsReadUpTo}
 use Rattle.cwr_grammar.proofs.Controls.{printable}
 use Rattle.cwr_grammar.proofs.NextDetail.{line_clear, counted_next}
 use Rattle.cwr_grammar.proofs.OneLineFurther.{going_small}
-use Rattle.cwr_grammar.proofs.ReadFurther.{one_next, line_taken}
+use Rattle.cwr_grammar.proofs.ReadFurther.{line_taken}
 use Rattle.cwr_grammar.proofs.Visits.{visiting_gives, kept_detail, gave_detail}
 use Rattle.cwr_grammar.proofs.file_reader.FileReader.take_detail.Goals as goal
 
@@ -52,8 +51,7 @@ returns-clause-taken g c = λ first text at n here so_far.
     let role = c.requires.role ∙ ap (λ (s : ReaderState). next_detail s.counts) (sym c.self.view_is) in
     let r = read.goes goes in
     let clear = line_clear r.before c.args.line.now _ r.visiting.going.counted goes (sym r.visiting.is.counted ∙ opened) role c.requires.plain in
-    let counted = counted_next (map role_of r.before) _ c.add_line.new.self r.visiting.going.counted c.add_line.ensures in
-    let one = one_next text r.before at n c.args.line.now (next_detail c.self.inside.counts) c.add_line.new.self here (sym role) clear counted in
-    line_taken (g.V.Visitor.keeps first c.args.visitor.now) (g.V.Visitor.keeps first c.detail.new.self) _ text at n c.args.line.now (next_detail c.self.inside.counts) c.add_line.new.self c.self.inside.is_open c.self.inside.header
-    read r one opened
-    (λ whole current is kept. gave_detail (g.V.Visitor.keeps first c.args.visitor.now) (g.V.Visitor.keeps first c.detail.new.self) c.args.line.now (c.in_ok-detail.ensures first) whole current (is ∙ opened) kept) refl
+    let past : IsPast _ _ c.args.line.now (next_detail c.self.inside.counts) = record { counted = λ before counted. counted_next before _ c.add_line.new.self counted c.add_line.ensures; is_open = opened; header = refl; tail = refl } in
+    line_taken (g.V.Visitor.keeps first c.args.visitor.now) (g.V.Visitor.keeps first c.detail.new.self) _ _ text at n c.args.line.now (next_detail c.self.inside.counts)
+    read r here (sym role) clear past
+    (λ whole current is kept. gave_detail (g.V.Visitor.keeps first c.args.visitor.now) (g.V.Visitor.keeps first c.detail.new.self) c.args.line.now (c.in_ok-detail.ensures first) whole current (is ∙ opened) kept)
