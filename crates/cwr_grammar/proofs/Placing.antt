@@ -73,12 +73,12 @@ closed_is text spans (Some o) at = sym (map-append (raw_at text) spans (closed a
 -- ---- a line of each role
 
 -- it goes on with the open transaction
-detail : (text : List ℕ) (spans : List Span) (current : Option Open) (at n : ℕ) (line : List ℕ) (whole : List RawParts) (opened : Option RawParts) → at < length text → IsLineAt line text at n
-    → Placed text spans current at whole opened → Placed text (spans ++ []) current (at + n) whole (option_map (with_line line) opened)
-detail text spans current at n line whole opened lt is h = record {
-  inside = all_more (IsInside text) spans [] h.inside tt;
+pub placed_detail : (text : List ℕ) (spans : List Span) (current : Option Open) (at n : ℕ) (line : List ℕ) (whole : List RawParts) (opened : Option RawParts) → at < length text → IsLineAt line text at n
+    → Placed text spans current at whole opened → Placed text spans current (at + n) whole (option_map (with_line line) opened)
+placed_detail text spans current at n line whole opened lt is h = record {
+  inside = h.inside;
   goes = goes_more text current at n line lt is h.goes;
-  whole_is = h.whole_is ∙ ap (raws_at text) (sym (append-nil spans));
+  whole_is = h.whole_is;
   opened_is = ap (option_map (with_line line)) h.opened_is ∙ open_more text current at n line lt is h.goes;
 }
 
@@ -107,7 +107,8 @@ opens text spans current next at n line whole opened o lt is starts h =
 
 pub placed_after : (role : Role) (text : List ℕ) (spans : List Span) (current : Option Open) (g t at n : ℕ) (line : List ℕ) (whole : List RawParts) (opened : Option RawParts) → at < length text → IsLineAt line text at n
     → Placed text spans current at whole opened → Placed text (spans ++ closed_by role at current) (opened_by role at g t current) (at + n) (whole_after role whole opened) (open_after role line g t opened)
-placed_after (Detail j d) text spans current g t at n line whole opened lt is h = detail text spans current at n line whole opened lt is h
+placed_after (Detail j d) text spans current g t at n line whole opened lt is h =
+    subst (λ (xs : List Span). Placed text xs current (at + n) whole (option_map (with_line line) opened)) (sym (append-nil spans)) (placed_detail text spans current at n line whole opened lt is h)
 placed_after (TransactionHeader (Some kind) j d) text spans current g t at n line whole opened lt is h =
     opens text spans current None at n line whole opened (record { start = at; group = g; sequence = t; kind = kind }) lt is refl h
 placed_after (TransactionHeader None j d) text spans current g t at n line whole opened lt is h = between text spans current at n whole opened lt h

@@ -169,9 +169,8 @@ impl FileReader {
         ensures taken { OnOk result ((first : V) (text : List ℕ) (at n : ℕ) → IsNextLine line.now text at n → IsReadUpTo (V.keeps first visitor.old) self.old text at → IsReadUpTo (V.keeps first visitor.new) self.new text (at + n)) }
         ensures fault { IfErr result (λ refusal. (first : V) (text : List ℕ) (at n : ℕ) → IsNextLine line.now text at n → IsReadUpTo (V.keeps first visitor.old) self.old text at → IsRefusal (lines text) refusal) }
     {
-        // Most lines are the next detail of the open transaction, and most others the header of the next one. One that is
-        // shorter than the columns that are read here is neither, and where they are all there, no test of each is made.
-        if self.is_open && is_clean && line.len() >= PREFIX_SIZE && line.len() <= LONGEST_LINE {
+        // Most lines are the next detail of the open transaction, and most others the header of the next one.
+        if self.is_open && is_plain(line, is_clean) {
             let record_type = type_of(line);
             if self.awaited.is_next(&self.counts, record_type, line) {
                 return self.take_detail(visitor, line, record_type);
@@ -201,9 +200,19 @@ impl FileReader {
         ensures fault { IfErr result (λ refusal. (first : V) (text : List ℕ) (at n : ℕ) → IsNextLine line.now text at n → IsReadUpTo (V.keeps first visitor.old) self.old text at → IsRefusal (lines text) refusal) }
     {
         visitor.detail(line, record_type)?;
+        self.pass_detail();
+        Ok(())
+    }
+
+    /// Goes past the next detail of the open transaction.
+    #[inline(always)]
+    fn pass_detail(&mut self)
+        requires opened { self.old.is_open ≡ true }
+        requires small { AreSmall self.old.counts }
+        ensures { (line : List ℕ) → IsPast self.old self.new line (next_detail self.old.counts) }
+    {
         self.awaited.pass_line(&self.counts);
         self.counts.add_line();
-        Ok(())
     }
 
     /// Goes past the header of the transaction that comes next in the group of the open one, which so has no fault.
@@ -293,6 +302,10 @@ impl FileReader {
             → IsReadUpTo (Placed text spans.new.items next (at + line.now.size)) self.new text (at + line.now.size)) }
         ensures fault { IfErr result (λ refusal. (text : List ℕ) → IsNextLine line.now.bytes.now text at line.now.size → IsReadUpTo (Placed text spans.old.items current at) self.old text at → IsRefusal (lines text) refusal) }
     {
+        if self.is_next_detail(line) {
+            self.pass_detail();
+            return Ok(current);
+        }
         if self.counts.is_ended {
             self.take_tail(line.bytes)?;
             return Ok(current);
@@ -301,6 +314,20 @@ impl FileReader {
         let next = take_line(spans, current, at, &role, &self.counts)?;
         self.pass(line.bytes, &role);
         Ok(next)
+    }
+
+    /// Whether the next line is the next detail of the open transaction, which so has no fault.
+    #[inline(always)]
+    fn is_next_detail(&self, line: &FirstLine<'_>) -> bool
+        requires clean { line.now.is_clean ≡ true → has_control line.now.bytes.now ≡ false }
+        requires small { self.now.is_open ≡ true → AreSmall self.now.counts }
+        ensures { result ≡ true → (self.now.is_open ≡ true) × (self.now.counts.is_ended ≡ false) × IsPlain line.now.bytes.now × (role_of line.now.bytes.now ≡ next_detail self.now.counts) }
+    {
+        self.is_open
+            && is_plain(line.bytes, line.is_clean)
+            && self
+                .awaited
+                .is_next(&self.counts, type_of(line.bytes), line.bytes)
     }
 
     /// The role of the next line before the file's end, which so has no fault.
@@ -359,6 +386,16 @@ impl FileReader {
         self.tail += 1;
         Ok(())
     }
+}
+
+/// Whether a line has no fault of its own, and the columns that tell the next detail and the next header: where they are
+/// all there, no test of each is made.
+#[inline(always)]
+fn is_plain(line: &[u8], is_clean: bool) -> bool
+    requires { is_clean ≡ true → has_control line.now ≡ false }
+    ensures { result ≡ true → IsPlain line.now }
+{
+    is_clean && line.len() >= PREFIX_SIZE && line.len() <= LONGEST_LINE
 }
 
 /// Keeps the header, where a line is one.
