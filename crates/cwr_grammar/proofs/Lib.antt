@@ -5,7 +5,6 @@ pub mod Small
 pub mod Enveloped
 pub mod Accepted
 pub mod Complete
-pub mod OneEnvelope
 pub mod ReadSteps
 pub mod FileCuts
 pub mod FileLaw

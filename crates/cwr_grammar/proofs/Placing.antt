@@ -93,10 +93,10 @@ between text spans current at n whole opened lt h = record {
 }
 
 -- and opens the next one
-opens : (text : List ℕ) (spans : List Span) (current next : Option Open) (at n : ℕ) (line : List ℕ) (whole : List RawParts) (opened : Option RawParts) (o : Open) → at < length text → IsLineAt line text at n → o.start ≡ at
+opens : (text : List ℕ) (spans : List Span) (current : Option Open) (at n : ℕ) (line : List ℕ) (whole : List RawParts) (opened : Option RawParts) (o : Open) → at < length text → IsLineAt line text at n → o.start ≡ at
     → Placed text spans current at whole opened
     → Placed text (spans ++ closed at current) (Some o) (at + n) (visiting.closed whole opened) (Some (record { group = o.group; sequence = o.sequence; kind = o.kind; lines = line ∷ [] }))
-opens text spans current next at n line whole opened o lt is starts h =
+opens text spans current at n line whole opened o lt is starts h =
     let ended = between text spans current at n whole opened lt h in
     record {
       inside = ended.inside;
@@ -110,7 +110,7 @@ pub placed_after : (role : Role) (text : List ℕ) (spans : List Span) (current 
 placed_after (Detail j d) text spans current g t at n line whole opened lt is h =
     subst (λ (xs : List Span). Placed text xs current (at + n) whole (option_map (with_line line) opened)) (sym (append-nil spans)) (placed_detail text spans current at n line whole opened lt is h)
 placed_after (TransactionHeader (Some kind) j d) text spans current g t at n line whole opened lt is h =
-    opens text spans current None at n line whole opened (record { start = at; group = g; sequence = t; kind = kind }) lt is refl h
+    opens text spans current at n line whole opened (record { start = at; group = g; sequence = t; kind = kind }) lt is refl h
 placed_after (TransactionHeader None j d) text spans current g t at n line whole opened lt is h = between text spans current at n whole opened lt h
 placed_after (FileHeader valid) text spans current g t at n line whole opened lt is h = between text spans current at n whole opened lt h
 placed_after (GroupHeader kind i) text spans current g t at n line whole opened lt is h = between text spans current at n whole opened lt h

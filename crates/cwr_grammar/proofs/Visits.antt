@@ -26,10 +26,6 @@ use Rattle.cwr_grammar.specs.ReadUpTo.{IsOpen, going_on, IsGiven, Visiting}
 pub open_begins : (s : FileCounts) → s ≡ counts_of [] → IsOpen s false None
 open_begins s is = rw is (record { open_is = refl; counted = refl; long = tt; few = tt })
 
-none_there : (o : Option RawParts) → is_some o ≡ false → o ≡ None
-none_there None e = refl
-none_there (Some t) e = absurd cc
-
 small_place : (o : Option ℕ) (n : ℕ) → o ≡ Some n → IfSome o (λ m. m < 10 ^ 8) → n ≤ most_count
 small_place None n e h = absurd cc
 small_place (Some m) n e h = let same : m ≡ n = cc in omega (arith, same, h)
@@ -190,15 +186,6 @@ pub gave_detail : (K L : List RawParts → Option RawParts → Type 0) (line : L
     → (whole : List RawParts) (current : Option RawParts) → is_some current ≡ true → K whole current → L whole (option_map (with_line line) current)
 gave_detail K L line gives whole (Some t) e kept = gives whole t kept
 gave_detail K L line gives whole None e kept = absurd cc
-
-pub gave_end : (K L : List RawParts → Option RawParts → Type 0) → ((whole : List RawParts) (t : RawParts) → K whole (Some t) → L (whole ++ t ∷ []) None)
-    → (whole : List RawParts) (current : Option RawParts) → is_some current ≡ true → K whole current → L (closed whole current) None
-gave_end K L ends whole (Some t) e kept = ends whole t kept
-gave_end K L ends whole None e kept = absurd cc
-
-pub gave_none : (K : List RawParts → Option RawParts → Type 0) (whole : List RawParts) (current : Option RawParts) → is_some current ≡ false → K whole current → K (closed whole current) None
-gave_none K whole (Some t) e kept = absurd cc
-gave_none K whole None e kept = kept
 
 closed_few : (whole : List RawParts) (current : Option RawParts) (n : ℕ) → length whole ≤ n → length (closed whole current) ≤ n + 1
 closed_few whole None n le = omega (arith, le)
