@@ -32,9 +32,6 @@ next_byte (x1 ∷ x2 ∷ x3 ∷ x4 ∷ x5 ∷ x6 ∷ []) b len = absurd (omega a
 next_byte (x1 ∷ x2 ∷ x3 ∷ x4 ∷ x5 ∷ x6 ∷ x7 ∷ []) b len = omega arith
 next_byte (x1 ∷ x2 ∷ x3 ∷ x4 ∷ x5 ∷ x6 ∷ x7 ∷ x8 ∷ xs) b len = absurd (omega arith)
 
-text_split : (n : ℕ) → number_text 8 n ≡ number_text 7 (n / 10) ++ (48 + n % 10) ∷ []
-text_split n = refl
-
 pub last_digit : (n : ℕ) → digits_of n % 256 ≡ 48 + n % 10
 unfolding digits_of
 last_digit n = low_byte (number_text 7 (n / 10)) (48 + n % 10) (length-number_text 7 (n / 10)) (omega arith)

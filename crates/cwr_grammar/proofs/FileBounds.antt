@@ -114,8 +114,6 @@ all_small i (g ∷ gs) are =
     all_append (raws_of_group i 0 g.kind g.transactions) (raws_of (i + 1) gs)
     (group_small i 0 g.kind g.transactions lt are.0.transactions) (all_small (i + 1) gs are.1)
 
--- ---- the sender
-
 -- ---- all of it
 
 pub file_bounds : (input : List ℕ) (file : File) (head : Header) (found : List RawParts) → IsFile (lines input) file → StandsFor table.header file.header head

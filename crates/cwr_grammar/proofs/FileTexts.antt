@@ -11,7 +11,6 @@ use Rattle.cwr_grammar.specs.File.{File, FileGroup, IsFile, IsPlain, AreGroups, 
 use Rattle.cwr_grammar.specs.RawParts.{RawParts, IsTransactionText, raws_of, raws_of_group}
 use Rattle.cwr_grammar.specs.Spans.{IsInside, IsSpan, raws_at}
 use Rattle.cwr_grammar.proofs.Numbers.{small_role}
-use Rattle.cwr_grammar.proofs.Collecting.{all_more}
 use Rattle.cwr_grammar.proofs.Controls.{printable}
 
 all_front : {X : Type 0} (P : X → Type 0) (xs ys : List X) → AllByRecursion P (xs ++ ys) → AllByRecursion P xs
@@ -21,6 +20,10 @@ all_front P (x ∷ xs) ys h = (h.0, all_front P xs ys h.1)
 all_back : {X : Type 0} (P : X → Type 0) (xs ys : List X) → AllByRecursion P (xs ++ ys) → AllByRecursion P ys
 all_back P [] ys h = h
 all_back P (x ∷ xs) ys h = all_back P xs ys h.1
+
+pub all_more : {X : Type 0} (P : X → Type 0) (xs ys : List X) → AllByRecursion P xs → AllByRecursion P ys → AllByRecursion P (xs ++ ys)
+all_more P [] ys h i = i
+all_more P (x ∷ xs) ys (here, more) i = (here, all_more P xs ys more i)
 
 -- ---- printable lines
 

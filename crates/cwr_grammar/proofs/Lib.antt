@@ -5,16 +5,14 @@ pub mod Small
 pub mod Enveloped
 pub mod Accepted
 pub mod Complete
-pub mod OneEnvelope
 pub mod ReadSteps
 pub mod FileCuts
 pub mod FileLaw
 pub mod FileClear
-pub mod Reading
 pub mod FileParts
 pub mod OneFile
 pub mod Numbers
-pub mod Collecting
+pub mod Placing
 pub mod CountsFurther
 pub mod OneLineFurther
 pub mod FileTexts

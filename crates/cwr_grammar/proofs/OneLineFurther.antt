@@ -1,30 +1,26 @@
 -- A file is read one line further.
-use Rattle.std.proofs.Common.{◌≡◌, ℕ, suc, ◌+◌, ◌-◌, ◌≤◌, ◌<◌, ◌^◌, ◌⊎◌, inl, inr, Bool, true, false, ◌||◌, List, [], ◌∷◌, ◌++◌, length, map, take, drop, Option, Some, None, cond, arith, refl, sym, ap, ◌∙◌}
+use Rattle.std.proofs.Common.{◌≡◌, ℕ, suc, ◌+◌, ◌-◌, ◌≤◌, ◌<◌, ◌^◌, ◌⊎◌, inl, inr, Bool, true, false, ◌||◌, List, [], ◌∷◌, length, map, drop, Option, Some, None, cond, arith, refl, sym, ap, ◌∙◌}
 use Rattle.std.specs.Str.Lines.{lines}
 use Rattle.std.specs.List.{list_any}
-use Rattle.std.proofs.lemmas.List.{length-map, drop-drop, length-drop}
+use Rattle.std.proofs.lemmas.List.{length-map}
 use Rattle.cwr_grammar.specs.declared.role.Role.{Role}
-use Rattle.cwr_grammar.specs.declared.span.Open.{Open}
 use Rattle.cwr_grammar.specs.declared.file_counts.FileCounts.{FileCounts}
 use Rattle.cwr_grammar.specs.Roles.{role_of}
-use Rattle.cwr_grammar.specs.Before.{groups, transactions, is_file_trailer, is_ended}
-use Rattle.cwr_grammar.specs.declared.span.Span.{Span}
-use Rattle.cwr_grammar.specs.FirstFault.{with_eleven, fault_at_end, at_line, or_else, line_fault, first_fault_after, tail_fault}
+use Rattle.cwr_grammar.specs.Before.{groups, is_file_trailer, is_ended}
+use Rattle.cwr_grammar.specs.FirstFault.{first_fault, with_eleven, fault_at_end, at_line, or_else, line_fault, first_fault_after, tail_fault}
 use Rattle.cwr_grammar.specs.FaultTests.{is_after_end}
 use Rattle.cwr_grammar.specs.Collected.{group_count, record_count, raws}
-use Rattle.cwr_grammar.specs.Spans.{closed_by, opened_by}
 use Rattle.cwr_grammar.specs.Counted.{counts_of, AreSmall}
 use Rattle.cwr_grammar.specs.ReadUpTo.{Going}
-use Rattle.cwr_grammar.proofs.Reading.{Reading, Collecting}
 use Rattle.cwr_grammar.proofs.Small.{small_from}
 use Rattle.cwr_grammar.proofs.Numbers.{few_groups_after, few_records, clear_role}
 use Rattle.cwr_grammar.proofs.FileParts.{file_raws, file_groups, file_records}
 use Rattle.cwr_grammar.proofs.Least.{first_is_least}
 use Rattle.cwr_grammar.specs.Faults.{IsLeastFault}
-use Rattle.cwr_grammar.specs.Submitted.{IsReadTo}
+use Rattle.cwr_grammar.specs.File.{File, IsFile}
+use Rattle.cwr_grammar.specs.Submitted.{AreParts}
 use Rattle.cwr_grammar.specs.RawParts.{RawParts}
 use Rattle.cwr_grammar.proofs.ReadSteps.{after_end}
-use Rattle.cwr_grammar.proofs.Collecting.{IsLine, Collected, advances, ends_file}
 use Rattle.cwr_grammar.proofs.CountsFurther.{groups_advance, records_advance, groups_end, records_end}
 
 pub going_small : (text : List ℕ) (s : FileCounts) (at : ℕ) (before : List (List ℕ)) → Going text s at before → at < 2 ^ 63 → AreSmall s
@@ -33,12 +29,6 @@ going_small text s at before r few = small_from (map role_of before) s r.counted
 -- before the first line
 pub going_begins : (text : List ℕ) (s : FileCounts) → s ≡ counts_of [] → Going text s 0 []
 going_begins text s is = rw is (record { inside = omega arith; few = omega arith; few_groups = omega arith; counted = refl; goes = refl; fault = refl; group_total = omega arith; record_total = omega arith })
-
-pub reading_begins : (text : List ℕ) (spans : List Span) (s : FileCounts) → spans ≡ [] → s ≡ counts_of [] → Reading text spans None s 0 []
-reading_begins text spans s none is = record {
-  going = going_begins text s is;
-  collecting = λ lt. rw (none, is) (record { inside = tt; up_to = tt; whole = tt; found = refl });
-}
 
 -- one line was read, and has no fault
 pub record OneLine (text : List ℕ) (before : List (List ℕ)) (at n : ℕ) (line : List ℕ) (role : Role) (next : FileCounts) : Type 0 where
@@ -59,13 +49,6 @@ or_false false c b goes e = sym goes ∙ e
 
 end_of : (role : Role) (before : List Role) (b : Bool) → list_any is_file_trailer before ≡ false → (is_file_trailer role || list_any is_file_trailer before) ≡ b → is_file_trailer role ≡ b
 end_of role before b goes e = or_false (is_file_trailer role) (list_any is_file_trailer before) b goes e
-
-whole_inside : {A : Type 0} (x n y : ℕ) → (x ≤ n) ⊎ A → n < x → A
-whole_inside x n y (inl le) lt = absurd (omega arith)
-whole_inside x n y (inr a) lt = a
-
-collecting_to : (text : List ℕ) (spans spans' : List Span) (current current' : Option Open) (g t g' t' at : ℕ) → spans ≡ spans' → current ≡ current' → g ≡ g' → t ≡ t' → Collecting text spans current g t at → Collecting text spans' current' g' t' at
-collecting_to text spans spans' current current' g t g' t' at a b c d h = rw (← a, ← b, ← c, ← d) h
 
 -- a line after which the file goes on is no TRL
 pub no_trailer : (text : List ℕ) (s next : FileCounts) (at n : ℕ) (before : List (List ℕ)) (line : List ℕ) (role : Role)
@@ -97,27 +80,21 @@ goes_on text s next at n before line role r one goes =
           ∙ records_advance role (length (map role_of before)) line (lines (drop at text)) (lines (drop (at + n) text)) _ one.split (sym one.read) more (ap (λ (x : FileCounts). x.lines + record_count (lines (drop at text))) (sym r.counted) ∙ r.record_total);
     }
 
-pub reads_on : (text : List ℕ) (spans spans' : List Span) (current current' : Option Open) (s next : FileCounts) (at n : ℕ) (before : List (List ℕ)) (line : List ℕ) (role : Role)
-    → Reading text spans current s at before → OneLine text before at n line role next → (length text - at ≤ n) ⊎ IsLine text at n line
-    → spans' ≡ spans ++ closed_by role at current → current' ≡ opened_by role at s.groups s.transactions current → next.is_ended ≡ false
-    → Reading text spans' current' next (at + n) (line ∷ before)
-reads_on text spans spans' current current' s next at n before line role reading one whole taken opened goes =
-    let r = reading.going in
-    let more = no_trailer text s next at n before line role r one goes in
-    let g : s.groups ≡ groups (map role_of before) = ap (λ (x : FileCounts). x.groups) r.counted in
-    let t : s.transactions ≡ transactions (map role_of before) = ap (λ (x : FileCounts). x.transactions) r.counted in
-    let here : at < length text = omega (arith, one.some, one.fits) in
-    record {
-      going = goes_on text s next at n before line role r one goes;
-      collecting = λ lt.
-          let start = collecting_to text spans spans current current s.groups s.transactions (groups (map role_of before)) (transactions (map role_of before)) at refl refl g t (reading.collecting here) in
-          let is : IsLine text at n line = whole_inside (length text - at) n 0 whole (omega (arith, lt)) in
-          collecting_to text (spans ++ closed_by role at current) spans' (opened_by role at (groups (map role_of before)) (transactions (map role_of before)) current) current' _ _ _ _ (at + n) (sym taken)
-          (sym (opened ∙ ap (λ (x : FileCounts). opened_by role at x.groups x.transactions current) r.counted)) (sym (ap (λ (x : FileCounts). x.groups) one.counted)) (sym (ap (λ (x : FileCounts). x.transactions) one.counted))
-          (advances role text spans current at n (map role_of before) line r.inside one.split is (sym one.read) more start);
-    }
-
 -- ---- the line that ends the file
+
+-- A text was read up to its TRL without a fault, which ends before a position. What follows decides alone whether the
+-- text is a file.
+pub record IsEndedAt (text : List ℕ) (s : FileCounts) (at : ℕ) : Type 0 where
+  pub inside : at ≤ length text
+  pub few : s.lines ≤ at
+  pub few_groups : s.groups < 10 ^ 5
+  pub few_records : s.lines < 10 ^ 8
+  pub fault : first_fault (lines text) ≡ with_eleven (tail_fault (s.lines + 1) (lines (drop at text)))
+
+-- and if it is one, these are its parts
+pub record IsReadTo (text : List ℕ) (found : List RawParts) (s : FileCounts) (at : ℕ) : Type 0 where
+  pub ended : IsEndedAt text s at
+  pub parts : (f : File) → IsFile (lines text) f → AreParts f found s.groups s.lines
 
 after_trailer : (text : List ℕ) (s next : FileCounts) (at n : ℕ) (before : List (List ℕ)) (line : List ℕ) (role : Role) (o : Option ℕ)
     → Going text s at before → OneLine text before at n line role next → next.is_ended ≡ true → o ≡ tail_fault (next.lines + 1) (lines (drop (at + n) text)) → first_fault_after [] (lines text) ≡ with_eleven o
@@ -128,9 +105,6 @@ after_trailer text s next at n before line role o r one ended tail =
     ∙ after_end (line ∷ before) (lines (drop (at + n) text)) here
     ∙ ap (λ (k : ℕ). with_eleven (tail_fault (k + 1) (lines (drop (at + n) text)))) (sym count)
     ∙ ap with_eleven (sym tail)
-
-collected_to : (text : List ℕ) (spans spans' : List Span) → spans ≡ spans' → Collected text spans → Collected text spans'
-collected_to text spans spans' e h = rw (← e) h
 
 -- what was found is the text's transactions
 pub ends_on : (text : List ℕ) (found : List RawParts) (s next : FileCounts) (at n : ℕ) (before : List (List ℕ)) (line : List ℕ) (role : Role)
@@ -157,31 +131,6 @@ ends_on text found s next at n before line role r one all ended =
         records = all_records ∙ file_records (lines text) f is;
       };
     }
-
--- the places are those of all transactions
-pub reads_whole : (text : List ℕ) (spans spans' : List Span) (current : Option Open) (s next : FileCounts) (at n : ℕ) (before : List (List ℕ)) (line : List ℕ) (role : Role)
-    → Reading text spans current s at before → OneLine text before at n line role next → spans' ≡ spans ++ closed_by role at current → next.is_ended ≡ true → Collected text spans'
-reads_whole text spans spans' current s next at n before line role r one taken ended =
-    let last = trailer text s next at n before line role r.going one ended in
-    let here : at < length text = omega (arith, one.some, one.fits) in
-    collected_to text _ spans' (sym taken) (ends_file role text spans current s.groups s.transactions at line (lines (drop (at + n) text)) r.going.inside one.split (sym one.read) last (r.collecting here))
-
-pub whole_at : (text : List ℕ) (at n : ℕ) (line rest : List ℕ) → rest ≡ drop at text → (length rest ≤ n) ⊎ ((more : List ℕ) → lines (take n rest ++ more) ≡ line ∷ lines more) → (length text - at ≤ n) ⊎ IsLine text at n line
-whole_at text at n line rest is (inl le) = inl (omega (arith, le, ap (λ (xs : List ℕ). length xs) is, length-drop at text))
-whole_at text at n line rest is (inr h) = inr (λ more. ap (λ (xs : List ℕ). lines (take n xs ++ more)) (sym is) ∙ h more)
-
--- the line as a slice's reader tells it
-pub one_line : (text : List ℕ) (before : List (List ℕ)) (at n : ℕ) (line : List ℕ) (role : Role) (next : FileCounts) (rest : List ℕ) → rest ≡ drop at text
-    → lines rest ≡ line ∷ lines (drop n rest) → 0 < n → n ≤ length rest
-    → role ≡ role_of line → None ≡ line_fault before line → next ≡ counts_of (role ∷ map role_of before) → OneLine text before at n line role next
-one_line text before at n line role next rest is split some fits read clear counted = record {
-  split = ap lines (sym is) ∙ split ∙ ap (λ (xs : List ℕ). line ∷ lines (drop n xs)) is ∙ ap (λ (xs : List ℕ). line ∷ lines xs) (drop-drop n at text);
-  some = some;
-  fits = omega (arith, fits, ap (λ (xs : List ℕ). length xs) is, length-drop at text);
-  read = read;
-  clear = clear;
-  counted = counted;
-}
 
 -- ---- where the text has a fault
 

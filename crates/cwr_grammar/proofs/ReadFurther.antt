@@ -1,11 +1,14 @@
 -- A reader goes past one line more.
-use Rattle.std.proofs.Common.{◌≡◌, ◌∙◌, ℕ, suc, ◌+◌, ◌-◌, ◌≤◌, ◌<◌, ◌⊎◌, Bool, true, false, List, [], ◌∷◌, ◌++◌, length, map, take, drop, Option, Some, None, is_some, arith, refl, sym, ap, subst, append_assoc, length-append}
+use Rattle.std.proofs.Common.{◌≡◌, ◌∙◌, ℕ, suc, ◌+◌, ◌-◌, ◌≤◌, ◌<◌, ◌^◌, ◌⊎◌, true, false, List, [], ◌∷◌, ◌++◌, length, map, take, drop, Option, Some, None, is_some, arith, refl, sym, ap, subst, append_assoc, length-append}
 use Rattle.std.specs.Str.Lines.{lines}
 use Rattle.std.proofs.lemmas.List.{length-map, length-drop, drop-drop, drop-append-le, take-append-drop}
 use Rattle.cwr_record.specs.Control as table
 use Rattle.cwr_record.specs.Layout.{StandsFor}
 use Rattle.cwr_record.specs.declared.control.Header.{Header}
+use Rattle.cwr_grammar.specs.declared.envelope.Envelope.{Envelope}
 use Rattle.cwr_grammar.specs.declared.file_counts.FileCounts.{FileCounts}
+use Rattle.cwr_grammar.specs.declared.refusal.FileRefusal.{FileRefusal}
+use Rattle.cwr_grammar.specs.declared.refusal.FileRefusal.TheVariants.{Fault}
 use Rattle.cwr_grammar.specs.declared.role.Role.{Role}
 use Rattle.cwr_grammar.specs.declared.role.Role.TheVariants.{FileHeader, GroupHeader, TransactionHeader, Detail, GroupTrailer, FileTrailer, Unnamed}
 use Rattle.cwr_grammar.specs.Before.{is_nil}
@@ -14,16 +17,17 @@ use Rattle.cwr_grammar.specs.FaultTests.{is_tail}
 use Rattle.cwr_grammar.specs.Faults.{IsLeastFault}
 use Rattle.cwr_grammar.specs.FirstFault.{first_fault, line_fault, role_fault, tail_fault, with_eleven}
 use Rattle.cwr_grammar.specs.RawParts.{RawParts}
-use Rattle.cwr_grammar.specs.ReadUpTo.{ReaderState, IsReadUpTo, IsNextLine, IsHeadOf, HeadAfter, GoesOnAt, EndedBefore, StandsAt}
+use Rattle.cwr_grammar.specs.ReadUpTo.{ReaderState, IsReadUpTo, IsNextLine, IsPast, IsHeadOf, HeadAfter, GoesOnAt, EndedBefore, StandsAt}
 use Rattle.cwr_grammar.specs.Roles.{role_of}
-use Rattle.cwr_grammar.specs.Visiting.{WasGiven, leaves_open, whole_after, open_after}
+use Rattle.cwr_grammar.specs.Submitted.{IsRefusal}
+use Rattle.cwr_grammar.specs.Visiting.{WasGiven, whole_after, open_after}
 use Rattle.cwr_grammar.proofs.Accepted.{file_head_is}
 use Rattle.cwr_grammar.proofs.FileBounds.{file_bounds}
 use Rattle.cwr_grammar.proofs.FileLaw.{accepted_file}
 use Rattle.cwr_grammar.proofs.HeaderLine.{first_is}
 use Rattle.cwr_grammar.proofs.Least.{first_is_least}
 use Rattle.cwr_grammar.proofs.Numbers.{clear_role}
-use Rattle.cwr_grammar.proofs.OneLineFurther.{OneLine, end_faulty}
+use Rattle.cwr_grammar.proofs.OneLineFurther.{OneLine, end_faulty, line_faulty}
 use Rattle.cwr_grammar.proofs.Visits.{visiting_goes, visiting_ends, visiting_kept}
 
 -- ---- the header
@@ -65,56 +69,66 @@ headed_after Unnamed (b ∷ before) head next line text at n clear kept first he
 
 -- ---- a line before the file's end
 
-pub one_next : (text : List ℕ) (before : List (List ℕ)) (at n : ℕ) (line : List ℕ) (role : Role) (next : FileCounts) → IsNextLine line text at n → role ≡ role_of line
-    → None ≡ line_fault before line → next ≡ counts_of (role ∷ map role_of before) → OneLine text before at n line role next
-one_next text before at n line role next here read clear counted =
-    record { split = here.split; some = here.some; fits = (let inside = here.inside in omega (arith, inside)); read = read; clear = clear; counted = counted }
+module _ (K L : List RawParts → Option RawParts → Type 0) (s after : ReaderState) (text : List ℕ) (at n : ℕ) (line : List ℕ) (role : Role) (read : IsReadUpTo K s text at) (g : GoesOnAt K s text at)
+    (here : IsNextLine line text at n) (role_is : role ≡ role_of line) (clear : None ≡ line_fault g.before line) (past : IsPast s after line role)
+    (gives : (whole : List RawParts) (current : Option RawParts) → is_some current ≡ s.is_open → K whole current → L (whole_after role whole current) (open_after role line s.counts.groups s.counts.transactions current)) where
+  one : OneLine text g.before at n line role after.counts
+  one = record {
+    split = here.split;
+    some = here.some;
+    fits = (let inside = here.inside in omega (arith, inside));
+    read = role_is;
+    clear = clear;
+    counted = past.counted (map role_of g.before) g.visiting.going.counted;
+  }
 
-module _ (K L : List RawParts → Option RawParts → Type 0) (s : ReaderState) (text : List ℕ) (at n : ℕ) (line : List ℕ) (role : Role) (next : FileCounts) (is_next : Bool) (head : Option Header)
-    (read : IsReadUpTo K s text at) (g : GoesOnAt K s text at) (one : OneLine text g.before at n line role next) (opens : is_next ≡ leaves_open role)
-    (gives : (whole : List RawParts) (current : Option RawParts) → is_some current ≡ s.is_open → K whole current → L (whole_after role whole current) (open_after role line s.counts.groups s.counts.transactions current))
-    (kept : HeadAfter s.header role line head) where
-  abbrev after : ReaderState
-  after = record { counts = next; is_open = is_next; header = head; tail = s.tail }
-
-  lines_after : next.lines ≡ suc (length g.before)
+  lines_after : after.counts.lines ≡ suc (length g.before)
   lines_after = ap (λ (x : FileCounts). x.lines) one.counted ∙ ap suc (length-map g.before role_of)
 
-  ended_after : next.is_ended ≡ true → EndedBefore L after text (at + n)
+  no_tail : after.tail ≡ 0
+  no_tail = past.tail ∙ g.no_tail
+
+  ended_after : after.counts.is_ended ≡ true → EndedBefore L after text (at + n)
   ended_after e =
-      let last = visiting_ends K text s.counts next at n g.before s.is_open g.whole g.current line role g.visiting one e in
-      let no_tail = g.no_tail in
+      let last = visiting_ends K text s.counts after.counts at n g.before s.is_open g.whole g.current line role g.visiting one e in
       let few = last.ended.few in
-      let more = lines_after in
       record {
         whole = whole_after role g.whole g.current;
-        kept = visiting_kept K L text s.counts next at n g.before s.is_open g.whole g.current line role g.visiting one e gives;
+        kept = visiting_kept K L text s.counts after.counts at n g.before s.is_open g.whole g.current line role g.visiting one e gives;
         parts = last.parts;
         inside = last.ended.inside;
-        some = omega (arith, more);
+        some = omega (arith, lines_after);
         few = omega (arith, few, no_tail);
         few_groups = last.ended.few_groups;
         few_records = last.ended.few_records;
         fault = last.ended.fault ∙ ap (λ (k : ℕ). with_eleven (tail_fault k (lines (drop (at + n) text)))) (omega (arith, no_tail));
       }
 
-  pub line_taken : IsReadUpTo L (record { counts = next; is_open = is_next; header = head; tail = s.tail }) text (at + n)
+  -- whatever is kept of what the line gives
+  pub line_taken : IsReadUpTo L after text (at + n)
   line_taken =
       let counted = ap (λ (x : FileCounts). x.lines) g.visiting.going.counted in
-      let clear = ap (role_fault (map role_of g.before)) one.read ∙ clear_role g.before line g.visiting.going.goes one.clear in
+      let none = ap (role_fault (map role_of g.before)) role_is ∙ clear_role g.before line g.visiting.going.goes clear in
       record {
         goes = λ e. record {
           before = line ∷ g.before;
           whole = whole_after role g.whole g.current;
           current = open_after role line s.counts.groups s.counts.transactions g.current;
-          visiting = visiting_goes K L text s.counts next at n g.before s.is_open is_next g.whole g.current line role g.visiting one e opens gives;
-          no_tail = g.no_tail;
+          visiting = visiting_goes K L text s.counts after.counts at n g.before s.is_open after.is_open g.whole g.current line role g.visiting one e past.is_open gives;
+          no_tail = no_tail;
         };
         ended = ended_after;
-        first = λ none. absurd (let more = lines_after in omega (arith, none, more));
-        headed = λ _. headed_after role (map role_of g.before) s.header head line text at n clear kept (λ none. read.first (omega (arith, counted, none)))
-            (λ some. read.headed (omega (arith, counted, some))) one.split;
+        first = λ none. absurd (omega (arith, none, lines_after));
+        headed = λ _. headed_after role (map role_of g.before) s.header after.header line text at n none past.header (λ none. read.first (omega (arith, counted, none)))
+            (λ some. read.headed (omega (arith, counted, some))) here.split;
       }
+
+-- the line has a fault
+pub role_faulty : (K : List RawParts → Option RawParts → Type 0) (s : ReaderState) (text : List ℕ) (at n : ℕ) (line : List ℕ) (refusal : FileRefusal) → IsReadUpTo K s text at → s.counts.is_ended ≡ false → IsNextLine line text at n
+    → (number : ℕ) × (refusal ≡ Fault number (s.counts.lines + 1)) × ((before : List (List ℕ)) → s.counts ≡ counts_of (map role_of before) → Some number ≡ line_fault before line) → IsRefusal (lines text) refusal
+role_faulty K s text at n line refusal read goes here (number, is, faulty) =
+    let r = read.goes goes in
+    rw is (line_faulty text s.counts at r.before (drop at text) line _ number r.visiting.going refl here.split (faulty r.before r.visiting.going.counted))
 
 -- ---- a line behind the file's end
 
@@ -196,13 +210,13 @@ next_last last text rest line at i n here rest_is some fits split =
 -- ---- the end
 
 -- no TRL was read
-pub none_ended : (K : List RawParts → Option RawParts → Type 0) (s : ReaderState) (text : List ℕ) (at number : ℕ) → IsReadUpTo K s text at → s.counts.is_ended ≡ false → drop at text ≡ []
+none_ended : (K : List RawParts → Option RawParts → Type 0) (s : ReaderState) (text : List ℕ) (at number : ℕ) → IsReadUpTo K s text at → s.counts.is_ended ≡ false → drop at text ≡ []
     → ((s.counts.lines ≡ 0) × (number ≡ 1)) ⊎ ((0 < s.counts.lines) × (number ≡ 11)) → IsLeastFault (lines text) (s.counts.lines + 1) number
 none_ended K s text at number read goes end which =
     let g = read.goes goes in
     end_faulty text s.counts at g.before (drop at text) number g.visiting.going refl end which
 
-pub given : (K : List RawParts → Option RawParts → Type 0) (s : ReaderState) (text : List ℕ) (at : ℕ) (head : Header) → IsReadUpTo K s text at → s.counts.is_ended ≡ true → drop at text ≡ []
+given : (K : List RawParts → Option RawParts → Type 0) (s : ReaderState) (text : List ℕ) (at : ℕ) (head : Header) → IsReadUpTo K s text at → s.counts.is_ended ≡ true → drop at text ≡ []
     → s.header ≡ Some head → WasGiven K text head s.counts.groups s.counts.lines
 given K s text at head read ended end head_is =
     let x = read.ended ended in
@@ -223,9 +237,33 @@ given K s text at head read ended end head_is =
     }
 
 -- after the file's end the header is known
-pub some_header : (K : List RawParts → Option RawParts → Type 0) (s : ReaderState) (text : List ℕ) (at : ℕ) → IsReadUpTo K s text at → s.counts.is_ended ≡ true → s.header ≡ None → ⊥
+some_header : (K : List RawParts → Option RawParts → Type 0) (s : ReaderState) (text : List ℕ) (at : ℕ) → IsReadUpTo K s text at → s.counts.is_ended ≡ true → s.header ≡ None → ⊥
 some_header K s text at read ended none =
     let some = (read.ended ended).some in
     let headed = read.headed (omega (arith, some)) in
     let both : Some headed.header ≡ None = sym headed.header_is ∙ none in
     absurd cc
+
+-- what an envelope takes for granted
+pub few_lines : (K : List RawParts → Option RawParts → Type 0) (s : ReaderState) (text : List ℕ) (at : ℕ) → IsReadUpTo K s text at → s.counts.lines ≤ at
+few_lines K s text at read =
+    (elim s.counts.is_ended as (λ b. s.counts.is_ended ≡ b → s.counts.lines ≤ at) [
+      | true ↦ λ e. (let few = (read.ended e).few in omega (arith, few))
+      | false ↦ λ e. (
+          let going = (read.goes e).visiting.going in
+          let few = going.few in
+          omega (arith, few, ap (λ (x : FileCounts). x.lines) going.counted, length-map (read.goes e).before role_of))
+    ]) refl
+
+pub fits_envelope : (K : List RawParts → Option RawParts → Type 0) (s : ReaderState) (text : List ℕ) (at : ℕ) → IsReadUpTo K s text at → s.counts.is_ended ≡ true
+    → (s.counts.groups < 10 ^ 5) × (s.counts.lines < 10 ^ 8) × (s.header ≡ None → ⊥)
+fits_envelope K s text at read e = let x = read.ended e in (x.few_groups, x.few_records, some_header K s text at read e)
+
+-- and what it answers
+pub envelope_given : (K : List RawParts → Option RawParts → Type 0) (s : ReaderState) (text : List ℕ) (at : ℕ) (envelope : Envelope) → IsReadUpTo K s text at → drop at text ≡ []
+    → (s.counts.is_ended ≡ true) × (s.header ≡ Some envelope.header) × (envelope.groups ≡ s.counts.groups) × (envelope.records ≡ s.counts.lines) → WasGiven K text envelope.header envelope.groups envelope.records
+envelope_given K s text at envelope read end (ended, head_is, groups, records) = rw (groups, records) (given K s text at envelope.header read ended end head_is)
+
+pub envelope_faulty : (K : List RawParts → Option RawParts → Type 0) (s : ReaderState) (text : List ℕ) (at : ℕ) (refusal : FileRefusal) → IsReadUpTo K s text at → drop at text ≡ []
+    → (s.counts.is_ended ≡ false) × (number : ℕ) × (refusal ≡ Fault number (s.counts.lines + 1)) × (((s.counts.lines ≡ 0) × (number ≡ 1)) ⊎ ((0 < s.counts.lines) × (number ≡ 11))) → IsRefusal (lines text) refusal
+envelope_faulty K s text at refusal read end (goes, number, is, which) = rw is (none_ended K s text at number read goes end which)

@@ -57,12 +57,6 @@ no_fault before line role s is goes read head control fault long = sym (last_fau
 
 -- ---- after the end
 
-pub tail_stops : (k : ℕ) (text line : List (List ℕ)) (first : List ℕ) (total : Option ℕ) → text ≡ first ∷ line → tail_fault k text ≡ total → is_tail first ≡ false → Some k ≡ total
-tail_stops k text more first total split so_far bad = let found : tail_fault k text ≡ Some k = rw (split, bad) refl in sym found ∙ so_far
-
-pub tail_goes_on : (k : ℕ) (text more : List (List ℕ)) (first : List ℕ) (total : Option ℕ) → text ≡ first ∷ more → tail_fault k text ≡ total → is_tail first ≡ true → tail_fault (k + 1) more ≡ total
-tail_goes_on k text more first total split so_far good = let found : tail_fault k text ≡ tail_fault (k + 1) more = rw (split, good) refl in sym found ∙ so_far
-
 pub any_more : (line : Role) (before : List Role) → list_any is_file_trailer before ≡ true → list_any is_file_trailer (line ∷ before) ≡ true
 any_more line before e = elim (is_file_trailer line) as (λ b. (b || list_any is_file_trailer before) ≡ true) [ true ↦ refl | false ↦ e ]
 

@@ -13,27 +13,18 @@ use Rattle.cwr_grammar.specs.Before.{in_group, in_transaction, groups, transacti
 use Rattle.cwr_grammar.specs.Counted.{counts_of, FitsHeader}
 use Rattle.cwr_grammar.specs.FirstFault.{role_fault, line_fault}
 use Rattle.cwr_grammar.specs.RawParts.{RawParts}
-use Rattle.cwr_record.specs.RecordTypes.{type_of}
-use Rattle.cwr_record.specs.declared.control.Header.{Header}
-use Rattle.cwr_record.specs.declared.record_type.RecordType.{RecordType}
-use Rattle.cwr_grammar.specs.Roles.{role_of, role_at}
-use Rattle.cwr_grammar.specs.Visiting.{is_detail, leaves_open, closed, whole_after, open_after, with_line, HasAtMost, MayBeGiven, WasGiven}
+use Rattle.cwr_grammar.specs.Roles.{role_of}
+use Rattle.cwr_grammar.specs.Visiting.{is_detail, leaves_open, closed, whole_after, open_after, with_line, HasAtMost, MayBeGiven}
 use Rattle.cwr_grammar.proofs.Accepted.{detail_is, head_is, head_named, file_head_is, unnamed_is, file_end_is}
 use Rattle.cwr_grammar.specs.Collected.{details, raws, raws_after}
-use Rattle.cwr_grammar.specs.Submitted.{IsReadTo, IsHeaded}
-use Rattle.cwr_grammar.proofs.FileBounds.{file_bounds}
 use Rattle.cwr_grammar.proofs.Numbers.{HasSmallNumbers, clear_role, small_role}
-use Rattle.cwr_grammar.proofs.OneLineFurther.{OneLine, going_begins, goes_on, no_trailer, trailer, ends_on}
+use Rattle.cwr_grammar.proofs.OneLineFurther.{IsReadTo, OneLine, going_begins, goes_on, no_trailer, trailer, ends_on}
 use Rattle.cwr_grammar.specs.ReadUpTo.{IsOpen, going_on, IsGiven, Visiting}
 
 -- ---- what is open
 
 pub open_begins : (s : FileCounts) → s ≡ counts_of [] → IsOpen s false None
 open_begins s is = rw is (record { open_is = refl; counted = refl; long = tt; few = tt })
-
-none_there : (o : Option RawParts) → is_some o ≡ false → o ≡ None
-none_there None e = refl
-none_there (Some t) e = absurd cc
 
 small_place : (o : Option ℕ) (n : ℕ) → o ≡ Some n → IfSome o (λ m. m < 10 ^ 8) → n ≤ most_count
 small_place None n e h = absurd cc
@@ -196,15 +187,6 @@ pub gave_detail : (K L : List RawParts → Option RawParts → Type 0) (line : L
 gave_detail K L line gives whole (Some t) e kept = gives whole t kept
 gave_detail K L line gives whole None e kept = absurd cc
 
-pub gave_end : (K L : List RawParts → Option RawParts → Type 0) → ((whole : List RawParts) (t : RawParts) → K whole (Some t) → L (whole ++ t ∷ []) None)
-    → (whole : List RawParts) (current : Option RawParts) → is_some current ≡ true → K whole current → L (closed whole current) None
-gave_end K L ends whole (Some t) e kept = ends whole t kept
-gave_end K L ends whole None e kept = absurd cc
-
-pub gave_none : (K : List RawParts → Option RawParts → Type 0) (whole : List RawParts) (current : Option RawParts) → is_some current ≡ false → K whole current → K (closed whole current) None
-gave_none K whole (Some t) e kept = absurd cc
-gave_none K whole None e kept = kept
-
 closed_few : (whole : List RawParts) (current : Option RawParts) (n : ℕ) → length whole ≤ n → length (closed whole current) ≤ n + 1
 closed_few whole None n le = omega (arith, le)
 closed_few whole (Some t) n le = omega (arith, le, length-append whole (t ∷ []))
@@ -271,20 +253,6 @@ visiting_ends K text s next at n before is_open whole current line role v one en
     let given = subst (λ (ls : List (List ℕ)). IsGiven (raws (lines text) 0 0) whole current s.groups s.transactions ls) one.split v.given in
     ends_on text (whole_after role whole current) s next at n before line role v.going one (given_whole role (raws (lines text) 0 0) whole current s.groups s.transactions line (lines (drop (at + n) text)) (sym one.read) last given) ended
 
--- the visitor was given the whole file
-pub visited : (K : List RawParts → Option RawParts → Type 0) (text : List ℕ) (s : FileCounts) (at : ℕ) (whole : List RawParts) (head : Header) (group_count record_count : ℕ)
-    → K whole None → IsReadTo text whole s at → IsHeaded (lines text) head → group_count ≡ s.groups → record_count ≡ s.lines → WasGiven K text head group_count record_count
-visited K text s at whole head group_count record_count kept read headed groups_are records_are =
-    let parts = read.parts headed.file headed.formed in
-    record {
-      file = headed.file;
-      transactions = whole;
-      formed = headed.formed;
-      kept = kept;
-      submission = record { header = headed.header; transactions = parts.transactions; groups = groups_are ∙ parts.groups; records = records_are ∙ parts.records };
-      bounds = file_bounds text headed.file head whole headed.formed headed.header parts.transactions;
-    }
-
 -- after TRL nothing is open
 pub none_after : (role : Role) (line : List ℕ) (g t : ℕ) (current : Option RawParts) → is_file_trailer role ≡ true → open_after role line g t current ≡ None
 none_after (FileTrailer a b c) line g t current e = refl
@@ -294,10 +262,6 @@ none_after (GroupTrailer i a b) line g t current e = absurd cc
 none_after (GroupHeader kind i) line g t current e = absurd cc
 none_after (TransactionHeader k j d) line g t current e = absurd cc
 none_after (Detail j d) line g t current e = absurd cc
-
--- the role of a line by its record type
-pub read_type : (role : Role) (record_type : RecordType) (line : List ℕ) → role ≡ role_at record_type line → record_type ≡ type_of line → role ≡ role_of line
-read_type role record_type line role_is type_is = role_is ∙ ap (λ (r : RecordType). role_at r line) type_is
 
 pub visiting_kept : (K L : List RawParts → Option RawParts → Type 0) (text : List ℕ) (s next : FileCounts) (at n : ℕ) (before : List (List ℕ)) (is_open : Bool) (whole : List RawParts) (current : Option RawParts) (line : List ℕ) (role : Role)
     → Visiting K text s at before is_open whole current → OneLine text before at n line role next → next.is_ended ≡ true

@@ -16,7 +16,7 @@ use Rattle.cwr_grammar.specs.FirstFault.{first_fault, first_fault_after, tail_fa
 use Rattle.cwr_grammar.specs.RawParts.{RawParts}
 use Rattle.cwr_grammar.specs.Roles.{role_of}
 use Rattle.cwr_grammar.specs.Submitted.{AreParts}
-use Rattle.cwr_grammar.specs.Visiting.{HasAtMost}
+use Rattle.cwr_grammar.specs.Visiting.{HasAtMost, leaves_open}
 
 -- the lines before a position have no fault, and are counted; what is still to come decides on the text
 pub record Going (text : List ℕ) (counts : FileCounts) (at : ℕ) (before : List (List ℕ)) : Type 0 where
@@ -72,6 +72,13 @@ at_start = record { counts = counts_of []; is_open = false; header = None; tail 
 abbrev pub HeadAfter : Option Header → Role → List ℕ → Option Header → Type 0
 HeadAfter head (FileHeader valid) line next = (header : Header) × (next ≡ Some header) × StandsFor table.header line header
 HeadAfter head _ line next = next ≡ head
+
+-- a reader has gone past one line more, which has this role
+pub record IsPast (s next : ReaderState) (line : List ℕ) (role : Role) : Type 0 where
+  pub counted : (before : List Role) → s.counts ≡ counts_of before → next.counts ≡ counts_of (role ∷ before)
+  pub is_open : next.is_open ≡ leaves_open role
+  pub header : HeadAfter s.header role line next.header
+  pub tail : next.tail ≡ s.tail
 
 -- the file has not ended at this position, and its lines before have no fault
 pub record GoesOnAt (keeps : List RawParts → Option RawParts → Type 0) (s : ReaderState) (text : List ℕ) (at : ℕ) : Type 0 where

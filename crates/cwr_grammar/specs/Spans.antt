@@ -1,6 +1,6 @@
 -- The spans of transactions in the bytes of a file.
-use Rattle.std.specs.Prelude.{ℕ, ◌≤◌, List, [], ◌∷◌, length, map, Option, Some, None}
-use Rattle.std.specs.List.{slice_range}
+use Rattle.std.specs.Prelude.{ℕ, ◌+◌, ◌≡◌, ◌≤◌, ◌<◌, List, [], ◌∷◌, ◌++◌, length, map, take, drop, Option, Some, None}
+use Rattle.std.specs.List.{slice_range, AllByRecursion}
 use Rattle.std.specs.Str.Lines.{lines}
 use Rattle.cwr_grammar.specs.declared.role.Role.{Role}
 use Rattle.cwr_grammar.specs.declared.role.Role.TheVariants.{TransactionHeader, Detail}
@@ -44,3 +44,25 @@ abbrev pub opened_by : Role → ℕ → ℕ → ℕ → Option Open → Option O
 opened_by (Detail transaction place) at g t current = current
 opened_by (TransactionHeader (Some kind) transaction place) at g t current = Some (record { start = at; group = g; sequence = t; kind = kind })
 opened_by _ at g t current = None
+
+-- the open transaction as it stands up to a position
+abbrev pub open_at : List ℕ → ℕ → Option Open → Option RawParts
+open_at text at None = None
+open_at text at (Some o) = Some (record { group = o.group; sequence = o.sequence; kind = o.kind; lines = lines (slice_range text o.start at) })
+
+-- it begins before that position, and there, if the text goes on, ends a line
+abbrev pub IsOpenAt : List ℕ → ℕ → Option Open → Type 0
+IsOpenAt text at None = Unit {0}
+IsOpenAt text at (Some o) = (o.start ≤ at) × (at < length text → (more : List ℕ) → lines (slice_range text o.start at ++ more) ≡ lines (slice_range text o.start at) ++ lines more)
+
+-- the spans that were taken up to a position have these transactions, and this one is open
+pub record Placed (text : List ℕ) (spans : List Span) (current : Option Open) (at : ℕ) (whole : List RawParts) (opened : Option RawParts) : Type 0 where
+  pub inside : AllByRecursion (IsInside text) spans
+  pub goes : IsOpenAt text at current
+  pub whole_is : whole ≡ raws_at text spans
+  pub opened_is : opened ≡ open_at text at current
+
+-- n bytes at a position are a line and, if the text goes on, its end
+pub record IsLineAt (line text : List ℕ) (at n : ℕ) : Type 0 where
+  pub alone : lines (take n (drop at text)) ≡ line ∷ []
+  pub whole : at + n < length text → (more : List ℕ) → lines (take n (drop at text) ++ more) ≡ line ∷ lines more

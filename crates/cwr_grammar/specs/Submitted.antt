@@ -1,20 +1,15 @@
 -- What the reader of a file answers: the file, or its first fault.
-use Rattle.std.specs.Prelude.{ℕ, ◌+◌, ◌*◌, ◌≡◌, ◌≤◌, ◌<◌, ◌^◌, true, List, ◌∷◌, length, drop, IsTrue}
+use Rattle.std.specs.Prelude.{ℕ, ◌*◌, ◌≡◌, ◌≤◌, List, length, IsTrue}
 use Rattle.std.specs.List.{AllByRecursion}
-use Rattle.std.specs.Str.Lines.{lines}
 use Rattle.cwr_record.specs.Control as table
 use Rattle.cwr_record.specs.Layout.{StandsFor}
 use Rattle.cwr_field.specs.Layout.{is_printable}
 use Rattle.cwr_record.specs.declared.control.Header.{Header}
-use Rattle.cwr_grammar.specs.declared.role.Role.TheVariants.{FileHeader}
 use Rattle.cwr_grammar.specs.declared.refusal.FileRefusal.{FileRefusal}
 use Rattle.cwr_grammar.specs.declared.refusal.FileRefusal.TheVariants.{Memory, Fault}
-use Rattle.cwr_grammar.specs.Roles.{role_of}
 use Rattle.cwr_grammar.specs.Faults.{IsLeastFault}
-use Rattle.cwr_grammar.specs.File.{File, IsFile, records_of}
+use Rattle.cwr_grammar.specs.File.{File, records_of}
 use Rattle.cwr_grammar.specs.RawParts.{RawParts, IsPlaced, lines_in, raws_of}
-use Rattle.cwr_grammar.specs.declared.file_counts.FileCounts.{FileCounts}
-use Rattle.cwr_grammar.specs.FirstFault.{first_fault, tail_fault, with_eleven}
 
 -- the file as it is handed out: its header, its transactions, how many groups and how many records it has
 pub record IsSubmission (f : File) (head : Header) (found : List RawParts) (group_count record_count : ℕ) : Type 0 where
@@ -35,32 +30,8 @@ abbrev pub IsRefusal : List (List ℕ) → FileRefusal → Type 0
 IsRefusal text Memory = Unit {0}
 IsRefusal text (Fault number line) = IsLeastFault text line number
 
--- the first line is a valid HDR
-abbrev pub BeginsWithHeader : List (List ℕ) → Type 0
-BeginsWithHeader text = (first : List ℕ) × (more : List (List ℕ)) × (text ≡ first ∷ more) × (role_of first ≡ FileHeader true)
-
 -- what was taken of a file is its transactions, and the counts are its own
 pub record AreParts (f : File) (found : List RawParts) (group_count record_count : ℕ) : Type 0 where
   pub transactions : found ≡ raws_of 1 f.groups
   pub groups : group_count ≡ length f.groups
   pub records : record_count ≡ length (records_of f)
-
--- A text was read up to its TRL without a fault, which ends before a position. What follows decides alone whether the
--- text is a file.
-pub record IsEndedAt (text : List ℕ) (s : FileCounts) (at : ℕ) : Type 0 where
-  pub inside : at ≤ length text
-  pub few : s.lines ≤ at
-  pub few_groups : s.groups < 10 ^ 5
-  pub few_records : s.lines < 10 ^ 8
-  pub fault : first_fault (lines text) ≡ with_eleven (tail_fault (s.lines + 1) (lines (drop at text)))
-
--- and if it is one, these are its parts
-pub record IsReadTo (text : List ℕ) (found : List RawParts) (s : FileCounts) (at : ℕ) : Type 0 where
-  pub ended : IsEndedAt text s at
-  pub parts : (f : File) → IsFile (lines text) f → AreParts f found s.groups s.lines
-
--- a text is a file with this header
-pub record IsHeaded (text : List (List ℕ)) (head : Header) : Type 0 where
-  pub file : File
-  pub formed : IsFile text file
-  pub header : StandsFor table.header file.header head

@@ -1,16 +1,12 @@
-ghost use Rattle.std.specs.Prelude.{◌≡◌, ◌==◌, ◌∷◌, ◌++◌, ℕ, List, IfOk, IfErr, IfSome, IfNone, IsSome, IsTrue};
+ghost use Rattle.std.specs.Prelude.{◌==◌, ◌++◌, ℕ, List, IfSome, IfNone, IsSome, IsTrue};
 ghost use Rattle.std.specs.List.{position};
 ghost use Rattle.std.specs.Str.Lines.{lines};
 ghost use Rattle.cwr_record.specs.Control as table;
 ghost use Rattle.cwr_record.specs.Layout.{StandsFor};
 ghost use Rattle.cwr_field.specs.Layout.{is_printable};
 ghost use Rattle.cwr_grammar.specs.File.{File, IsFile};
-ghost use Rattle.cwr_grammar.specs.Submitted.{BeginsWithHeader, IsEndedAt, IsHeaded, IsRefusal};
 
-use crate::fault::tail_fault;
-use crate::file_counts::FileCounts;
 use crate::lines::first_line;
-use crate::refusal::FileRefusal;
 use cwr_field::is_printable;
 use cwr_record::{Header, read_header};
 
@@ -45,40 +41,4 @@ pub fn file_header(bytes: &[u8]) -> Option<Header>
         Ok(header) => Some(header),
         Err(_) => None,
     }
-}
-
-/// The envelope of a file whose trailer ends before a position, unless a line after that has a fault.
-pub(crate) fn envelope_of(
-    bytes: &[u8],
-    at: usize,
-    counts: &FileCounts,
-) -> Result<Envelope, FileRefusal>
-    requires { IsEndedAt bytes.now counts.now at }
-    ensures header { IfOk result (λ envelope. IsHeaded (lines bytes.now) envelope.header) }
-    ensures groups { IfOk result (λ envelope. envelope.groups ≡ counts.now.groups) }
-    ensures records { IfOk result (λ envelope. envelope.records ≡ counts.now.lines) }
-    ensures fault { IfErr result (IsRefusal (lines bytes.now)) }
-{
-    if let Some(line) = tail_fault(&bytes[at..], counts.lines + 1) {
-        return Err(FileRefusal::Fault { number: 11, line });
-    }
-    Ok(Envelope {
-        header: header_of(bytes),
-        groups: counts.groups as u32,
-        records: counts.lines as u32,
-    })
-}
-
-/// The file header that the first line is.
-fn header_of(bytes: &[u8]) -> Header
-    requires { BeginsWithHeader (lines bytes.now) }
-    ensures { (first : List ℕ) (more : List (List ℕ)) → lines bytes.now ≡ first ∷ more → StandsFor table.header first result }
-{
-    let Some(line) = first_line(bytes) else {
-        unreachable!()
-    };
-    let Ok(header) = read_header(line.bytes) else {
-        unreachable!()
-    };
-    header
 }

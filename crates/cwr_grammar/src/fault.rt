@@ -1,13 +1,11 @@
-ghost use Rattle.std.specs.Prelude.{◌≡◌, ◌+◌, ◌<◌, ◌^◌, ℕ, true, false, List, length, map};
-ghost use Rattle.std.specs.Str.Lines.{lines};
+ghost use Rattle.std.specs.Prelude.{◌≡◌, ℕ, true, false, List, map};
 ghost use Rattle.cwr_grammar.specs.declared.role.Role.{Role};
 ghost use Rattle.cwr_grammar.specs.Roles.{role_of};
 ghost use Rattle.cwr_grammar.specs.FaultTests.{is_headless, has_control, is_tail};
-ghost use Rattle.cwr_grammar.specs.FirstFault.{line_fault, tail_fault};
+ghost use Rattle.cwr_grammar.specs.FirstFault.{line_fault};
 ghost use Rattle.cwr_grammar.specs.Counted.{counts_of, AreSmall};
 
 use crate::file_counts::FileCounts;
-use crate::lines::first_line;
 use crate::role::Role;
 use cwr_field::is_printable;
 
@@ -39,23 +37,7 @@ pub(crate) fn fault_of(counts: &FileCounts, line: &[u8], is_clean: bool, role: &
     }
 }
 
-/// Of lines that follow the end of the file, the first that may not, where the first of them has this number.
-pub(crate) fn tail_fault(text: &[u8], number: u64) -> Option<u64>
-    requires { number + length text.now < 2 ^ 64 }
-    ensures { result ≡ tail_fault number (lines text.now) }
-{
-    let mut rest = text;
-    let mut number = number;
-    while let Some(line) = first_line(rest) {
-        if !is_tail(line.bytes) {
-            return Some(number);
-        }
-        number += 1;
-        rest = &rest[line.size..];
-    }
-    None
-}
-
+/// Whether a line may follow the end of the file.
 pub(crate) fn is_tail(line: &[u8]) -> bool
     ensures { result ≡ is_tail line.now }
 {

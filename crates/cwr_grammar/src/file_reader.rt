@@ -1,14 +1,15 @@
-ghost use Rattle.std.specs.Prelude.{◌≡◌, ◌+◌, ◌≤◌, ◌<◌, ◌==◌, ◌^◌, ℕ, List, Some, None, true, false, drop, length, map, IfOk, IfErr, OnOk};
+ghost use Rattle.std.specs.Prelude.{◌≡◌, ◌+◌, ◌≤◌, ◌<◌, ◌==◌, ◌^◌, ◌⊎◌, ℕ, List, Some, None, true, false, drop, length, map, IfOk, IfErr, OnOk};
 ghost use Rattle.std.specs.List.{position};
 ghost use Rattle.std.specs.Str.Lines.{lines};
 ghost use Rattle.cwr_grammar.specs.Awaited.{next_detail, next_header};
-ghost use Rattle.cwr_grammar.specs.Counted.{counts_of};
+ghost use Rattle.cwr_grammar.specs.Counted.{counts_of, AreSmall};
 ghost use Rattle.cwr_grammar.specs.FaultTests.{has_control, is_tail};
 ghost use Rattle.cwr_grammar.specs.File.{IsPlain};
 ghost use Rattle.cwr_grammar.specs.FirstFault.{line_fault};
-ghost use Rattle.cwr_grammar.specs.ReadUpTo.{IsNextLine, IsReadUpTo, StandsAt, HeadAfter, at_start};
+ghost use Rattle.cwr_grammar.specs.ReadUpTo.{IsNextLine, IsPast, IsReadUpTo, StandsAt, HeadAfter, at_start};
 ghost use Rattle.cwr_record.specs.RecordTypes.{type_of};
 ghost use Rattle.cwr_grammar.specs.Roles.{role_of};
+ghost use Rattle.cwr_grammar.specs.Spans.{IsLineAt, Placed};
 ghost use Rattle.cwr_grammar.specs.Submitted.{IsRefusal};
 ghost use Rattle.cwr_grammar.specs.Visiting.{WasGiven};
 ghost use Rattle.cwr_grammar.specs.declared.refusal.FileRefusal.TheVariants.{Fault};
@@ -19,11 +20,13 @@ use crate::envelope::Envelope;
 use crate::fault::{LONGEST_LINE, fault_of, is_tail};
 use crate::file_counts::FileCounts;
 use crate::line_lengths::LineLengths;
-use crate::lines::first_line_near;
+use crate::lines::{FirstLine, first_line_near};
 use crate::refusal::FileRefusal;
-use crate::role::{Role, role_at};
+use crate::role::{Role, leaves_open, role_at};
+use crate::span::{Open, Span, take_line};
 use crate::visitor::{Visitor, give};
 use cwr_record::{Header, RecordType, WorkKind, read_header, type_of};
+use std::alloc::Allocator;
 use std::marker::Model;
 
 /// Reads a file whose bytes come a piece at a time, and gives its transactions to a visitor on its way.
@@ -122,6 +125,16 @@ impl FileReader {
             self.take_line(visitor, line.bytes, line.is_clean)?;
             at += line.size;
         }
+        self.envelope()
+    }
+
+    /// The envelope of a file, of which no line is left, unless it lacks its end.
+    pub(crate) fn envelope(self) -> Result<Envelope, FileRefusal>
+        requires few { self.counts.lines < 2 ^ 63 }
+        requires ended { self.counts.is_ended ≡ true → (self.counts.groups < 10 ^ 5) × (self.counts.lines < 10 ^ 8) × (self.header ≡ None → ⊥) }
+        ensures found { IfOk result (λ envelope. (self.counts.is_ended ≡ true) × (self.header ≡ Some envelope.header) × (envelope.groups ≡ self.counts.groups) × (envelope.records ≡ self.counts.lines)) }
+        ensures fault { IfErr result (λ refusal. (self.counts.is_ended ≡ false) × (number : ℕ) × (refusal ≡ Fault number (self.counts.lines + 1)) × (((self.counts.lines ≡ 0) × (number ≡ 1)) ⊎ ((0 < self.counts.lines) × (number ≡ 11)))) }
+    {
         let FileReader {
             counts,
             awaited: _,
@@ -156,9 +169,8 @@ impl FileReader {
         ensures taken { OnOk result ((first : V) (text : List ℕ) (at n : ℕ) → IsNextLine line.now text at n → IsReadUpTo (V.keeps first visitor.old) self.old text at → IsReadUpTo (V.keeps first visitor.new) self.new text (at + n)) }
         ensures fault { IfErr result (λ refusal. (first : V) (text : List ℕ) (at n : ℕ) → IsNextLine line.now text at n → IsReadUpTo (V.keeps first visitor.old) self.old text at → IsRefusal (lines text) refusal) }
     {
-        // Most lines are the next detail of the open transaction, and most others the header of the next one. One that is
-        // shorter than the columns that are read here is neither, and where they are all there, no test of each is made.
-        if self.is_open && is_clean && line.len() >= PREFIX_SIZE && line.len() <= LONGEST_LINE {
+        // Most lines are the next detail of the open transaction, and most others the header of the next one.
+        if self.is_open && is_plain(line, is_clean) {
             let record_type = type_of(line);
             if self.awaited.is_next(&self.counts, record_type, line) {
                 return self.take_detail(visitor, line, record_type);
@@ -188,9 +200,19 @@ impl FileReader {
         ensures fault { IfErr result (λ refusal. (first : V) (text : List ℕ) (at n : ℕ) → IsNextLine line.now text at n → IsReadUpTo (V.keeps first visitor.old) self.old text at → IsRefusal (lines text) refusal) }
     {
         visitor.detail(line, record_type)?;
+        self.pass_detail();
+        Ok(())
+    }
+
+    /// Goes past the next detail of the open transaction.
+    #[inline(always)]
+    fn pass_detail(&mut self)
+        requires opened { self.old.is_open ≡ true }
+        requires small { AreSmall self.old.counts }
+        ensures { (line : List ℕ) → IsPast self.old self.new line (next_detail self.old.counts) }
+    {
         self.awaited.pass_line(&self.counts);
         self.counts.add_line();
-        Ok(())
     }
 
     /// Goes past the header of the transaction that comes next in the group of the open one, which so has no fault.
@@ -233,34 +255,7 @@ impl FileReader {
             return Ok(());
         }
         let record_type = type_of(line);
-        let role = role_at(record_type, line);
-        self.take_as(visitor, line, is_clean, record_type, role)
-    }
-
-    /// Goes past the next line, of this role, before the file's end.
-    #[inline(always)]
-    fn take_as<V: Visitor>(
-        &mut self,
-        visitor: &mut V,
-        line: &[u8],
-        is_clean: bool,
-        record_type: RecordType,
-        role: Role,
-    ) -> Result<(), FileRefusal>
-        requires clean { is_clean ≡ true → has_control line.now ≡ false }
-        requires goes { self.old.counts.is_ended ≡ false }
-        requires read { record_type ≡ type_of line.now }
-        requires role { role ≡ role_of line.now }
-        requires next { (first : V) × (text : List ℕ) × (at : ℕ) × (n : ℕ) × IsReadUpTo (V.keeps first visitor.old) self.old text at × IsNextLine line.now text at n × (at + n < 2 ^ 63) }
-        ensures taken { OnOk result ((first : V) (text : List ℕ) (at n : ℕ) → IsNextLine line.now text at n → IsReadUpTo (V.keeps first visitor.old) self.old text at → IsReadUpTo (V.keeps first visitor.new) self.new text (at + n)) }
-        ensures fault { IfErr result (λ refusal. (first : V) (text : List ℕ) (at n : ℕ) → IsNextLine line.now text at n → IsReadUpTo (V.keeps first visitor.old) self.old text at → IsRefusal (lines text) refusal) }
-    {
-        if let Some(number) = fault_of(&self.counts, line, is_clean, &role) {
-            return Err(FileRefusal::Fault {
-                number,
-                line: self.counts.lines + 1,
-            });
-        }
+        let role = self.clear_role(record_type, line, is_clean)?;
         self.take_clear(visitor, line, record_type, role)
     }
 
@@ -281,7 +276,7 @@ impl FileReader {
         ensures taken { OnOk result ((first : V) (text : List ℕ) (at n : ℕ) → IsNextLine line.now text at n → IsReadUpTo (V.keeps first visitor.old) self.old text at → IsReadUpTo (V.keeps first visitor.new) self.new text (at + n)) }
         ensures fault { IfErr result (λ refusal. (first : V) (text : List ℕ) (at n : ℕ) → IsNextLine line.now text at n → IsReadUpTo (V.keeps first visitor.old) self.old text at → IsRefusal (lines text) refusal) }
     {
-        self.is_open = give(
+        give(
             visitor,
             self.is_open,
             line,
@@ -289,10 +284,90 @@ impl FileReader {
             &role,
             &self.counts,
         )?;
-        keep_header(&mut self.header, &role, line);
-        self.awaited.pass(&self.counts, &role);
-        self.counts.add(&role);
+        self.pass(line, &role);
         Ok(())
+    }
+
+    /// Goes past the next line, and takes the place of the transaction that it ends. Answers the one that is open then.
+    pub(crate) fn place_line<A: Allocator>(
+        &mut self,
+        spans: &mut Vec<Span, A>,
+        current: Option<Open>,
+        at: usize,
+        line: &FirstLine<'_>,
+    ) -> Result<Option<Open>, FileRefusal>
+        requires clean { line.now.is_clean ≡ true → has_control line.now.bytes.now ≡ false }
+        requires next { (text : List ℕ) × IsReadUpTo (Placed text spans.old.items current at) self.old text at × IsNextLine line.now.bytes.now text at line.now.size × (at + line.now.size < 2 ^ 63) }
+        ensures taken { IfOk result (λ next. (text : List ℕ) → IsNextLine line.now.bytes.now text at line.now.size → IsLineAt line.now.bytes.now text at line.now.size → IsReadUpTo (Placed text spans.old.items current at) self.old text at
+            → IsReadUpTo (Placed text spans.new.items next (at + line.now.size)) self.new text (at + line.now.size)) }
+        ensures fault { IfErr result (λ refusal. (text : List ℕ) → IsNextLine line.now.bytes.now text at line.now.size → IsReadUpTo (Placed text spans.old.items current at) self.old text at → IsRefusal (lines text) refusal) }
+    {
+        if self.is_next_detail(line) {
+            self.pass_detail();
+            return Ok(current);
+        }
+        if self.counts.is_ended {
+            self.take_tail(line.bytes)?;
+            return Ok(current);
+        }
+        let role = self.clear_role(type_of(line.bytes), line.bytes, line.is_clean)?;
+        let next = take_line(spans, current, at, &role, &self.counts)?;
+        self.pass(line.bytes, &role);
+        Ok(next)
+    }
+
+    /// Whether the next line is the next detail of the open transaction, which so has no fault.
+    #[inline(always)]
+    fn is_next_detail(&self, line: &FirstLine<'_>) -> bool
+        requires clean { line.now.is_clean ≡ true → has_control line.now.bytes.now ≡ false }
+        requires small { self.now.is_open ≡ true → AreSmall self.now.counts }
+        ensures { result ≡ true → (self.now.is_open ≡ true) × (self.now.counts.is_ended ≡ false) × IsPlain line.now.bytes.now × (role_of line.now.bytes.now ≡ next_detail self.now.counts) }
+    {
+        self.is_open
+            && is_plain(line.bytes, line.is_clean)
+            && self
+                .awaited
+                .is_next(&self.counts, type_of(line.bytes), line.bytes)
+    }
+
+    /// The role of the next line before the file's end, which so has no fault.
+    #[inline(always)]
+    fn clear_role(
+        &self,
+        record_type: RecordType,
+        line: &[u8],
+        is_clean: bool,
+    ) -> Result<Role, FileRefusal>
+        requires clean { is_clean ≡ true → has_control line.now ≡ false }
+        requires goes { self.now.counts.is_ended ≡ false }
+        requires small { AreSmall self.now.counts }
+        requires read { record_type ≡ type_of line.now }
+        ensures role { IfOk result (λ role. role ≡ role_of line.now) }
+        ensures clear { OnOk result ((before : List (List ℕ)) → self.now.counts ≡ counts_of (map role_of before) → None ≡ line_fault before line.now) }
+        ensures fault { IfErr result (λ refusal. (number : ℕ) × (refusal ≡ Fault number (self.now.counts.lines + 1)) × ((before : List (List ℕ)) → self.now.counts ≡ counts_of (map role_of before) → Some number ≡ line_fault before line.now)) }
+    {
+        let role = role_at(record_type, line);
+        if let Some(number) = fault_of(&self.counts, line, is_clean, &role) {
+            return Err(FileRefusal::Fault {
+                number,
+                line: self.counts.lines + 1,
+            });
+        }
+        Ok(role)
+    }
+
+    /// Goes past a line of this role, which has no fault.
+    #[inline(always)]
+    fn pass(&mut self, line: &[u8], role: &Role)
+        requires role { role.now ≡ role_of line.now }
+        requires goes { self.old.counts.is_ended ≡ false }
+        requires clear { (before : List (List ℕ)) × (self.old.counts ≡ counts_of (map role_of before)) × (None ≡ line_fault before line.now) × (length before < 2 ^ 63) }
+        ensures { IsPast self.old self.new line.now role.now }
+    {
+        keep_header(&mut self.header, role, line);
+        self.awaited.pass(&self.counts, role);
+        self.counts.add(role);
+        self.is_open = leaves_open(role);
     }
 
     /// Goes past a line that follows the file's end.
@@ -311,6 +386,16 @@ impl FileReader {
         self.tail += 1;
         Ok(())
     }
+}
+
+/// Whether a line has no fault of its own, and the columns that tell the next detail and the next header: where they are
+/// all there, no test of each is made.
+#[inline(always)]
+fn is_plain(line: &[u8], is_clean: bool) -> bool
+    requires { is_clean ≡ true → has_control line.now ≡ false }
+    ensures { result ≡ true → IsPlain line.now }
+{
+    is_clean && line.len() >= PREFIX_SIZE && line.len() <= LONGEST_LINE
 }
 
 /// Keeps the header, where a line is one.

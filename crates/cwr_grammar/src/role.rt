@@ -1,12 +1,12 @@
 ghost use Rattle.std.specs.Prelude.{◌≡◌};
 ghost use Rattle.cwr_record.specs.Columns.{field_at, group_head_transaction_type};
 ghost use Rattle.cwr_record.specs.Kinds.{work_kind_named};
-ghost use Rattle.cwr_grammar.specs.Roles.{role_of, role_at, transaction_header, detail, is_dated};
+ghost use Rattle.cwr_grammar.specs.Roles.{role_at, transaction_header, detail, is_dated};
+ghost use Rattle.cwr_grammar.specs.Visiting.{leaves_open};
 
 use cwr_field::{date, time};
 use cwr_record::{
-    FileTrailer, GroupHead, GroupTrailer, Header, Prefix, RecordType, WorkKind, digits_at,
-    field_at, type_of,
+    FileTrailer, GroupHead, GroupTrailer, Header, Prefix, RecordType, WorkKind, digits_at, field_at,
 };
 
 /// A line by its role in a file: what its record opens, goes on with or closes, and the numbers that it states.
@@ -28,13 +28,6 @@ pub(crate) enum Role {
     FileTrailer(Option<u64>, Option<u64>, Option<u64>),
     /// No record type.
     Unnamed,
-}
-
-/// The role of a line.
-pub(crate) fn role_of(line: &[u8]) -> Role
-    ensures { result ≡ role_of line.now }
-{
-    role_at(type_of(line), line)
 }
 
 /// The role of a line with a record of this type.
@@ -70,6 +63,17 @@ pub(crate) fn role_at(record_type: RecordType, line: &[u8]) -> Role
         | RecordType::Carried => detail(line),
         RecordType::Bad => Role::Unnamed,
     }
+}
+
+/// Whether a transaction is open after a line of a role.
+#[inline(always)]
+pub(crate) fn leaves_open(role: &Role) -> bool
+    ensures { result ≡ leaves_open role.now }
+{
+    matches!(
+        *role,
+        Role::Detail(_, _) | Role::TransactionHeader(Some(_), _, _)
+    )
 }
 
 fn transaction_header(kind: Option<WorkKind>, line: &[u8]) -> Role

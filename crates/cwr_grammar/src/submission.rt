@@ -1,17 +1,11 @@
 ghost use Rattle.std.specs.Prelude.{IfOk, IfErr, length};
-ghost use Rattle.std.specs.List.{AllByRecursion};
 ghost use Rattle.std.specs.Str.Lines.{lines};
 ghost use Rattle.cwr_grammar.specs.File.{File, IsFile};
-ghost use Rattle.cwr_grammar.specs.Spans.{IsInside, raws_at};
-ghost use Rattle.cwr_grammar.specs.Submitted.{IsReadTo, IsSubmission, IsBounded, IsRefusal};
+ghost use Rattle.cwr_grammar.specs.Submitted.{IsSubmission, IsBounded, IsRefusal};
 
-use crate::envelope::{Envelope, envelope_of};
-use crate::fault::fault_of;
-use crate::file_counts::FileCounts;
+use crate::file_reader::FileReader;
 use crate::lines::first_line;
 use crate::refusal::FileRefusal;
-use crate::role::role_of;
-use crate::span::{Span, take_line};
 use crate::transactions::Transactions;
 use cwr_record::Header;
 use std::alloc::{Allocator, Global};
@@ -45,53 +39,19 @@ pub fn parse_file<'a, A: Allocator>(
     ensures bounds { IfOk result (λ s. IsBounded (length bytes.now) s.header s.transactions) }
     ensures fault { IfErr result (IsRefusal (lines bytes.now)) }
 {
+    let mut reader = FileReader::new();
     let mut spans = Vec::new(alloc);
-    let mut counts = FileCounts::new();
     let mut current = None;
     let mut at = 0;
     while let Some(line) = first_line(&bytes[at..]) {
-        let role = role_of(line.bytes);
-        if let Some(number) = fault_of(&counts, line.bytes, line.is_clean, &role) {
-            return Err(FileRefusal::Fault {
-                number,
-                line: counts.lines + 1,
-            });
-        }
-        current = take_line(&mut spans, current, at, &role, &counts)?;
-        counts.add(&role);
+        current = reader.place_line(&mut spans, current, at, &line)?;
         at += line.size;
-        if counts.is_ended {
-            return finished(bytes, at, spans, &counts);
-        }
     }
-    Err(FileRefusal::Fault {
-        number: if counts.lines == 0 { 1 } else { 11 },
-        line: counts.lines + 1,
-    })
-}
-
-/// The file whose trailer ends before a position, unless a line after that has a fault.
-fn finished<'a, A: Allocator>(
-    bytes: &'a [u8],
-    at: usize,
-    spans: Vec<Span, A>,
-    counts: &FileCounts,
-) -> Result<Submission<'a, A>, FileRefusal>
-    requires read { IsReadTo bytes.now (raws_at bytes.now spans.items) counts.now at }
-    requires placed { AllByRecursion (IsInside bytes.now) spans.items }
-    ensures found { IfOk result (λ s. (f : File) × IsFile (lines bytes.now) f × IsSubmission f s.header s.transactions s.groups s.records) }
-    ensures bounds { IfOk result (λ s. IsBounded (length bytes.now) s.header s.transactions) }
-    ensures fault { IfErr result (IsRefusal (lines bytes.now)) }
-{
-    let Envelope {
-        header,
-        groups,
-        records,
-    } = envelope_of(bytes, at, counts)?;
+    let envelope = reader.envelope()?;
     Ok(Submission {
-        header,
+        header: envelope.header,
         transactions: Transactions { bytes, spans },
-        groups,
-        records,
+        groups: envelope.groups,
+        records: envelope.records,
     })
 }

@@ -6,7 +6,7 @@ ghost use Rattle.cwr_record.specs.RecordTypes.{type_of};
 ghost use Rattle.cwr_grammar.specs.Counted.{FitsHeader};
 ghost use Rattle.cwr_grammar.specs.RawParts.{RawParts};
 ghost use Rattle.cwr_grammar.specs.Submitted.{IsRefusal};
-ghost use Rattle.cwr_grammar.specs.Visiting.{MayBeGiven, WasGiven, leaves_open, open_after, whole_after, with_line};
+ghost use Rattle.cwr_grammar.specs.Visiting.{MayBeGiven, WasGiven, open_after, whole_after, with_line};
 
 use crate::envelope::Envelope;
 use crate::file_counts::FileCounts;
@@ -66,8 +66,7 @@ pub fn visit_file<V: Visitor>(bytes: &[u8], visitor: &mut V) -> Result<Envelope,
     FileReader::new().finish(visitor, bytes)
 }
 
-/// Gives a line to a visitor: one that is no detail ends the open transaction, and a header opens the next one. Answers
-/// whether one is open then.
+/// Gives a line to a visitor: one that is no detail ends the open transaction, and a header opens the next one.
 #[inline(always)]
 pub(crate) fn give<V: Visitor>(
     visitor: &mut V,
@@ -76,26 +75,23 @@ pub(crate) fn give<V: Visitor>(
     record_type: RecordType,
     role: &Role,
     counts: &FileCounts,
-) -> Result<bool, Memory>
+) -> Result<(), Memory>
     requires fits { FitsHeader role.now counts.now }
     requires read { record_type ≡ type_of line.now }
     requires printable { IsTrue (is_printable line.now) }
     requires kept { (first : V) × (whole : List RawParts) × (current : Option RawParts) × V.keeps first visitor.old whole current × MayBeGiven role.now is_open current × (length whole < 2 ^ 63) }
-    ensures kept { IfOk result (λ _. (first : V) (whole : List RawParts) (current : Option RawParts) → is_some current ≡ is_open → V.keeps first visitor.old whole current
+    ensures { OnOk result ((first : V) (whole : List RawParts) (current : Option RawParts) → is_some current ≡ is_open → V.keeps first visitor.old whole current
         → V.keeps first visitor.new (whole_after role.now whole current) (open_after role.now line.now counts.now.groups counts.now.transactions current)) }
-    ensures is_open { IfOk result (λ next. next ≡ leaves_open role.now) }
 {
     if let Role::Detail(_, _) = *role {
         visitor.detail(line, record_type)?;
-        return Ok(true);
+        return Ok(());
     }
     if is_open {
         visitor.end()?;
     }
     if let Role::TransactionHeader(Some(kind), _, _) = *role {
         visitor.begin(counts.groups as u32, counts.transactions as u32, kind, line)?;
-        Ok(true)
-    } else {
-        Ok(false)
     }
+    Ok(())
 }

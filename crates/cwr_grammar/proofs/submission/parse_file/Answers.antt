@@ -1,55 +1,69 @@
-use Rattle.std.proofs.Common.{[], ◌∷◌, map, arith, inl, inr}
+use Rattle.std.proofs.Common.{◌∙◌, None, refl, sym, arith}
 use Rattle.std.proofs.lemmas.List.{take_rest}
-use Rattle.cwr_grammar.specs.Roles.{role_of}
-use Rattle.cwr_grammar.proofs.Numbers.{fits_header, clear_role}
-use Rattle.cwr_grammar.proofs.OneLineFurther.{going_small, reading_begins, reads_on, reads_whole, ends_on, one_line, whole_at, line_faulty, end_faulty}
+use Rattle.std.proofs.lemmas.Result.{err_from_is_err_and}
+use Rattle.cwr_grammar.specs.Spans.{Placed}
+use Rattle.cwr_grammar.proofs.Placing.{next_here, line_here, placed_file}
+use Rattle.cwr_grammar.proofs.ReadFurther.{few_lines, fits_envelope, envelope_given, envelope_faulty}
+use Rattle.cwr_grammar.proofs.lemmas.Starts.{starts}
 use Rattle.cwr_grammar.proofs.submission.parse_file.Goals as goal
-use Rattle.cwr_grammar.proofs.submission.parse_file.Goals.{then-counts-eq0, else-counts-eq0}
 
 pub loop-line-init : goal.loop-line-init
-loop-line-init g c = ([], reading_begins _ _ _ c.new-spans.ensures.items c.new-counts.ensures)
+loop-line-init g c = record {
+  inside = omega arith;
+  read = rw c.new-reader.ensures (starts (Placed c.args.bytes.now c.new-spans.result.items None 0) c.args.bytes.now (rw c.new-spans.ensures.items (record { inside = tt; goes = tt; whole_is = refl; opened_is = refl })));
+}
 
-pub fault_of-requires-clause-small : goal.fault_of-requires-clause-small
-fault_of-requires-clause-small g c = (let inside = c.loop-line.invariant.1.going.inside in going_small _ _ _ _ c.loop-line.invariant.1.going (omega (arith, inside)))
+pub place_line-requires-clause-next : goal.place_line-requires-clause-next
+place_line-requires-clause-next g c =
+    let i = c.loop-line.invariant in
+    let x = c.in-Some.ensures in
+    let here = next_here c.args.bytes.now _ _ _ _ (take_rest c.args.bytes.now c.loop-line.at) x.some x.inside i.inside x.line in
+    let inside = here.inside in
+    (c.args.bytes.now, i.read, here, omega (arith, inside))
 
-pub returns-in-Some-fault_of-clause-fault : goal.returns-in-Some-fault_of-clause-fault
-returns-in-Some-fault_of-clause-fault g c =
-    let r = c.loop-line.invariant.1 in
-    line_faulty _ _ _ _ _ c.in-Some.line.bytes.now _ _ r.going (take_rest c.args.bytes.now c.loop-line.at) c.in-Some.ensures.line (c.in-Some-fault_of.ensures c.loop-line.invariant.0 r.going.counted)
-
-pub take_line-requires : goal.take_line-requires
-take_line-requires g c =
-    let r = c.loop-line.invariant.1 in
-    fits_header c.loop-line.invariant.0 c.in-Some.line.bytes.now _ _ r.going.counted c.role_of-role.ensures (clear_role c.loop-line.invariant.0 c.in-Some.line.bytes.now r.going.goes (c.in_default-fault_of.ensures c.loop-line.invariant.0 r.going.counted)) r.going.few_groups
-
-pub add-requires : goal.add-requires
-add-requires g c = record { small = (let inside = c.loop-line.invariant.1.going.inside in going_small _ _ _ _ c.loop-line.invariant.1.going (omega (arith, inside))) }
-
-pub finished-requires-clause-read : goal.finished-requires-clause-read
-finished-requires-clause-read g c =
-    let r = c.loop-line.invariant.1 in
-    let one = one_line c.args.bytes.now c.loop-line.invariant.0 c.loop-line.at c.in-Some.line.size c.in-Some.line.bytes.now c.role_of-role.result c.add.new.self _ (take_rest c.args.bytes.now c.loop-line.at)
-    c.in-Some.ensures.line c.in-Some.ensures.some c.in-Some.ensures.inside c.role_of-role.ensures
-    (c.in_default-fault_of.ensures c.loop-line.invariant.0 r.going.counted) (c.add.ensures (map role_of c.loop-line.invariant.0) r.going.counted) in
-    ends_on _ _ _ _ _ _ _ _ _ r.going one (reads_whole _ _ _ _ _ _ _ _ _ _ _ r one c.in_ok-current.ensures.taken c.if-counts.true).found c.if-counts.true
-
-pub finished-requires-clause-placed : goal.finished-requires-clause-placed
-finished-requires-clause-placed g c =
-    let r = c.loop-line.invariant.1 in
-    let one = one_line c.args.bytes.now c.loop-line.invariant.0 c.loop-line.at c.in-Some.line.size c.in-Some.line.bytes.now c.role_of-role.result c.add.new.self _ (take_rest c.args.bytes.now c.loop-line.at)
-    c.in-Some.ensures.line c.in-Some.ensures.some c.in-Some.ensures.inside c.role_of-role.ensures
-    (c.in_default-fault_of.ensures c.loop-line.invariant.0 r.going.counted) (c.add.ensures (map role_of c.loop-line.invariant.0) r.going.counted) in
-    (reads_whole _ _ _ _ _ _ _ _ _ _ _ r one c.in_ok-current.ensures.taken c.if-counts.true).inside
+pub returns-in_err-current-clause-fault : goal.returns-in_err-current-clause-fault
+returns-in_err-current-clause-fault g c =
+    let p = err_from_is_err_and c.from_residual.result c.from_residual.ensures.1 in
+    let i = c.loop-line.invariant in
+    let x = c.in-Some.ensures in
+    rw (p.1, p.2) (c.in_err-current.ensures.fault c.args.bytes.now (next_here c.args.bytes.now _ _ _ _ (take_rest c.args.bytes.now c.loop-line.at) x.some x.inside i.inside x.line) i.read)
 
 pub loop-line-preserved : goal.loop-line-preserved
 loop-line-preserved g c =
-    let r = c.loop-line.invariant.1 in
-    let one = one_line c.args.bytes.now c.loop-line.invariant.0 c.loop-line.at c.in-Some.line.size c.in-Some.line.bytes.now c.role_of-role.result c.add.new.self _ (take_rest c.args.bytes.now c.loop-line.at)
-    c.in-Some.ensures.line c.in-Some.ensures.some c.in-Some.ensures.inside c.role_of-role.ensures
-    (c.in_default-fault_of.ensures c.loop-line.invariant.0 r.going.counted) (c.add.ensures (map role_of c.loop-line.invariant.0) r.going.counted) in
-    (c.in-Some.line.bytes.now ∷ c.loop-line.invariant.0, reads_on _ _ _ _ _ _ _ _ _ _ _ _ r one (whole_at _ _ _ _ _ (take_rest c.args.bytes.now c.loop-line.at) c.in-Some.ensures.whole) c.in_ok-current.ensures.taken c.in_ok-current.ensures.next c.if-counts.false)
+    let i = c.loop-line.invariant in
+    let x = c.in-Some.ensures in
+    let here = next_here c.args.bytes.now _ _ _ _ (take_rest c.args.bytes.now c.loop-line.at) x.some x.inside i.inside x.line in
+    record {
+      inside = here.inside;
+      read = c.in_ok-current.ensures.taken c.args.bytes.now here (line_here c.args.bytes.now _ _ _ _ (take_rest c.args.bytes.now c.loop-line.at) x.line x.whole) i.read;
+    }
 
-pub returns-clause-fault : goal.returns-clause-fault
-returns-clause-fault g c =
-    end_faulty _ _ _ _ _ _ c.loop-line.invariant.1.going (take_rest c.args.bytes.now c.loop-line.at) c.in_default.ensures.none
-    (elim c.if-counts-eq0.branch [ then-counts-eq0 w ↦ inl (w.if-counts-eq0.true, w.result-is) | else-counts-eq0 w ↦ inr (omega (arith, w.if-counts-eq0.false), w.result-is) ])
+pub envelope-requires-clause-few : goal.envelope-requires-clause-few
+envelope-requires-clause-few g c =
+    let few = few_lines _ _ _ _ c.loop-line.invariant.read in
+    let inside = c.loop-line.invariant.inside in
+    omega (arith, few, inside)
+
+pub envelope-requires-clause-ended : goal.envelope-requires-clause-ended
+envelope-requires-clause-ended g c = fits_envelope _ _ _ _ c.loop-line.invariant.read
+
+pub returns-in_err-envelope-clause-fault : goal.returns-in_err-envelope-clause-fault
+returns-in_err-envelope-clause-fault g c =
+    let p = err_from_is_err_and c.from_residual-in_err-envelope.result c.from_residual-in_err-envelope.ensures.1 in
+    rw (p.1, p.2) (envelope_faulty _ _ c.args.bytes.now c.loop-line.at _ c.loop-line.invariant.read (sym (take_rest c.args.bytes.now c.loop-line.at) ∙ c.in_default.ensures.none) c.in_err-envelope.ensures.fault)
+
+-- each place has a transaction
+pub invariant_of-result : goal.invariant_of-result
+invariant_of-result g c =
+    (placed_file c.args.bytes.now c.loop-line.spans.items c.loop-line.current c.loop-line.at c.in_ok-envelope.envelope.header _ _
+    (envelope_given _ _ c.args.bytes.now c.loop-line.at c.in_ok-envelope.envelope c.loop-line.invariant.read (sym (take_rest c.args.bytes.now c.loop-line.at) ∙ c.in_default.ensures.none) c.in_ok-envelope.ensures.found)).spans_are
+
+pub returns-clause-found : goal.returns-clause-found
+returns-clause-found g c =
+    (placed_file c.args.bytes.now c.loop-line.spans.items c.loop-line.current c.loop-line.at c.in_ok-envelope.envelope.header _ _
+    (envelope_given _ _ c.args.bytes.now c.loop-line.at c.in_ok-envelope.envelope c.loop-line.invariant.read (sym (take_rest c.args.bytes.now c.loop-line.at) ∙ c.in_default.ensures.none) c.in_ok-envelope.ensures.found)).found
+
+pub returns-clause-bounds : goal.returns-clause-bounds
+returns-clause-bounds g c =
+    (placed_file c.args.bytes.now c.loop-line.spans.items c.loop-line.current c.loop-line.at c.in_ok-envelope.envelope.header _ _
+    (envelope_given _ _ c.args.bytes.now c.loop-line.at c.in_ok-envelope.envelope c.loop-line.invariant.read (sym (take_rest c.args.bytes.now c.loop-line.at) ∙ c.in_default.ensures.none) c.in_ok-envelope.ensures.found)).bounds

@@ -1,11 +1,9 @@
-use Rattle.std.proofs.Common.{◌∙◌, ◌+◌, ℕ, length, drop, sym, ap, subst, arith, inl, inr}
+use Rattle.std.proofs.Common.{◌∙◌, ◌+◌, ℕ, length, drop, sym, ap, subst, arith}
 use Rattle.std.proofs.lemmas.List.{take_rest, drop-drop, length-drop}
-use Rattle.std.proofs.lemmas.Result.{err_from_is_err_and}
-use Rattle.cwr_grammar.specs.ReadUpTo.{ReaderState, IsReadUpTo}
-use Rattle.cwr_grammar.proofs.OneLineFurther.{going_small}
-use Rattle.cwr_grammar.proofs.ReadFurther.{next_last, none_ended, given, some_header}
+use Rattle.std.proofs.lemmas.Result.{IfErr-weaker, IfOk-weaker, err_from_is_err_and}
+use Rattle.cwr_grammar.specs.ReadUpTo.{IsReadUpTo}
+use Rattle.cwr_grammar.proofs.ReadFurther.{next_last, few_lines, fits_envelope, envelope_given, envelope_faulty}
 use Rattle.cwr_grammar.proofs.file_reader.FileReader.finish.Goals as goal
-use Rattle.cwr_grammar.proofs.file_reader.FileReader.finish.Goals.{then-counts-eq0, else-counts-eq0}
 
 pub take_line-requires-clause-next : goal.take_line-requires-clause-next
 take_line-requires-clause-next g c =
@@ -42,46 +40,24 @@ loop-line-preserved g c =
           (next_last _ _ _ _ _ _ _ here (take_rest c.args.last.now c.loop-line.at) x.some x.inside x.line) (i.read first text at here so_far));
     }
 
-pub returns-then-not-counts-clause-fault : goal.returns-then-not-counts-clause-fault
-returns-then-not-counts-clause-fault g c = λ first text at here so_far.
-    let read = subst (λ (s : ReaderState). IsReadUpTo (g.V.Visitor.keeps first c.loop-line.visitor) s text (at + c.loop-line.at)) (sym c.self.view_is) (c.loop-line.invariant.read first text at here so_far) in
-    let end = drop-drop c.loop-line.at at text in
-    none_ended _ _ text _ _ read c.if-not-counts.true (sym end ∙ ap (drop c.loop-line.at) here ∙ sym (take_rest c.args.last.now c.loop-line.at) ∙ c.in_default.ensures.none)
-    (elim c.if-counts-eq0.branch [ then-counts-eq0 w ↦ inl (w.if-counts-eq0.true, w.result-is) | else-counts-eq0 w ↦ inr (omega (arith, w.if-counts-eq0.false), w.result-is) ])
-
-pub unreachable-requires : goal.unreachable-requires
-unreachable-requires g c =
+pub envelope-requires-clause-few : goal.envelope-requires-clause-few
+envelope-requires-clause-few g c =
     let q = c.requires in
-    let read = subst (λ (s : ReaderState). IsReadUpTo (g.V.Visitor.keeps q.0 c.loop-line.visitor) s q.1 (q.2 + c.loop-line.at)) (sym c.self.view_is) (c.loop-line.invariant.read q.0 q.1 q.2 q.4 q.3) in
-    some_header _ _ q.1 _ read c.if-not-counts.false c.in_default-header.is
+    let few = few_lines _ _ _ _ (c.loop-line.invariant.read q.0 q.1 q.2 q.4 q.3) in
+    let inside = c.loop-line.invariant.inside in
+    omega (arith, few, q.5, inside)
+
+pub envelope-requires-clause-ended : goal.envelope-requires-clause-ended
+envelope-requires-clause-ended g c = let q = c.requires in fits_envelope _ _ _ _ (c.loop-line.invariant.read q.0 q.1 q.2 q.4 q.3)
 
 pub returns-clause-given : goal.returns-clause-given
-returns-clause-given g c = λ first text at here so_far.
-    let read = subst (λ (s : ReaderState). IsReadUpTo (g.V.Visitor.keeps first c.loop-line.visitor) s text (at + c.loop-line.at)) (sym c.self.view_is) (c.loop-line.invariant.read first text at here so_far) in
-    let end = drop-drop c.loop-line.at at text in
-    given _ _ text _ c.in-Some-header.header read c.if-not-counts.false (sym end ∙ ap (drop c.loop-line.at) here ∙ sym (take_rest c.args.last.now c.loop-line.at) ∙ c.in_default.ensures.none)
-    c.in-Some-header.is
+returns-clause-given g c =
+    IfOk-weaker c.envelope.result _ _ (λ envelope found first text at here so_far.
+    envelope_given _ _ text (at + c.loop-line.at) envelope (c.loop-line.invariant.read first text at here so_far)
+    (sym (drop-drop c.loop-line.at at text) ∙ ap (drop c.loop-line.at) here ∙ sym (take_rest c.args.last.now c.loop-line.at) ∙ c.in_default.ensures.none) found) c.envelope.ensures.found
 
-pub overflow_add-result : goal.overflow_add-result
-overflow_add-result g c =
-    let q = c.requires in
-    let read = subst (λ (s : ReaderState). IsReadUpTo (g.V.Visitor.keeps q.0 c.loop-line.visitor) s q.1 (q.2 + c.loop-line.at)) (sym c.self.view_is) (c.loop-line.invariant.read q.0 q.1 q.2 q.4 q.3) in
-    let r = read.goes c.if-not-counts.true in
-    let inside = c.loop-line.invariant.inside in
-    let small = going_small _ _ _ _ r.visiting.going (omega (arith, q.5, inside)) in
-    let few = small.lines in
-    omega (arith, few)
-
-pub overflow_cast-result : goal.overflow_cast-result
-overflow_cast-result g c =
-    let q = c.requires in
-    let read = subst (λ (s : ReaderState). IsReadUpTo (g.V.Visitor.keeps q.0 c.loop-line.visitor) s q.1 (q.2 + c.loop-line.at)) (sym c.self.view_is) (c.loop-line.invariant.read q.0 q.1 q.2 q.4 q.3) in
-    let few = (read.ended c.if-not-counts.false).few_groups in
-    omega (arith, few)
-
-pub overflow_cast-result-2 : goal.overflow_cast-result-2
-overflow_cast-result-2 g c =
-    let q = c.requires in
-    let read = subst (λ (s : ReaderState). IsReadUpTo (g.V.Visitor.keeps q.0 c.loop-line.visitor) s q.1 (q.2 + c.loop-line.at)) (sym c.self.view_is) (c.loop-line.invariant.read q.0 q.1 q.2 q.4 q.3) in
-    let few = (read.ended c.if-not-counts.false).few_records in
-    omega (arith, few)
+pub returns-clause-fault : goal.returns-clause-fault
+returns-clause-fault g c =
+    IfErr-weaker c.envelope.result _ _ (λ refusal faulty first text at here so_far.
+    envelope_faulty _ _ text (at + c.loop-line.at) refusal (c.loop-line.invariant.read first text at here so_far)
+    (sym (drop-drop c.loop-line.at at text) ∙ ap (drop c.loop-line.at) here ∙ sym (take_rest c.args.last.now c.loop-line.at) ∙ c.in_default.ensures.none) faulty) c.envelope.ensures.fault

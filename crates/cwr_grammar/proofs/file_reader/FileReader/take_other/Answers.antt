@@ -1,7 +1,8 @@
-use Rattle.std.proofs.Common.{◌∙◌, sym, ap}
+use Rattle.std.proofs.Common.{◌∙◌, sym, ap, arith}
 use Rattle.std.proofs.lemmas.Result.{err_from_is_err_and}
 use Rattle.cwr_grammar.specs.ReadUpTo.{ReaderState}
-use Rattle.cwr_grammar.proofs.ReadFurther.{tail_taken, tail_faulty}
+use Rattle.cwr_grammar.proofs.OneLineFurther.{going_small}
+use Rattle.cwr_grammar.proofs.ReadFurther.{role_faulty, tail_taken, tail_faulty}
 use Rattle.cwr_grammar.proofs.file_reader.FileReader.take_other.Goals as goal
 
 pub returns-in_err-take_tail-clause-fault : goal.returns-in_err-take_tail-clause-fault
@@ -15,3 +16,15 @@ pub returns-then-self-clause-taken : goal.returns-then-self-clause-taken
 returns-then-self-clause-taken g c = λ first text at n here so_far.
     let ended = ap (λ (s : ReaderState). s.counts.is_ended) (sym c.self.view_is) ∙ c.if-self.true in
     rw c.in_ok-take_tail.ensures.new (tail_taken _ _ _ text at n c.args.line.now so_far ended here c.in_ok-take_tail.ensures.taken (λ whole kept. kept))
+
+pub clear_role-requires-clause-small : goal.clear_role-requires-clause-small
+clear_role-requires-clause-small g c =
+    let q = c.requires.next in
+    let goes = ap (λ (s : ReaderState). s.counts.is_ended) (sym c.self.view_is) ∙ c.if-self.false in
+    going_small _ _ _ _ (q.4.goes goes).visiting.going (omega (arith, q.6))
+
+pub returns-in_err-role-clause-fault : goal.returns-in_err-role-clause-fault
+returns-in_err-role-clause-fault g c =
+    let p = err_from_is_err_and c.from_residual-in_err-role.result c.from_residual-in_err-role.ensures.1 in
+    let goes = ap (λ (s : ReaderState). s.counts.is_ended) (sym c.self.view_is) ∙ c.if-self.false in
+    rw (p.1, p.2) (λ first text at n here so_far. role_faulty _ _ text at n c.args.line.now _ so_far goes here c.in_err-role.ensures.fault)
