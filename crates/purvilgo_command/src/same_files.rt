@@ -110,11 +110,11 @@ impl Written {
 /// Files are one where they have one device and number, so by any path and by any link. A name that leads to no file
 /// counts as the name of its directory where the file would be made. What the system tells nothing of is one with
 /// nothing. A draft may be one with the file that it is to replace: it is made anew before it is written.
-pub(crate) fn is_one_file_twice<R: AllocGlobal + Files>(
-    rt: &R,
-    files: &[&str],
-    from: Option<&str>,
-    targets: &Targets,
+pub(crate) fn is_one_file_twice<'a, R: AllocGlobal + Files>(
+    rt: &'a R,
+    files: &'a [&'a str],
+    from: Option<&'a str>,
+    targets: &'a Targets,
 ) -> Result<bool, Memory> {
     let places = Places::of(rt, files, from, targets)?;
     Ok(places.has_one_twice())
@@ -137,11 +137,11 @@ struct Places {
 
 impl Places {
     /// The places of these files.
-    fn of<R: AllocGlobal + Files>(
-        rt: &R,
-        files: &[&str],
-        from: Option<&str>,
-        targets: &Targets,
+    fn of<'a, R: AllocGlobal + Files>(
+        rt: &'a R,
+        files: &'a [&'a str],
+        from: Option<&'a str>,
+        targets: &'a Targets,
     ) -> Result<Places, Memory> {
         let mut finder = Finder::new(rt);
         let written = Written::of(&mut finder, targets)?;
@@ -266,8 +266,9 @@ impl<'a, R: AllocGlobal + Files> Finder<'a, R> {
 
     /// The directory of this name.
     fn node_of(&mut self, directory: &'a str) -> Option<Node> {
-        match self.directory {
-            Some((last, node)) if last == directory => node,
+        let last = self.directory;
+        match last {
+            Some((name, node)) if name == directory => node,
             _ => {
                 let node = node_of(self.rt, directory);
                 self.directory = Some((directory, node));
