@@ -5,3 +5,4 @@ pub mod Room
 pub mod Spool
 pub mod Through
 pub mod GivenBytes
+pub mod Window

@@ -2,7 +2,7 @@
 //!
 //! A [`Source`] gives bytes and a [`Sink`] takes them, a few at a time. [`Through`] is both over a reader or a writer
 //! of std; [`Feed`], [`Room`] and [`Spool`] lie in memory, and contracts see their bytes. [`read_file`] reads a source to its end,
-//! up to a limit, and [`write_out`] sends a whole text into a sink.
+//! up to a limit, and [`write_out`] sends a whole text into a sink. A [`Window`] holds of a source what was read and not passed.
 #![tactic(auto)]
 
 mod failed;
@@ -14,6 +14,7 @@ mod sink;
 mod source;
 mod spool;
 mod through;
+mod window;
 
 pub use cwr_field::Memory;
 pub use failed::Failed;
@@ -25,3 +26,4 @@ pub use sink::{Sink, WriteStopped, write_out};
 pub use source::Source;
 pub use spool::Spool;
 pub use through::{MOST_REPEATS, Through};
+pub use window::Window;

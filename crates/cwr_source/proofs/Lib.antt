@@ -1,4 +1,4 @@
 pub mod lemmas
-pub mod Windows
+pub mod Rests
 pub mod Stops
 pub mod Visited

@@ -1,5 +1,5 @@
 -- A file that a visitor is given while its source is read.
-use Rattle.std.proofs.Common.{◌≡◌, ◌∙◌, ℕ, ◌+◌, ◌≤◌, ◌<◌, ◌^◌, inl, inr, Bool, true, false, List, [], ◌++◌, length, take, drop, Option, Some, None, refl, sym, ap, subst, arith, append_assoc, append-nil, length-append}
+use Rattle.std.proofs.Common.{◌≡◌, ◌∙◌, ℕ, ◌+◌, ◌≤◌, ◌<◌, ◌^◌, inl, inr, Bool, true, false, List, [], ◌++◌, length, take, drop, Option, None, refl, sym, ap, subst, arith, append_assoc, append-nil, length-append}
 use Rattle.std.specs.Io.KnownBytes.{Consumes, IsAtEnd}
 use Rattle.std.proofs.lemmas.List.{take-append-drop, drop_at, length-take-le}
 use Rattle.std.specs.Str.Lines.{lines}
@@ -9,11 +9,12 @@ use Rattle.cwr_grammar.specs.declared.refusal.FileRefusal.{FileRefusal}
 use Rattle.cwr_grammar.specs.declared.refusal.FileRefusal.TheVariants as unread
 use Rattle.cwr_grammar.specs.ReadUpTo.{ReaderState, IsReadUpTo, StandsAt, at_start}
 use Rattle.cwr_grammar.proofs.lemmas.Starts.{starts}
-use Rattle.cwr_source.specs.Source.{SourceState, HasRead, IsAnswerTo, IsRest, IsRefused, IsStopped, IsWithin}
+use Rattle.byte_streams.specs.Window.{HasRead, IsRest}
+use Rattle.cwr_source.specs.Source.{SourceState, IsAnswerTo, IsRefused, IsStopped, IsWithin}
 use Rattle.cwr_source.specs.declared.refused.SourceRefused.{SourceRefused}
 use Rattle.cwr_source.specs.declared.refused.SourceRefused.TheVariants.{Memory, Read, TooLong, Fault}
 use Rattle.cwr_source.proofs.lemmas.Given.{both}
-use Rattle.cwr_source.proofs.Stops.{stopped_on}
+use Rattle.cwr_source.proofs.Stops.{none_given, stopped_on}
 
 -- What was read since the first state was read behind what it held. Of all that, some is passed, whose lines were given
 -- to the visitor, whatever follows; the other is held.
@@ -30,10 +31,6 @@ pub record Visiting (keeps : List RawParts → Option RawParts → Type 0) (file
   pub none : first.is_ended ≡ true → since ≡ []
   pub lines_read : (rest : List ℕ) → IsReadUpTo keeps file (passed ++ (now.held ++ rest)) (length passed)
 
-Consumes-none : (a : Option (List ℕ)) → Consumes a a []
-Consumes-none None = tt
-Consumes-none (Some l) = refl
-
 -- nothing was read since, and no line is passed
 pub visiting_starts : (K : List RawParts → Option RawParts → Type 0) (file : ReaderState) (first : SourceState) (left : Option (List ℕ)) → file ≡ at_start → K [] None → IsWithin first
     → (first.is_ended ≡ true → IsAtEnd left) → Visiting K file first first left left
@@ -41,7 +38,7 @@ visiting_starts K file first left is kept within at_end = record {
   passed = [];
   since = [];
   all = sym (append-nil first.held);
-  consumed = Consumes-none left;
+  consumed = none_given left;
   read = omega arith;
   limit = refl;
   within = within.read;
@@ -162,4 +159,4 @@ pub stopped_between : (now between : SourceState) (held : List ℕ) (a b : Optio
     → IsStopped now a b failed why
 stopped_between now between held a b failed why is h =
     let read = ap (λ (s : SourceState). s.read) is in
-    stopped_on now between a a b [] failed why (Consumes-none a) (omega (arith, read)) (ap (λ (s : SourceState). s.limit) is) h
+    stopped_on now between a a b [] failed why (none_given a) (omega (arith, read)) (ap (λ (s : SourceState). s.limit) is) h

@@ -1,43 +1,20 @@
 -- A file that is read from a source through a window.
-use Rattle.std.specs.Prelude.{ℕ, ◌+◌, ◌-◌, ◌≡◌, ◌≤◌, ◌<◌, ◌⊎◌, Bool, true, false, List, [], ◌++◌, length, take, drop, Option, IsSome, ◌==◌}
+use Rattle.std.specs.Prelude.{ℕ, ◌+◌, ◌≡◌, ◌≤◌, ◌<◌, ◌⊎◌, Bool, true, false, List, [], ◌++◌, length, Option, IsSome, ◌==◌}
 use Rattle.std.specs.List.{position}
 use Rattle.std.specs.Io.KnownBytes.{Consumes, IsAtEnd}
 use Rattle.std.specs.Str.Lines.{lines}
+use Rattle.byte_streams.specs.Window.{WindowState, IsRest}
+use Rattle.byte_streams.specs.declared.reading.ReadRefused.{ReadRefused}
+use Rattle.byte_streams.specs.declared.reading.ReadRefused.TheVariants as stopped
 use Rattle.cwr_grammar.specs.Faults.{IsLeastFault}
 use Rattle.cwr_grammar.specs.declared.refusal.FileRefusal.{FileRefusal}
 use Rattle.cwr_grammar.specs.declared.refusal.FileRefusal.TheVariants as unread
 use Rattle.cwr_source.specs.declared.refused.SourceRefused.{SourceRefused}
 use Rattle.cwr_source.specs.declared.refused.SourceRefused.TheVariants.{Memory, Read, TooLong, Fault}
 
-pub record SourceState : Type 0 where
-  -- the bytes that were read and not passed
-  pub held : List ℕ
-  -- how many bytes were read in all, and may be
-  pub read : ℕ
-  pub limit : ℕ
-  -- the source has ended
-  pub is_ended : Bool
-
--- the bytes of a window between two positions
-abbrev pub between : List ℕ → ℕ → ℕ → List ℕ
-between bytes start end = take (end - start) (drop start bytes)
-
--- more was read, which gave these bytes, or found the end
-pub record HasRead (before after : SourceState) (left_before left_after : Option (List ℕ)) (piece : List ℕ) : Type 0 where
-  pub held : after.held ≡ before.held ++ piece
-  pub read : after.read ≡ before.read + length piece
-  pub limit : after.limit ≡ before.limit
-  pub within : after.read ≤ after.limit
-  pub consumed : Consumes left_before left_after piece
-  pub some : after.is_ended ≡ false → 0 < length piece
-  pub at_end : after.is_ended ≡ true → IsAtEnd left_after
-
--- the rest of a file, up to its end
-pub record IsRest (file : SourceState) (left_before left_after : Option (List ℕ)) (rest : List ℕ) : Type 0 where
-  pub consumed : Consumes left_before left_after rest
-  pub at_end : IsAtEnd left_after
-  pub fits : file.read + length rest ≤ file.limit
-  pub none : file.is_ended ≡ true → rest ≡ []
+-- what of a file was read and not passed, as its window has it
+abbrev pub SourceState : Type 0
+SourceState = WindowState
 
 -- a file was opened: what was read is held, up to the end of its first line at least
 pub record IsOpened (file : SourceState) (limit : ℕ) (left_before left_after : Option (List ℕ)) : Type 0 where
@@ -47,6 +24,12 @@ pub record IsOpened (file : SourceState) (limit : ℕ) (left_before left_after :
   pub within : file.read ≤ file.limit
   pub line : file.is_ended ≡ false → IsSome (position (λ b. b == 10) file.held)
   pub at_end : file.is_ended ≡ true → IsAtEnd left_after
+
+-- what is answered where reading stopped
+abbrev pub answer_for : ReadRefused → SourceRefused
+answer_for stopped.Memory = Memory
+answer_for stopped.Read = Read
+answer_for stopped.TooLong = TooLong
 
 -- Reading stopped: memory was refused, a read failed, or bytes past the limit were read.
 abbrev pub IsStopped : SourceState → Option (List ℕ) → Option (List ℕ) → Bool → SourceRefused → Type 0

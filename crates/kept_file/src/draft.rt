@@ -40,14 +40,21 @@ pub fn open_draft<R: Files>(rt: &R, names: &FileNames) -> io::Result<R::File> {
     Ok(draft)
 }
 
-/// Makes the draft anew. What a crash left under its name is taken away.
+/// Makes the draft anew. What lies under its name, as a crash leaves it, is taken away; the system is asked to where it
+/// says that something lies there.
 fn new_draft<R: Files>(
     rt: &R,
     names: &FileNames,
     options: &mut OpenOptions,
 ) -> io::Result<R::File> {
-    remove_draft(rt, names);
-    options.create_new(true).open(rt, names.draft())
+    options.create_new(true);
+    match options.open(rt, names.draft()) {
+        Err(error) if error.kind() == ErrorKind::AlreadyExists => {
+            remove_draft(rt, names);
+            options.open(rt, names.draft())
+        }
+        opened => opened,
+    }
 }
 
 /// Gives the draft the owner of the old file, where that is another and the system lets it.

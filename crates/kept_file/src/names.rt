@@ -1,8 +1,9 @@
 //! The names of a file that is replaced by a draft.
 
-ghost use Rattle.std.specs.Prelude.{◌≡◌, ◌++◌, codes, IfOk};
+ghost use Rattle.std.specs.Prelude.{◌≡◌, ◌++◌, codes, map, string_bytes, IfOk};
 
 use cwr_field::Memory;
+use std::alloc::Global;
 use std::io::ErrorKind;
 use std::marker::Model;
 use std::path::{Path, PathBuf};
@@ -14,6 +15,9 @@ const MOST_LINKS: u32 = 40;
 
 /// What a directory without a name is called.
 const HERE: &str = ".";
+
+/// How many bytes a path has at most so that the system takes it with `.lock` behind it.
+const MOST_PATH: usize = 4090;
 
 /// A file that is replaced by a draft, and the names beside it.
 ///
@@ -49,7 +53,34 @@ impl FileNames {
     pub fn of_word<R: AllocGlobal + Files>(rt: &R, word: &str) -> Result<FileNames, Memory>
         ensures { IfOk result (λ names. names.word ≡ word.now) }
     {
-        let path = file_of(rt, word)?;
+        FileNames::found_in(rt, &mut Folder::none(rt.alloc()), word)
+    }
+
+    /// The names of the files that these words lead to, in the order of the words, as [`FileNames::of_word`] finds them.
+    /// Where words that follow one another name one folder, the system is asked for that once.
+    pub fn of_words<R: AllocGlobal + Files>(
+        rt: &R,
+        words: &[String],
+    ) -> Result<Vec<FileNames>, Memory>
+        ensures { IfOk result (λ all. map (λ names. names.word) all.items ≡ map (λ word. string_bytes word) words.now) }
+    {
+        let mut folder = Folder::none(rt.alloc());
+        let mut all = Vec::with_capacity(rt.alloc(), words.len())?;
+        for word in words {
+            all.push(FileNames::found_in(rt, &mut folder, word.as_str())?)?;
+        }
+        Ok(all)
+    }
+
+    /// The names of the file that a word leads to, where this folder was asked for last.
+    fn found_in<R: AllocGlobal + Files>(
+        rt: &R,
+        folder: &mut Folder,
+        word: &str,
+    ) -> Result<FileNames, Memory>
+        ensures { IfOk result (λ names. names.word ≡ word.now) }
+    {
+        let path = file_of(rt, folder, word)?;
         let name = path.as_path().as_os_str();
         let directory = match path.as_path().parent() {
             Some(parent) if !parent.as_os_str().is_empty() => parent.as_os_str(),
@@ -101,8 +132,73 @@ impl FileNames {
     }
 }
 
+/// A folder that the system was asked for.
+#[derive(Drop)]
+struct Folder {
+    /// Its name, as a word gives it.
+    given: String,
+    /// Where that leads, by way of whatever links, where the system told it.
+    path: Option<PathBuf>,
+}
+
+impl Folder {
+    /// None was asked for.
+    fn none(alloc: Global) -> Folder {
+        Folder {
+            given: String::new(alloc),
+            path: None,
+        }
+    }
+
+    /// Asks the system for the folder of this name, unless it was asked for last.
+    fn ask<R: AllocGlobal + Files>(&mut self, rt: &R, name: &str) -> Result<(), Memory> {
+        if self.given.as_str() != name {
+            self.path = told(fs::canonicalize(rt, name))?;
+            self.given = String::from_str(rt.alloc(), name)?;
+        }
+        Ok(())
+    }
+
+    /// The path of a file of that name in the folder, where the system told where that is and takes the path.
+    fn path_of(&self, alloc: Global, file: &str) -> Result<Option<PathBuf>, Memory> {
+        let Some(folder) = &self.path else {
+            return Ok(None);
+        };
+        let path = folder.join(alloc, file)?;
+        let is_taken = path.as_path().as_os_str().len() <= MOST_PATH;
+        Ok(if is_taken { Some(path) } else { None })
+    }
+}
+
 /// The file that a word leads to, which need not be there.
-fn file_of<R: AllocGlobal + Files>(rt: &R, word: &str) -> Result<PathBuf, Memory> {
+fn file_of<R: AllocGlobal + Files>(
+    rt: &R,
+    folder: &mut Folder,
+    word: &str,
+) -> Result<PathBuf, Memory> {
+    match told(fs::read_link(rt, word))? {
+        Some(_) => linked_file(rt, word),
+        None => file_in(rt, folder, word),
+    }
+}
+
+/// The file of a word that is no link: in the folder that the word names, wherever that lies.
+fn file_in<R: AllocGlobal + Files>(
+    rt: &R,
+    folder: &mut Folder,
+    word: &str,
+) -> Result<PathBuf, Memory> {
+    if let Some((before, file)) = word.rsplit_once('/') {
+        folder.ask(rt, before)?;
+        if let Some(path) = folder.path_of(rt.alloc(), file)? {
+            return Ok(path);
+        }
+    }
+    Ok(PathBuf::from_str(rt.alloc(), word)?)
+}
+
+/// The file that a link leads to.
+fn linked_file<R: AllocGlobal + Files>(rt: &R, word: &str) -> Result<PathBuf, Memory> {
     if let Some(path) = told(fs::canonicalize(rt, word))? {
         return Ok(path);
     }

@@ -86,6 +86,29 @@ fn a_link_to_a_file_that_is_not_there_yet(rt: HostRuntime) -> Result<(), Fail> {
     expect_alone(&rt, "linked_to_later", NEW)
 }
 
+/// A folder that a link leads to, and in it a link that leads out of it.
+fn make_folder<R: Files>(rt: &R) -> Result<(), Fail> {
+    fs::create_dir(rt, "folder")?;
+    symlink(rt, "folder", "a_folder")?;
+    symlink(rt, "../outside", "folder/linked")?;
+    Ok(())
+}
+
+/// Each of these names is of the file that its word leads to.
+#[test]
+fn words_of_one_folder(rt: HostRuntime) -> Result<(), Fail> {
+    make_folder(&rt)?;
+    let words = vec![in rt.alloc();
+        format!(in rt.alloc(); "a_folder/inside")?,
+        format!(in rt.alloc(); "a_folder/linked")?,
+    ]?;
+    for names in FileNames::of_words(&rt, &words)? {
+        fs::write(&rt, names.name(), NEW)?;
+    }
+    expect_bytes(&rt, "folder/inside", NEW)?;
+    expect_bytes(&rt, "outside", NEW)
+}
+
 #[test]
 fn what_is_no_regular_file(rt: HostRuntime) -> Result<(), Fail> {
     same("a device", &keep_new(&rt, "/dev/null")?, &Ok(()))?;

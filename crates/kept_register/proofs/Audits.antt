@@ -12,8 +12,9 @@ use Rattle.work_registry.specs.declared.register.refusal.RegisterRefusal.{Regist
 use Rattle.kept_register.specs.declared.reading.NoBook.{NoBook}
 use Rattle.kept_register.specs.declared.reading.NoBook.TheVariants.{Memory, Read, TooLong, Refused}
 use Rattle.kept_register.specs.Auditing.{IsAnswerTo, IsUnaudited, answer_for}
-use Rattle.kept_register.specs.Window.{WindowState, HasRead, IsStopped}
-use Rattle.kept_register.proofs.Given.{both, all_given, more_given, holds_given}
+use Rattle.byte_streams.specs.Window.{WindowState, HasRead, IsStopped}
+use Rattle.byte_streams.proofs.lemmas.Given.{both}
+use Rattle.kept_register.proofs.Given.{all_given, more_given, holds_given}
 
 -- what an auditor or a reader knows: of which text these bytes are the rest
 abbrev pub Left : Type 1

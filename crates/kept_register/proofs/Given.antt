@@ -1,18 +1,11 @@
 -- What is read of a reader that gave these bytes.
-use Rattle.std.proofs.Common.{◌≡◌, ◌∙◌, ℕ, ◌<◌, ◌++◌, List, length, Option, Some, None, IfSome, sym, ap, subst, arith, length-append, append_assoc, append-nil}
+use Rattle.std.proofs.Common.{◌≡◌, ◌∙◌, ℕ, ◌<◌, ◌++◌, List, length, Option, Some, None, IfSome, sym, ap, subst, arith, length-append, append-nil}
 use Rattle.std.specs.Io.KnownBytes.{Consumes, IsAtEnd}
 
 pub register_given : (left : Option (List ℕ)) (text register : List ℕ) → IfSome left (λ bytes. text ≡ bytes) → text ≡ register
     → IfSome left (λ bytes. bytes ≡ register)
 register_given None text register given is = tt
 register_given (Some bytes) text register given is = sym given ∙ is
-
--- some bytes and then others
-pub both : (a b c : Option (List ℕ)) (xs ys : List ℕ) → Consumes a b xs → Consumes b c ys → Consumes a c (xs ++ ys)
-both None b c xs ys p q = tt
-both (Some l) None c xs ys p q = absurd p
-both (Some l) (Some m) None xs ys p q = absurd q
-both (Some l) (Some m) (Some n) xs ys p q = p ∙ (ap (λ (z : List ℕ). xs ++ z) q ∙ sym (append_assoc xs ys n))
 
 -- those up to the end are all that were left
 pub all_given : (a c : Option (List ℕ)) (xs : List ℕ) → Consumes a c xs → IsAtEnd c → IfSome a (λ bytes. xs ≡ bytes)

@@ -1,4 +1,2 @@
 mod Given
-mod Windows
-mod Stops
 mod Audits

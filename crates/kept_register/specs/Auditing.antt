@@ -9,7 +9,7 @@ use Rattle.work_registry.specs.declared.register.refusal.RegisterRefusal.{Regist
 use Rattle.work_registry.specs.declared.register.refusal.RegisterRefusal.TheVariants as register
 use Rattle.kept_register.specs.declared.reading.NoBook.{NoBook}
 use Rattle.kept_register.specs.declared.reading.NoBook.TheVariants.{Memory, Read, TooLong, Refused}
-use Rattle.kept_register.specs.Window.{WindowState, IsRest}
+use Rattle.byte_streams.specs.Window.{WindowState, IsRest}
 
 -- what is answered where a register was not read
 abbrev pub answer_for : ReadRefused → NoBook

@@ -5,8 +5,7 @@ ghost use Rattle.work_registry.specs.Register.{IsAudited};
 ghost use Rattle.kept_register.specs.Auditing.{IsAnswerTo, IsUnaudited};
 
 use crate::reading::{NoBook, unread};
-use crate::window::Window;
-use byte_streams::Source;
+use byte_streams::{Source, Window};
 use std::alloc::Allocator;
 use work_registry::{Auditor, RegisterRefusal};
 

@@ -5,7 +5,6 @@
 mod auditing;
 mod keeping;
 mod reading;
-mod window;
 
 pub use auditing::{REGISTER_WINDOW, audit_source};
 pub use cwr_field::Memory;

@@ -11,8 +11,7 @@ ghost use Rattle.kept_register.specs.declared.reading.NoBook.{NoBook};
 ghost use Rattle.kept_register.specs.Auditing.{IsUnaudited, answer_for};
 
 use crate::auditing::{REGISTER_WINDOW, refused};
-use crate::window::Window;
-use byte_streams::{ReadRefused, Source};
+use byte_streams::{ReadRefused, Source, Window};
 use cwr_field::MOST_COUNT;
 use std::alloc::Allocator;
 use thiserror::Error;

@@ -3,8 +3,8 @@
 use crate::targets::Targets;
 use cwr_field::Memory;
 use kept_file::FileNames;
-use std::fs;
-use std::io::ErrorKind;
+use std::alloc::Global;
+use std::fs::{self, Metadata};
 use std::os::unix::fs::MetadataExt;
 use std::path::Path;
 use std::rt::Files;
@@ -51,24 +51,32 @@ struct Written {
 
 impl Written {
     /// The places of the files that a run writes: the acknowledgements, and behind them the register.
-    fn of<R: AllocGlobal + Files>(rt: &R, targets: &Targets) -> Result<Written, Memory> {
+    fn of<'a, R: AllocGlobal + Files>(
+        finder: &mut Finder<'a, R>,
+        targets: &'a Targets,
+    ) -> Result<Written, Memory> {
+        let alloc = finder.rt.alloc();
         let mut written = Written {
-            files: Vec::new(rt.alloc()),
-            drafts: Vec::new(rt.alloc()),
+            files: Vec::new(alloc),
+            drafts: Vec::new(alloc),
         };
         for names in &targets.answers {
-            written.add(rt, names)?;
+            written.add(finder, names)?;
         }
         if let Some(register) = &targets.register {
-            written.add(rt, register)?;
+            written.add(finder, register)?;
         }
         Ok(written)
     }
 
     /// One file more.
-    fn add<R: AllocGlobal + Files>(&mut self, rt: &R, names: &FileNames) -> Result<(), Memory> {
-        self.files.push(place_of(rt, names.name())?)?;
-        self.drafts.push(place_of(rt, names.draft())?)?;
+    fn add<'a, R: AllocGlobal + Files>(
+        &mut self,
+        finder: &mut Finder<'a, R>,
+        names: &'a FileNames,
+    ) -> Result<(), Memory> {
+        self.files.push(finder.place_of(names.name())?)?;
+        self.drafts.push(finder.place_of(names.draft())?)?;
         Ok(())
     }
 
@@ -102,11 +110,11 @@ impl Written {
 /// Files are one where they have one device and number, so by any path and by any link. A name that leads to no file
 /// counts as the name of its directory where the file would be made. What the system tells nothing of is one with
 /// nothing. A draft may be one with the file that it is to replace: it is made anew before it is written.
-pub(crate) fn is_one_file_twice<R: AllocGlobal + Files>(
-    rt: &R,
-    files: &[&str],
-    from: Option<&str>,
-    targets: &Targets,
+pub(crate) fn is_one_file_twice<'a, R: AllocGlobal + Files>(
+    rt: &'a R,
+    files: &'a [&'a str],
+    from: Option<&'a str>,
+    targets: &'a Targets,
 ) -> Result<bool, Memory> {
     let places = Places::of(rt, files, from, targets)?;
     Ok(places.has_one_twice())
@@ -129,16 +137,17 @@ struct Places {
 
 impl Places {
     /// The places of these files.
-    fn of<R: AllocGlobal + Files>(
-        rt: &R,
-        files: &[&str],
-        from: Option<&str>,
-        targets: &Targets,
+    fn of<'a, R: AllocGlobal + Files>(
+        rt: &'a R,
+        files: &'a [&'a str],
+        from: Option<&'a str>,
+        targets: &'a Targets,
     ) -> Result<Places, Memory> {
-        let written = Written::of(rt, targets)?;
-        let read = places_of(rt, files)?;
-        let begun = place_if(rt, from)?;
-        let lock = place_if(rt, targets.lock())?;
+        let mut finder = Finder::new(rt);
+        let written = Written::of(&mut finder, targets)?;
+        let read = finder.places_of(files)?;
+        let begun = finder.place_if(from)?;
+        let lock = finder.place_if(targets.lock())?;
         Ok(Places {
             read,
             begun,
@@ -173,23 +182,6 @@ impl Places {
     }
 }
 
-/// The places of files of these names.
-fn places_of<R: AllocGlobal + Files>(rt: &R, names: &[&str]) -> Result<Vec<Place>, Memory> {
-    let mut places = Vec::with_capacity(rt.alloc(), names.len())?;
-    for name in names {
-        places.push(place_of(rt, name)?)?;
-    }
-    Ok(places)
-}
-
-/// Where a name leads, where there is one.
-fn place_if<R: AllocGlobal + Files>(rt: &R, name: Option<&str>) -> Result<Place, Memory> {
-    match name {
-        Some(name) => place_of(rt, name),
-        None => Ok(Place::Untold),
-    }
-}
-
 /// Whether two of the places, at different positions, are one.
 fn is_twice(places: &[Place]) -> bool {
     for (index, place) in places.iter().enumerate() {
@@ -220,36 +212,86 @@ fn is_among(place: &Place, others: &[Place]) -> bool {
     false
 }
 
-/// Where a name leads. Only a link to no file is followed, by the names in it: what is no link is where its name says.
-fn place_of<R: AllocGlobal + Files>(rt: &R, name: &str) -> Result<Place, Memory> {
+/// Finds where names lead. Of names that follow one another in one directory, the system is asked for that once.
+#[derive(Drop)]
+struct Finder<'a, R> {
+    rt: &'a R,
+    /// The directory that it was asked for last.
+    directory: Option<(&'a str, Option<Node>)>,
+}
+
+impl<'a, R: AllocGlobal + Files> Finder<'a, R> {
+    /// It was asked for no directory.
+    fn new(rt: &'a R) -> Finder<'a, R> {
+        Finder {
+            rt,
+            directory: None,
+        }
+    }
+
+    /// The places of files of these names.
+    fn places_of(&mut self, names: &'a [&'a str]) -> Result<Vec<Place>, Memory> {
+        let mut places = Vec::with_capacity(self.rt.alloc(), names.len())?;
+        for name in names {
+            places.push(self.place_of(name)?)?;
+        }
+        Ok(places)
+    }
+
+    /// Where a name leads, where there is one.
+    fn place_if(&mut self, name: Option<&'a str>) -> Result<Place, Memory> {
+        match name {
+            Some(name) => self.place_of(name),
+            None => Ok(Place::Untold),
+        }
+    }
+
+    /// Where a name leads. Only a link to no file is followed, by the names in it: what is no link is where its name says.
+    fn place_of(&mut self, name: &'a str) -> Result<Place, Memory> {
+        match fs::symlink_metadata(self.rt, name) {
+            Ok(found) if found.is_symlink() => linked_place(self.rt, name),
+            Ok(found) => match node_in(&found) {
+                Some(node) => Ok(Place::Taken(node)),
+                None => self.free_place(name),
+            },
+            Err(_) => self.free_place(name),
+        }
+    }
+
+    /// The place of a file that would be made under this name.
+    fn free_place(&mut self, name: &'a str) -> Result<Place, Memory> {
+        let directory = self.node_of(directory_of(Path::new(name)));
+        free_place(self.rt.alloc(), name, directory)
+    }
+
+    /// The directory of this name.
+    fn node_of(&mut self, directory: &'a str) -> Option<Node> {
+        let last = self.directory;
+        match last {
+            Some((name, node)) if name == directory => node,
+            _ => {
+                let node = node_of(self.rt, directory);
+                self.directory = Some((directory, node));
+                node
+            }
+        }
+    }
+}
+
+/// Where a link leads.
+fn linked_place<R: AllocGlobal + Files>(rt: &R, name: &str) -> Result<Place, Memory> {
     if let Some(node) = node_of(rt, name) {
         return Ok(Place::Taken(node));
     }
-    if is_link(rt, name)? {
-        let names = FileNames::of_word(rt, name)?;
-        return free_place(rt, names.name());
-    }
-    free_place(rt, name)
+    let names = FileNames::of_word(rt, name)?;
+    free_place(rt.alloc(), names.name(), node_of(rt, names.directory()))
 }
 
-/// Whether the system tells that a name is that of a link.
-fn is_link<R: AllocGlobal + Files>(rt: &R, name: &str) -> Result<bool, Memory> {
-    match fs::read_link(rt, name) {
-        Ok(_) => Ok(true),
-        Err(error) if error.kind() == ErrorKind::OutOfMemory => Err(Memory),
-        Err(_) => Ok(false),
-    }
-}
-
-/// The place of a file that would be made under this name.
-fn free_place<R: AllocGlobal + Files>(rt: &R, name: &str) -> Result<Place, Memory> {
-    let path = Path::new(name);
-    let Some(file) = path.file_name() else {
-        return Ok(Place::Untold);
-    };
-    match node_of(rt, directory_of(path)) {
-        Some(node) => Ok(Place::Free(node, String::from_str(rt.alloc(), file)?)),
-        None => Ok(Place::Untold),
+/// The place of a file that would be made under this name in this directory.
+fn free_place(alloc: Global, name: &str, directory: Option<Node>) -> Result<Place, Memory> {
+    match (Path::new(name).file_name(), directory) {
+        (Some(file), Some(node)) => Ok(Place::Free(node, String::from_str(alloc, file)?)),
+        _ => Ok(Place::Untold),
     }
 }
 
@@ -261,9 +303,13 @@ fn directory_of(path: Path<'_>) -> &str {
     }
 }
 
-/// The file or the directory that a name leads to. A runtime of one's own gives them no numbers: each is 0.
+/// The file or the directory that a name leads to.
 fn node_of<R: Files>(rt: &R, name: &str) -> Option<Node> {
-    let found = fs::metadata(rt, name).ok()?;
+    node_in(&fs::metadata(rt, name).ok()?)
+}
+
+/// The numbers of a file or a directory. A runtime of one's own gives it none: each is 0.
+fn node_in(found: &Metadata) -> Option<Node> {
     let node = Node {
         device: found.dev(),
         number: found.ino(),

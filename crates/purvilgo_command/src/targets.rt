@@ -33,17 +33,11 @@ impl Targets {
 
 /// The names of the acknowledgements of these files.
 fn answers_to<R: AllocGlobal + Files>(rt: &R, files: &[&str]) -> Result<Vec<FileNames>, Memory> {
-    let mut answers = Vec::with_capacity(rt.alloc(), files.len())?;
+    let mut words = Vec::with_capacity(rt.alloc(), files.len())?;
     for file in files {
-        answers.push(answer_to(rt, file)?)?;
+        words.push(format!(in rt.alloc(); "{file}.ack")?)?;
     }
-    Ok(answers)
-}
-
-/// The names of the acknowledgement of a file.
-fn answer_to<R: AllocGlobal + Files>(rt: &R, file: &str) -> Result<FileNames, Memory> {
-    let word = format!(in rt.alloc(); "{file}.ack")?;
-    FileNames::of_word(rt, word.as_str())
+    FileNames::of_words(rt, &words)
 }
 
 /// The names of the register that a word leads to, where there is one.

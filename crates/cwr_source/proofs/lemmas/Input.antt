@@ -2,7 +2,8 @@
 use Rattle.std.proofs.Common.{◌≡◌, ◌∙◌, ℕ, ◌<◌, Bool, List, ◌++◌, length, Option, Some, None, IfSome, sym, ap, arith, length-append, append-nil}
 use Rattle.std.specs.Io.KnownBytes.{Consumes, IsAtEnd}
 use Rattle.cwr_source.specs.Input.{IsInput, IsUnjudged}
-use Rattle.cwr_source.specs.Source.{SourceState, IsOpened, IsRefused, IsRest}
+use Rattle.byte_streams.specs.Window.{IsRest}
+use Rattle.cwr_source.specs.Source.{SourceState, IsOpened, IsRefused}
 use Rattle.cwr_source.specs.declared.refused.SourceRefused.{SourceRefused}
 use Rattle.cwr_source.specs.declared.refused.SourceRefused.TheVariants.{Memory, Read, TooLong, Fault}
 use Rattle.cwr_source.proofs.lemmas.Given.{both}

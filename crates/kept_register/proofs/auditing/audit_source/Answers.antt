@@ -3,9 +3,9 @@ use Rattle.work_registry.specs.Auditing.{IsLeft}
 use Rattle.work_registry.specs.Numbers.{most_entries}
 use Rattle.work_registry.specs.Register.{IsAudited}
 use Rattle.work_registry.specs.RegisterFaults.{IsRefusal}
-use Rattle.kept_register.specs.Window.{WindowState}
+use Rattle.byte_streams.specs.Window.{WindowState}
 use Rattle.kept_register.proofs.Audits.{taking_starts, taking_goes, all_taken, fitting, stopped_since, refused_since}
-use Rattle.kept_register.proofs.Given.{both}
+use Rattle.byte_streams.proofs.lemmas.Given.{both}
 use Rattle.kept_register.proofs.auditing.audit_source.Goals as goal
 
 pub loop-auditor-init : goal.loop-auditor-init

@@ -3,9 +3,9 @@ use Rattle.work_registry.specs.RegisterReader.{ReaderState, IsRest}
 use Rattle.work_registry.specs.Numbers.{most_entries}
 use Rattle.work_registry.specs.Register.{register_text}
 use Rattle.work_registry.specs.RegisterFaults.{IsRefusal}
-use Rattle.kept_register.specs.Window.{WindowState}
+use Rattle.byte_streams.specs.Window.{WindowState}
 use Rattle.kept_register.proofs.Audits.{taking_starts, taking_goes, all_taken, stopped_since, refused_since}
-use Rattle.kept_register.proofs.Given.{both}
+use Rattle.byte_streams.proofs.lemmas.Given.{both}
 use Rattle.kept_register.proofs.reading.book_of_source.Goals as goal
 
 pub loop-lines-init : goal.loop-lines-init
