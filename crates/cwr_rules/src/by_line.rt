@@ -105,8 +105,8 @@ impl<A: Allocator + Copy> Judge<A> {
         requires open { (kind : WorkKind) × (lines : List (List ℕ)) × IsJudging self.now kind lines × (length lines ≤ most_count + 1) }
         ensures { IfOk result (λ call. (transaction : RawParts) → IsJudging self.now transaction.kind transaction.lines → call ≡ call_of submitter transaction) }
     {
-        let header = self.header;
         let faults = faults_of(self.alloc, &self.header, &self.read)?;
+        let header = &self.header;
         let control = self.read.summary.sums.control;
         let call = Call::of_lawful(
             submitter,

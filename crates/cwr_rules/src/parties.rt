@@ -44,6 +44,17 @@ impl<A: Allocator + Copy> Parties<A> {
         }
     }
 
+    /// None again.
+    #[inline(always)]
+    pub(crate) fn clear(&mut self, alloc: A)
+        ensures { HoldsParties (kept_in self.new.first self.new.set) [] }
+    {
+        self.first = None;
+        if !self.set.is_empty() {
+            self.set = BTreeSet::new(alloc);
+        }
+    }
+
     /// Whether the party is named, and none of these.
     pub(crate) fn is_unknown(&self, party: Option<[u8; 9]>) -> bool
         ensures { (parties : List (List ℕ)) → HoldsParties (kept_in self.now.first self.now.set) parties → result ≡ is_unknown parties party }
