@@ -74,7 +74,7 @@ impl<A: Allocator + Copy> Judge<A> {
         requires clean { IsTrue (is_clean head.now) }
         ensures { IsJudging self.new kind (head.now ∷ []) }
     {
-        self.header = KeptHead::of(kind, head);
+        self.header.read(kind, head);
         self.read.clear(self.alloc);
     }
 
