@@ -63,15 +63,20 @@ pub(crate) fn put_transaction<A: Allocator>(
 
 /// Appends where a transaction stands in its file, its kind, and a text behind that.
 #[inline(always)]
-fn put_place<A: Allocator>(out: &mut Vec<u8, A>, place: Place, behind: &[u8]) -> Result<(), Memory>
+fn put_place<A: Allocator, const N: usize>(
+    out: &mut Vec<u8, A>,
+    place: Place,
+    behind: &[u8; N],
+) -> Result<(), Memory>
     requires group { place.group < 10 ^ 5 }
     requires sequence { place.sequence < 10 ^ 8 }
-    requires short { length behind.now ≤ 8 }
+    requires short { N ≤ 8 }
     ensures { OnOk result ((t : RawParts) → IsPlaceOf place t → out.new.items ≡ out.old.items ++ place_text t ++ behind.now) }
 {
+    let text: &[u8] = behind;
     let after = Column {
         start: PLACE_WIDTH + 1,
-        width: behind.len(),
+        width: text.len(),
     };
     let mut line = LineRoom::<LINE_WIDTH>::new();
     line.put(&Piece::Digits(place.group as u64, GROUP));
@@ -79,7 +84,7 @@ fn put_place<A: Allocator>(out: &mut Vec<u8, A>, place: Place, behind: &[u8]) ->
     line.put(&Piece::Digits(place.sequence as u64, SEQUENCE));
     line.put(&Piece::Text(b" ", AFTER_SEQUENCE));
     line.put(&Piece::Text(place.kind.code(), KIND));
-    line.put(&Piece::Text(behind, after));
+    line.put(&Piece::Text(text, after));
     out.extend_from_slice(line.bytes())?;
     Ok(())
 }

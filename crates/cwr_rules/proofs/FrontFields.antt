@@ -1,13 +1,16 @@
 -- A record is read from the first bytes of its line alone.
-use Rattle.std.proofs.Common.{◌≡◌, ◌∙◌, ℕ, zero, suc, ◌+◌, ◌-◌, ◌≤◌, List, [], ◌∷◌, ◌++◌, length, take, drop, replicate, refl, sym, ap, add_comm, append_assoc, arith}
-use Rattle.std.proofs.lemmas.List.{length-take, length-drop, length-append, length-replicate, replicate-append-replicate, take-take, take-append-le, drop-take}
+use Rattle.std.proofs.Common.{◌≡◌, ◌∙◌, ℕ, zero, suc, ◌+◌, ◌-◌, ◌<◌, ◌≤◌, List, [], ◌∷◌, ◌++◌, Some, length, take, drop, replicate, refl, sym, ap, add_comm, append_assoc, arith}
+use Rattle.std.proofs.lemmas.List.{length-take, length-drop, length-append, length-replicate, replicate-append-replicate, take-take, take-append-le, take_all, drop_all, drop-take}
 use Rattle.cwr_field.specs.Layout.{field}
+use Rattle.cwr_field.specs.Share.{share_of}
 use Rattle.cwr_record.specs.Columns as column
 use Rattle.cwr_record.specs.Columns.{field_at}
 use Rattle.cwr_record.specs.declared.columns.Column.{Column}
 use Rattle.cwr_record.specs.declared.record_type.RecordType.{RecordType}
 use Rattle.cwr_record.specs.declared.record_type.RecordType.TheVariants.{Spu, Opu, Spt, Swr, Owr, Swt, Pwr, Alt, Xrf}
-use Rattle.cwr_rules.specs.Records.{record_as}
+use Rattle.cwr_record.specs.Parties.{RightColumns, ownership_columns}
+use Rattle.cwr_rules.specs.declared.record.Shares.{Shares}
+use Rattle.cwr_rules.specs.Records.{record_as, owned_at, shares_from}
 
 -- the position of a column's last byte
 abbrev end_of : Column → ℕ
@@ -135,3 +138,27 @@ read_of_padded t line =
     let whole = line ++ replicate 150 32 in
     read_in_front t whole 150 (last_within t) (omega (arith, length-append line (replicate 150 32), length-replicate {A = ℕ} 150 32))
     ∙ same_fields t whole line (λ c within. field_padded line c.start c.width 150)
+
+-- a field behind the line's end is blank
+blank_behind : (line : List ℕ) (c : Column) → length line < c.start → field_at line c ≡ replicate c.width 32
+blank_behind line c short =
+    let none : drop (c.start - 1) line ≡ [] = drop_all (c.start - 1) line (omega (arith, short)) in
+    ap (λ (bytes : List ℕ). take c.width (bytes ++ replicate c.width 32)) none
+    ∙ take_all c.width (replicate c.width 32) (omega (arith, length-replicate {A = ℕ} c.width 32))
+
+abbrev blank_shares : Shares
+blank_shares = record { performing = Some 0; mechanical = Some 0; synchronization = Some 0 }
+
+-- shares behind the line's end are blank
+shares_behind : (line : List ℕ) (c : RightColumns) → c.performing.width ≡ 5 → c.mechanical.width ≡ 5 → c.synchronization.width ≡ 5
+    → length line < c.performing.start → length line < c.mechanical.start → length line < c.synchronization.start → shares_from line c ≡ blank_shares
+shares_behind line c wp wm ws p m s =
+    let one : (column : Column) → column.width ≡ 5 → length line < column.start → share_of (field_at line column) ≡ Some 0 =
+    λ column five short. ap share_of (blank_behind line column short) ∙ ap (λ (n : ℕ). share_of (replicate n 32)) five in
+    rw (one c.performing wp p, one c.mechanical wm m, one c.synchronization ws s) refl
+
+pub owned_behind_publisher : (t : RecordType) (line : List ℕ) → ownership_columns t ≡ ownership_columns Spu → length line < 116 → owned_at t line ≡ blank_shares
+owned_behind_publisher t line is short = ap (shares_from line) is ∙ shares_behind line (ownership_columns Spu) refl refl refl (omega arith) (omega arith) (omega arith)
+
+pub owned_behind_writer : (t : RecordType) (line : List ℕ) → ownership_columns t ≡ ownership_columns Swr → length line < 130 → owned_at t line ≡ blank_shares
+owned_behind_writer t line is short = ap (shares_from line) is ∙ shares_behind line (ownership_columns Swr) refl refl refl (omega arith) (omega arith) (omega arith)

@@ -17,5 +17,6 @@ pub mod RecordLaw
 pub mod ShareWords
 pub mod CodeWords
 pub mod NineDigits
+pub mod CheckDigit
 pub mod FrontFields
 pub mod lemmas

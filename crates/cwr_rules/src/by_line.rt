@@ -74,7 +74,7 @@ impl<A: Allocator + Copy> Judge<A> {
         requires clean { IsTrue (is_clean head.now) }
         ensures { IsJudging self.new kind (head.now ∷ []) }
     {
-        self.header = KeptHead::of(kind, head);
+        self.header.read(kind, head);
         self.read.clear(self.alloc);
     }
 
@@ -105,8 +105,8 @@ impl<A: Allocator + Copy> Judge<A> {
         requires open { (kind : WorkKind) × (lines : List (List ℕ)) × IsJudging self.now kind lines × (length lines ≤ most_count + 1) }
         ensures { IfOk result (λ call. (transaction : RawParts) → IsJudging self.now transaction.kind transaction.lines → call ≡ call_of submitter transaction) }
     {
-        let header = self.header;
         let faults = faults_of(self.alloc, &self.header, &self.read)?;
+        let header = &self.header;
         let control = self.read.summary.sums.control;
         let call = Call::of_lawful(
             submitter,

@@ -34,17 +34,34 @@ impl KeptHead {
         ensures value { result ≡ kept_head kind head.now }
         ensures nine_digits { IsTrue (is_iswc result.iswc) }
     {
-        let (has_wrong_iswc, iswc) = work_iswc(head);
-        KeptHead {
+        let mut kept = KeptHead {
             kind,
-            title: field_at(head, WorkHead::TITLE).bytes(),
-            number: field_at(head, WorkHead::SUBMITTER_NUMBER).bytes(),
-            iswc,
-            has_no_title: has_no_title(head),
-            has_no_number: has_no_number(head),
-            has_wrong_iswc,
-            has_wrong_date: has_wrong_date(head),
-        }
+            title: [b' '; 60],
+            number: [b' '; 14],
+            iswc: None,
+            has_no_title: true,
+            has_no_number: true,
+            has_wrong_iswc: false,
+            has_wrong_date: false,
+        };
+        kept.read(kind, head);
+        kept
+    }
+
+    /// Of a header's line, in the place of what was kept before.
+    pub(crate) fn read(&mut self, kind: WorkKind, head: &[u8])
+        ensures value { self.new ≡ kept_head kind head.now }
+        ensures nine_digits { IsTrue (is_iswc self.new.iswc) }
+    {
+        let (has_wrong_iswc, iswc) = work_iswc(head);
+        self.kind = kind;
+        self.title = field_at(head, WorkHead::TITLE).bytes();
+        self.number = field_at(head, WorkHead::SUBMITTER_NUMBER).bytes();
+        self.iswc = iswc;
+        self.has_no_title = has_no_title(head);
+        self.has_no_number = has_no_number(head);
+        self.has_wrong_iswc = has_wrong_iswc;
+        self.has_wrong_date = has_wrong_date(head);
     }
 }
 

@@ -1,9 +1,9 @@
-ghost use Rattle.std.specs.Prelude.{◌≡◌, ◌<◌, ◌^◌, ℕ, length, slice_range, IfSome};
+ghost use Rattle.std.specs.Prelude.{◌≡◌, ◌==◌, ◌+◌, ◌<◌, ◌^◌, ℕ, Some, length, slice_index, slice_range, IfSome};
 ghost use Rattle.cwr_field.specs.Number.{number_of};
-ghost use Rattle.cwr_field.specs.Iswc.{iswc_of};
+ghost use Rattle.cwr_field.specs.Iswc.{check_digit, iswc_of};
 ghost use Rattle.cwr_field.specs.declared.codes.Iswc.TheVariants.{Valid};
 
-use cwr_field::{Field, Iswc, check_digit, cut, digits};
+use cwr_field::{Field, Iswc, cut, digits};
 
 /// The number that the second to the tenth of eleven bytes spell, where each is a digit: eight of them at once, and the
 /// last.
@@ -19,6 +19,19 @@ fn number_of_nine(code: [u8; 11]) -> Option<u64>
     }
 }
 
+/// Whether the last of eleven bytes is the check digit of the nine digits before it: with it, 1 and the digits in their
+/// weights add up to a multiple of 10. So they do as bytes, with 3 for the 1, since '0' in each weight makes 8.
+#[inline(always)]
+fn has_check_digit(code: [u8; 11]) -> bool
+    ensures { (n : ℕ) → number_of (slice_range code 1 10) ≡ Some n → result ≡ (slice_index code 10 == 48 + check_digit n) }
+{
+    let [_, a, b, c, d, e, f, g, h, last, check] = code;
+    let front = a as u32 + 2 * b as u32 + 3 * c as u32 + 4 * d as u32;
+    let middle = 5 * e as u32 + 6 * f as u32 + 7 * g as u32 + 8 * h as u32;
+    let sum = front + middle + 9 * last as u32 + check as u32;
+    check.is_ascii_digit() && (sum + 3) % 10 == 0
+}
+
 /// The musical work's code that a field of eleven bytes holds.
 pub(crate) fn iswc(text: Field) -> Iswc
     requires { length text ≡ 11 }
@@ -30,9 +43,7 @@ pub(crate) fn iswc(text: Field) -> Iswc
     }
     let code = text.bytes::<11>();
     match number_of_nine(code) {
-        Some(number) if code[0] == b'T' && code[10] == b'0' + check_digit(number) => Iswc::Valid(
-            number,
-        ),
+        Some(number) if code[0] == b'T' && has_check_digit(code) => Iswc::Valid(number),
         _ => Iswc::Wrong,
     }
 }

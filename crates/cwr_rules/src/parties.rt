@@ -3,6 +3,7 @@ ghost use Rattle.cwr_rules.specs.Rules.{is_unknown, publishers};
 ghost use Rattle.cwr_rules.specs.declared.record.Record.{Record};
 ghost use Rattle.cwr_rules.specs.Parties.{HoldsParties, IsNumber, kept_in, key_cmp, key_of};
 ghost use Rattle.std.specs.Ordering.{is_eq};
+ghost use Rattle.std.specs.Str.{bytes_eq};
 
 use crate::record::Record;
 use cwr_field::Memory;
@@ -33,6 +34,14 @@ fn is_same(one: (u64, u8), other: (u64, u8)) -> bool
     one.0 == other.0 && one.1 == other.1
 }
 
+/// Whether two interested party numbers are the same. Two numbers compare faster than nine bytes.
+pub(crate) fn is_same_party(one: [u8; 9], other: [u8; 9]) -> bool
+    ensures { result ≡ bytes_eq one other }
+{
+    let key = key_of(one);
+    is_same(key, key_of(other))
+}
+
 impl<A: Allocator + Copy> Parties<A> {
     /// None.
     pub(crate) fn new(alloc: A) -> Parties<A>
@@ -41,6 +50,17 @@ impl<A: Allocator + Copy> Parties<A> {
         Parties {
             first: None,
             set: BTreeSet::new(alloc),
+        }
+    }
+
+    /// None again.
+    #[inline(always)]
+    pub(crate) fn clear(&mut self, alloc: A)
+        ensures { HoldsParties (kept_in self.new.first self.new.set) [] }
+    {
+        self.first = None;
+        if !self.set.is_empty() {
+            self.set = BTreeSet::new(alloc);
         }
     }
 

@@ -4,6 +4,7 @@ ghost use Rattle.cwr_rules.specs.Rules.{is_out_of_order, differ, is_other, is_of
 ghost use Rattle.cwr_rules.specs.Position.{position_of};
 
 use crate::last_block::LastBlock;
+use crate::parties::is_same_party;
 use crate::record::Record;
 
 /// What the records so far say about the next one.
@@ -25,7 +26,7 @@ fn differ(one: Option<[u8; 9]>, other: Option<[u8; 9]>) -> bool
 {
     match (one, other) {
         (None, None) => false,
-        (Some(one), Some(other)) => one != other,
+        (Some(one), Some(other)) => !is_same_party(one, other),
         _ => true,
     }
 }

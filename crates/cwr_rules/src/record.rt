@@ -6,6 +6,15 @@ pub(crate) struct Shares {
     pub(crate) synchronization: Option<u16>,
 }
 
+impl Shares {
+    /// Those of a line that ends before its shares.
+    pub(crate) const BLANK: Shares = Shares {
+        performing: Some(0),
+        mechanical: Some(0),
+        synchronization: Some(0),
+    };
+}
+
 /// Where shares are collected: the inclusion or exclusion indicator, and the TIS code, `None` where it is not valid.
 #[derive(Clone, Copy)]
 pub(crate) struct Territory {

@@ -14,7 +14,8 @@ use crate::record::Record;
 use crate::record_faults::add_findings;
 use crate::summary::Summary;
 use crate::whole_record::{
-    padded_front, whole_opu, whole_owr, whole_pwr, whole_spt, whole_spu, whole_swr, whole_swt,
+    bare_record, padded_front, whole_opu, whole_owr, whole_pwr, whole_spt, whole_spu, whole_swr,
+    whole_swt,
 };
 use cwr_field::Memory;
 use cwr_grammar::Lines;
@@ -88,7 +89,10 @@ impl<A: Allocator + Copy> SoFar<A> {
             → IsSoFar self.old.count self.old.position self.old.summary.sums (kept_in self.old.summary.parties.first self.old.summary.parties.set) (found_in self.old.summary.collected.first (kept_at self.old.summary.collected.others)) self.old.summary.collected.is_over self.old.findings.items before
             → IsSoFar self.new.count self.new.position self.new.summary.sums (kept_in self.new.summary.parties.first self.new.summary.parties.set) (found_in self.new.summary.collected.first (kept_at self.new.summary.collected.others)) self.new.summary.collected.is_over self.new.findings.items (record_as record_type line.now ∷ before)) }
     {
-        self.take_front(&padded_front(line), record_type)?;
+        match bare_record(line, record_type) {
+            Some(detail) => self.add(&detail)?,
+            None => self.take_front(&padded_front(line), record_type)?,
+        }
         Ok(())
     }
 

@@ -38,7 +38,7 @@ impl<A: Allocator + Copy> Summary<A> {
         ensures { IsSummary self.new.sums (kept_in self.new.parties.first self.new.parties.set) (found_in self.new.collected.first (kept_at self.new.collected.others)) self.new.collected.is_over [] }
     {
         self.sums = Sums::new();
-        self.parties = Parties::new(alloc);
+        self.parties.clear(alloc);
         self.collected.clear();
     }
 

@@ -7,7 +7,7 @@ ghost use Rattle.cwr_record.specs.declared.record_type.RecordType.TheVariants as
 ghost use Rattle.cwr_rules.specs.Records.{record_as};
 
 use crate::record::{Record, Shares, Territory};
-use cwr_record::{Column, RecordType, field_at, party_of, publisher_of};
+use cwr_record::{Column, Publisher, RecordType, Writer, field_at, party_of, publisher_of};
 
 /// An SPU, `None` where the line ends before the last of its fields.
 #[inline(always)]
@@ -100,6 +100,29 @@ pub(crate) fn whole_pwr(line: &[u8]) -> Option<Record>
     match line.first_chunk::<28>() {
         Some(front) => Some(Record::Pwr(publisher_of(front))),
         None => None,
+    }
+}
+
+/// A record whose line ends before its shares, which so are blank, `None` where it has some of them, or names a territory.
+#[inline(always)]
+pub(crate) fn bare_record(line: &[u8], record_type: RecordType) -> Option<Record>
+    ensures { IfSome result (λ detail. detail ≡ record_as record_type line.now) }
+{
+    match record_type {
+        RecordType::Spu if line.len() < Publisher::PERFORMING_OWNERSHIP.start => {
+            Some(Record::Spu(party_of(line, RecordType::Spu), Shares::BLANK))
+        }
+        RecordType::Opu if line.len() < Publisher::PERFORMING_OWNERSHIP.start => {
+            Some(Record::Opu(party_of(line, RecordType::Opu), Shares::BLANK))
+        }
+        RecordType::Swr if line.len() < Writer::PERFORMING_OWNERSHIP.start => {
+            Some(Record::Swr(party_of(line, RecordType::Swr), Shares::BLANK))
+        }
+        RecordType::Owr if line.len() < Writer::PERFORMING_OWNERSHIP.start => {
+            Some(Record::Owr(Shares::BLANK))
+        }
+        RecordType::Pwr => Some(Record::Pwr(publisher_of(line))),
+        _ => None,
     }
 }
 
