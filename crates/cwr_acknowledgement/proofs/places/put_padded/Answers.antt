@@ -1,4 +1,4 @@
-use Rattle.std.proofs.Common.{◌≡◌, ◌∙◌, ◌+◌, ◌-◌, ◌≤◌, length, ap, arith, rules}
+use Rattle.std.proofs.Common.{◌≡◌, ◌∙◌, ◌-◌, length, ap, arith, rules}
 use Rattle.cwr_field.specs.Layout.{padded}
 use Rattle.cwr_acknowledgement.proofs.OverLines.{put_behind}
 use Rattle.cwr_acknowledgement.proofs.places.put_padded.Goals as goal

@@ -1,4 +1,4 @@
-use Rattle.std.proofs.Common.{◌≡◌, ◌+◌, ◌≤◌, [], length, length-take, ap, arith, rules}
+use Rattle.std.proofs.Common.{◌+◌, ◌≤◌, length, length-take, ap, arith, rules}
 use Rattle.std.specs.Prelude.{vec_capacity}
 use Rattle.cwr_acknowledgement.specs.Outgoing.{OutgoingState}
 use Rattle.cwr_acknowledgement.proofs.outgoing.Outgoing.make_more_room.Goals as goal
