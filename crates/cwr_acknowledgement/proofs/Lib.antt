@@ -5,3 +5,4 @@ pub mod AckLaw
 pub mod Puts
 pub mod AckParts
 pub mod AckLines
+pub mod OverLines

@@ -71,6 +71,19 @@ then_put (Err e) a b c x y z n m s t p q = Cuts-then a b c x y n e.sent s t p q
 pub Puts-nil : (a : Option (List ℕ)) (x : OutgoingState) → Puts a a x x 0 []
 Puts-nil a x = record { gone = []; whole = append-nil x.held; taken = Appends-nil a; counted = omega arith; short = omega arith }
 
+-- nothing was put but what went out, and then a line behind what is held
+pub line_put : (a b : Option (List ℕ)) (x y z : OutgoingState) (room text : List ℕ) → Puts a b x y 0 [] → z.held ≡ y.held ++ room → z.sent ≡ y.sent
+    → room ≡ text → length room ≤ 187 → Puts a b x z 1 text
+line_put a b x y z room text p held sent is short = record {
+  gone = p.gone;
+  whole =
+      ap (λ l. x.held ++ l) (sym is) ∙ ap (λ l. l ++ room) (sym (append-nil x.held) ∙ p.whole) ∙ append_assoc p.gone y.held room
+      ∙ ap (λ l. p.gone ++ l) (sym held);
+  taken = p.taken;
+  counted = sent ∙ p.counted;
+  short = let len = ap length is in omega (arith, short, len);
+}
+
 -- what a put says of the state before it speaks of what was held and of what went out, and of no line
 pub put_from : (r : Result (Unit {0}) WriteStopped) (a b : Option (List ℕ)) (w x y : OutgoingState) (n : ℕ) (s t : List ℕ)
     → IsPut r a b w y n s → w.held ≡ x.held → w.sent ≡ x.sent → s ≡ t → IsPut r a b x y n t

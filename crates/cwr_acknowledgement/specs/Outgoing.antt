@@ -8,6 +8,8 @@ pub record OutgoingState : Type 0 where
   pub held : List ℕ
   -- how many bytes were written out before
   pub sent : ℕ
+  -- how many bytes of the room can be written over
+  pub ready : ℕ
   -- how many bytes can be held
   pub room : ℕ
 

@@ -1,15 +1,20 @@
 //! The ACK lines of an acknowledgement.
 
-ghost use Rattle.std.specs.Prelude.{◌≡◌, ◌<◌, ◌^◌, []};
+ghost use Rattle.std.specs.Prelude.{◌≡◌, length};
 ghost use Rattle.cwr_record.specs.Lines.{line_of};
 ghost use Rattle.cwr_record.specs.Acknowledgement as table;
-ghost use Rattle.cwr_acknowledgement.specs.Acknowledgement.{FitsItem, ack_record, ended};
+ghost use Rattle.cwr_acknowledgement.specs.Acknowledgement.{ack_record, ended};
 
 use crate::ack_records::recipient_number;
 use crate::answers::Told;
-use cwr_field::last_digits;
-use cwr_record::{Ack, Column, Header, LineRoom, Piece, Prefix, RecordType, Stamp};
+use crate::numeral::Numeral;
+use crate::places::put;
+use cwr_field::{filled, last_digits};
+use cwr_record::{Ack, Column, Header, Prefix, RecordType, Stamp};
 use std::marker::Model;
+
+/// How many bytes an ACK line has, with its end.
+pub(crate) const ACK_LEN: usize = 161;
 
 /// The end of an ACK line, behind its last field.
 const LINE_END: Column = Column {
@@ -18,7 +23,7 @@ const LINE_END: Column = Column {
 };
 
 /// The ACK lines of the transactions of one file. The dates and the time, which are the same in each of them, are spelled
-/// once.
+/// once, and the numbers, which are mostly the next ones, are counted up.
 #[derive(Drop)]
 pub(crate) struct AckForm<'a> {
     stamp: &'a Stamp,
@@ -26,6 +31,10 @@ pub(crate) struct AckForm<'a> {
     creation_date: [u8; 8],
     creation_time: [u8; 6],
     processing_date: [u8; 8],
+    transaction: Numeral<8>,
+    group: Numeral<5>,
+    sequence: Numeral<8>,
+    work: Numeral<8>,
 }
 
 impl<'a> Model for AckForm<'a> {
@@ -53,31 +62,41 @@ impl<'a> AckForm<'a> {
             creation_date: last_digits(header.creation_date.number() as u64),
             creation_time: last_digits(header.creation_time.number() as u64),
             processing_date: last_digits(stamp.date().number() as u64),
+            transaction: Numeral::of(0),
+            group: Numeral::of(0),
+            sequence: Numeral::of(0),
+            work: Numeral::of(0),
         }
     }
 
-    /// Puts the line that acknowledges an item, as the transaction `index` of its file, with its end. The room is a multiple of
-    /// eight bytes: it is then made at once, and not in one place and copied to another.
+    /// Writes the line that acknowledges an item, as the transaction `index` of its file, with its end.
     #[inline(always)]
-    pub(crate) fn fill(&self, line: &mut LineRoom<168>, index: u32, item: &Told)
-        requires none { line.old ≡ [] }
-        requires index { index < 10 ^ 8 }
-        requires fits { FitsItem item.now }
-        ensures { line.new ≡ ended (line_of table.ack (ack_record self.now.stamp self.now.header index item.now)) }
+    pub(crate) fn fill(&mut self, line: &mut [u8], index: u32, item: &Told)
+        requires { length line.old ≡ 161 }
+        ensures same { self.new ≡ self.old }
+        ensures line { line.new ≡ ended (line_of table.ack (ack_record self.old.stamp self.old.header index item.now)) }
     {
-        line.put(&Piece::Text(b"ACK", RecordType::COLUMN));
-        line.put(&Piece::Digits(index as u64, Prefix::TRANSACTION));
-        line.put(&Piece::Text(b"00000000", Prefix::DETAIL));
-        line.put(&Piece::Text(&self.creation_date, Ack::CREATION_DATE));
-        line.put(&Piece::Text(&self.creation_time, Ack::CREATION_TIME));
-        line.put(&Piece::Digits(item.group as u64, Ack::ORIGINAL_GROUP));
-        line.put(&Piece::Digits(item.sequence as u64, Ack::ORIGINAL_TRANSACTION));
-        line.put(&Piece::Text(item.kind.code(), Ack::ORIGINAL_TYPE));
-        line.put(&Piece::Text(&item.title, Ack::TITLE));
-        line.put(&Piece::Text(&item.number, Ack::SUBMITTER_NUMBER));
-        line.put(&Piece::Text(&recipient_number(item.work), Ack::RECIPIENT_NUMBER));
-        line.put(&Piece::Text(&self.processing_date, Ack::PROCESSING_DATE));
-        line.put(&Piece::Text(item.status.code(), Ack::STATUS));
-        line.put(&Piece::Text(b"\r\n", LINE_END));
+        put(line, RecordType::COLUMN, *b"ACK");
+        put(line, Prefix::TRANSACTION, self.transaction.spelled(index));
+        put(line, Prefix::DETAIL, *b"00000000");
+        put(line, Ack::CREATION_DATE, self.creation_date);
+        put(line, Ack::CREATION_TIME, self.creation_time);
+        put(line, Ack::ORIGINAL_GROUP, self.group.spelled(item.group));
+        put(
+            line,
+            Ack::ORIGINAL_TRANSACTION,
+            self.sequence.spelled(item.sequence),
+        );
+        put(line, Ack::ORIGINAL_TYPE, *item.kind.code());
+        put(line, Ack::TITLE, item.title);
+        put(line, Ack::SUBMITTER_NUMBER, filled::<20>(&item.number));
+        put(
+            line,
+            Ack::RECIPIENT_NUMBER,
+            recipient_number(&mut self.work, item.work),
+        );
+        put(line, Ack::PROCESSING_DATE, self.processing_date);
+        put(line, Ack::STATUS, *item.status.code());
+        put(line, LINE_END, *b"\r\n");
     }
 }

@@ -5,7 +5,8 @@ ghost use Rattle.cwr_field.specs.Layout.{padded};
 ghost use Rattle.cwr_field.specs.Number.{number_text};
 ghost use Rattle.cwr_acknowledgement.specs.Acknowledgement.{file_start, group_start, group_end, file_end, work_text, most_told};
 
-use cwr_field::{filled, last_digits};
+use crate::numeral::Numeral;
+use cwr_field::filled;
 use cwr_record::{FileTrailer, GroupHead, GroupTrailer, Header, Stamp};
 
 #[inline]
@@ -55,13 +56,13 @@ pub(crate) fn group_start() -> GroupHead
     }
 }
 
-/// The registry's number of a work in eight digits, or blanks where there is none.
+/// The registry's number of a work in eight digits, or blanks where there is none. `last` is the number before it.
 #[inline]
-pub(crate) fn recipient_number(work: Option<u32>) -> [u8; 20]
+pub(crate) fn recipient_number(last: &mut Numeral<8>, work: Option<u32>) -> [u8; 20]
     ensures { result ≡ padded 20 (work_text work) }
 {
     match work {
-        Some(work) => filled(&last_digits::<8>(work as u64)),
+        Some(work) => filled(&last.spelled(work)),
         None => [b' '; 20],
     }
 }

@@ -17,12 +17,12 @@ use crate::answers::{Answers, Told};
 use crate::nowhere::Nowhere;
 use crate::outgoing::Outgoing;
 use crate::stopped::AckStopped;
-use crate::told::fill_told;
+use crate::told::MessageForm;
 use byte_streams::{Sink, WriteStopped};
 use cwr_call::Fault;
 use cwr_field::Memory;
 use cwr_record::{
-    Header, LineRoom, Stamp, file_trailer_line, group_head_line, group_trailer_line, header_line,
+    Header, Stamp, file_trailer_line, group_head_line, group_trailer_line, header_line,
 };
 use std::alloc::Allocator;
 
@@ -156,7 +156,13 @@ fn put_all<W: Sink, L: Answers, A: Allocator>(
     let told = told_count(answers);
     put_file_start(out, writer, stamp)?;
     put_group_start(out, writer)?;
-    put_items(out, writer, &AckForm::new(stamp, header), answers)?;
+    put_items(
+        out,
+        writer,
+        &mut AckForm::new(stamp, header),
+        &mut MessageForm::new(),
+        answers,
+    )?;
     put_group_end(out, writer, transactions, told)?;
     put_file_end(out, writer, transactions, told)
 }
@@ -209,7 +215,8 @@ fn put_group_start<W: Sink, A: Allocator>(
 fn put_items<W: Sink, L: Answers, A: Allocator>(
     out: &mut Outgoing<A>,
     writer: &mut W,
-    form: &AckForm,
+    form: &mut AckForm,
+    messages: &mut MessageForm,
     answers: &L,
 ) -> Result<(), WriteStopped>
     requires works { W.has_failed writer.old ≡ false }
@@ -217,11 +224,18 @@ fn put_items<W: Sink, L: Answers, A: Allocator>(
     requires few { length (L.items answers.now) + told_count (L.items answers.now) ≤ most_told }
     requires fit { AllByRecursion FitsItem (L.items answers.now) }
     ensures put { IsPut result (W.taken writer.old) (W.taken writer.new) out.old out.new (length (L.items answers.now) + told_count (L.items answers.now))
-        (flat_map ended (all_item_lines form.now.stamp form.now.header 0 (L.items answers.now))) }
+        (flat_map ended (all_item_lines form.old.stamp form.old.header 0 (L.items answers.now))) }
     ensures fails { W.has_failed writer.new ≡ is_err result }
 {
     for index in 0..answers.len() {
-        put_item(out, writer, form, index as u32, &answers.told(index))?;
+        put_item(
+            out,
+            writer,
+            form,
+            messages,
+            index as u32,
+            &answers.told(index),
+        )?;
     }
     Ok(())
 }
@@ -229,52 +243,33 @@ fn put_items<W: Sink, L: Answers, A: Allocator>(
 fn put_item<W: Sink, A: Allocator>(
     out: &mut Outgoing<A>,
     writer: &mut W,
-    form: &AckForm,
+    form: &mut AckForm,
+    messages: &mut MessageForm,
     index: u32,
     item: &Told,
 ) -> Result<(), WriteStopped>
     requires works { W.has_failed writer.old ≡ false }
     requires size { size_of out.old + 187 * (1 + length (told_faults item.now)) < 2 ^ 63 }
-    requires index { index < 10 ^ 8 }
     requires few { length (told_faults item.now) ≤ most_told }
     requires fits { FitsItem item.now }
     ensures put { IsPut result (W.taken writer.old) (W.taken writer.new) out.old out.new (1 + length (told_faults item.now))
-        (flat_map ended (item_lines form.now.stamp form.now.header index item.now)) }
+        (flat_map ended (item_lines form.old.stamp form.old.header index item.now)) }
     ensures fails { W.has_failed writer.new ≡ is_err result }
+    ensures same { form.new ≡ form.old }
 {
-    put_ack(out, writer, form, index, item)?;
-    put_messages(out, writer, index, item.told_faults())
-}
-
-fn put_ack<W: Sink, A: Allocator>(
-    out: &mut Outgoing<A>,
-    writer: &mut W,
-    form: &AckForm,
-    index: u32,
-    item: &Told,
-) -> Result<(), WriteStopped>
-    requires works { W.has_failed writer.old ≡ false }
-    requires size { size_of out.old + 187 < 2 ^ 63 }
-    requires index { index < 10 ^ 8 }
-    requires fits { FitsItem item.now }
-    ensures put { IsPut result (W.taken writer.old) (W.taken writer.new) out.old out.new 1
-        (ended (line_of table.ack (ack_record form.now.stamp form.now.header index item.now))) }
-    ensures fails { W.has_failed writer.new ≡ is_err result }
-{
-    let mut line = LineRoom::new();
-    form.fill(&mut line, index, item);
-    out.put_ended(writer, line.bytes())
+    out.put_ack(writer, form, index, item)?;
+    put_messages(out, writer, messages, index, item.told_faults())
 }
 
 fn put_messages<W: Sink, A: Allocator>(
     out: &mut Outgoing<A>,
     writer: &mut W,
+    messages: &mut MessageForm,
     index: u32,
     faults: &[Fault],
 ) -> Result<(), WriteStopped>
     requires works { W.has_failed writer.old ≡ false }
     requires size { size_of out.old + 187 * length faults.now < 2 ^ 63 }
-    requires index { index < 10 ^ 8 }
     requires few { length faults.now ≤ most_told }
     requires fit { AllByRecursion FitsFault faults.now }
     ensures put { IsPut result (W.taken writer.old) (W.taken writer.new) out.old out.new (length faults.now)
@@ -282,30 +277,9 @@ fn put_messages<W: Sink, A: Allocator>(
     ensures fails { W.has_failed writer.new ≡ is_err result }
 {
     for (before, fault) in faults.iter().enumerate() {
-        put_message(out, writer, index, before as u32 + 1, fault)?;
+        out.put_message(writer, messages, index, before as u32 + 1, fault)?;
     }
     Ok(())
-}
-
-fn put_message<W: Sink, A: Allocator>(
-    out: &mut Outgoing<A>,
-    writer: &mut W,
-    index: u32,
-    detail: u32,
-    fault: &Fault,
-) -> Result<(), WriteStopped>
-    requires works { W.has_failed writer.old ≡ false }
-    requires size { size_of out.old + 187 < 2 ^ 63 }
-    requires index { index < 10 ^ 8 }
-    requires detail { detail < 10 ^ 8 }
-    requires fits { FitsFault fault.now }
-    ensures put { IsPut result (W.taken writer.old) (W.taken writer.new) out.old out.new 1
-        (ended (line_of table.message (message_record index detail fault.now))) }
-    ensures fails { W.has_failed writer.new ≡ is_err result }
-{
-    let mut line = LineRoom::new();
-    fill_told(&mut line, index, detail, fault);
-    out.put_ended(writer, line.bytes())
 }
 
 fn put_group_end<W: Sink, A: Allocator>(

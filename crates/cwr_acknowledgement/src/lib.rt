@@ -11,7 +11,9 @@ mod answers;
 pub mod laws;
 mod messages;
 mod nowhere;
+mod numeral;
 mod outgoing;
+mod places;
 mod stopped;
 mod told;
 

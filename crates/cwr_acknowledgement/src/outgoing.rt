@@ -1,14 +1,24 @@
 //! A text on its way out, piece after piece.
 
-ghost use Rattle.std.specs.Prelude.{◌≡◌, ◌≤◌, ◌<◌, ◌+◌, ◌^◌, [], false, length, IfOk, OnOk};
+ghost use Rattle.std.specs.Prelude.{◌≡◌, ◌≤◌, ◌<◌, ◌+◌, ◌^◌, ℕ, [], false, length, IfOk, OnOk};
 ghost use Rattle.std.specs.Result.{is_err};
-ghost use Rattle.cwr_acknowledgement.specs.Acknowledgement.{ended};
+ghost use Rattle.cwr_record.specs.Lines.{line_of};
+ghost use Rattle.cwr_record.specs.Acknowledgement as table;
+ghost use Rattle.cwr_acknowledgement.specs.Acknowledgement.{FitsFault, ack_record, message_record, ended};
 ghost use Rattle.cwr_acknowledgement.specs.Outgoing.{IsPut, size_of};
 
+use crate::ack_form::{ACK_LEN, AckForm};
+use crate::answers::Told;
+use crate::places::put_ended;
+use crate::told::{MESSAGE_LEN, MessageForm};
 use byte_streams::{Sink, WriteStopped, write_out};
+use cwr_call::Fault;
 use cwr_field::Memory;
 use std::alloc::Allocator;
 use std::marker::Model;
+
+/// How many bytes more are made ready at once.
+const STEP: usize = 4096;
 
 /// A text on its way into a sink, line by line.
 ///
@@ -16,24 +26,28 @@ use std::marker::Model;
 /// begin again.
 #[derive(Drop)]
 pub(crate) struct Outgoing<A: Allocator> {
-    held: Vec<u8, A>,
+    /// What is held is its front. The bytes behind are ready to be written over.
+    bytes: Vec<u8, A>,
+    /// How many bytes are held.
+    end: usize,
     /// How many bytes were written out.
     sent: u64,
 }
 
 impl<A: Allocator> Model for Outgoing<A> {
-    ghost use Rattle.std.specs.Prelude.{◌≤◌, vec_capacity};
+    ghost use Rattle.std.specs.Prelude.{◌≤◌, take, vec_len, vec_capacity};
     ghost use Rattle.cwr_acknowledgement.specs.Outgoing.{OutgoingState};
 
     ghost Value = { OutgoingState };
 
     ghost view = { λ o. record {
-      held = o.held.items;
+      held = take o.end o.bytes.items;
       sent = o.sent;
-      room = vec_capacity o.held;
+      ready = vec_len o.bytes;
+      room = vec_capacity o.bytes;
     } };
 
-    ghost invariant = { λ o. 187 ≤ vec_capacity o.held };
+    ghost invariant = { λ o. (o.end ≤ vec_len o.bytes) × (187 ≤ vec_capacity o.bytes) };
 }
 
 impl<A: Allocator + Copy> Outgoing<A> {
@@ -46,7 +60,8 @@ impl<A: Allocator + Copy> Outgoing<A> {
         ensures sent { IfOk result (λ o. o.sent ≡ 0) }
     {
         Ok(Outgoing {
-            held: Vec::with_capacity(alloc, room)?,
+            bytes: Vec::with_capacity(alloc, room)?,
+            end: 0,
             sent: 0,
         })
     }
@@ -66,48 +81,105 @@ impl<A: Allocator> Outgoing<A> {
         ensures fails { W.has_failed writer.new ≡ is_err result }
     {
         self.make_room(writer, line.len() + 2)?;
-        let Ok(()) = self.held.extend_from_slice(line) else {
-            unreachable!()
-        };
-        let Ok(()) = self.held.extend_from_slice(b"\r\n") else {
-            unreachable!()
-        };
+        let end = self.end + line.len() + 2;
+        put_ended(&mut self.bytes[self.end..end], line);
+        self.end = end;
         Ok(())
     }
 
-    /// Puts a line that has its end already.
-    #[inline]
-    pub(crate) fn put_ended<W: Sink>(
+    /// Puts the line that acknowledges an item, as the transaction `index` of its file, with its end.
+    #[inline(always)]
+    pub(crate) fn put_ack<W: Sink>(
         &mut self,
         writer: &mut W,
-        text: &[u8],
+        form: &mut AckForm,
+        index: u32,
+        item: &Told,
     ) -> Result<(), WriteStopped>
         requires works { W.has_failed writer.old ≡ false }
-        requires short { length text.now ≤ 187 }
         requires size { size_of self.old + 187 < 2 ^ 63 }
-        ensures put { IsPut result (W.taken writer.old) (W.taken writer.new) self.old self.new 1 text.now }
+        ensures put { IsPut result (W.taken writer.old) (W.taken writer.new) self.old self.new 1
+            (ended (line_of table.ack (ack_record form.old.stamp form.old.header index item.now))) }
         ensures fails { W.has_failed writer.new ≡ is_err result }
+        ensures same { form.new ≡ form.old }
     {
-        self.make_room(writer, text.len())?;
-        let Ok(()) = self.held.extend_from_slice(text) else {
-            unreachable!()
-        };
+        self.make_room(writer, ACK_LEN)?;
+        let end = self.end + ACK_LEN;
+        form.fill(&mut self.bytes[self.end..end], index, item);
+        self.end = end;
         Ok(())
     }
 
-    /// Writes out what is held, unless there is room for so many bytes more.
+    /// Puts the line that tells a fault, as the record `detail` of the transaction `index`, with its end.
+    #[inline(always)]
+    pub(crate) fn put_message<W: Sink>(
+        &mut self,
+        writer: &mut W,
+        form: &mut MessageForm,
+        index: u32,
+        detail: u32,
+        fault: &Fault,
+    ) -> Result<(), WriteStopped>
+        requires works { W.has_failed writer.old ≡ false }
+        requires size { size_of self.old + 187 < 2 ^ 63 }
+        requires fits { FitsFault fault.now }
+        ensures put { IsPut result (W.taken writer.old) (W.taken writer.new) self.old self.new 1
+            (ended (line_of table.message (message_record index detail fault.now))) }
+        ensures fails { W.has_failed writer.new ≡ is_err result }
+    {
+        self.make_room(writer, MESSAGE_LEN)?;
+        let end = self.end + MESSAGE_LEN;
+        form.fill(&mut self.bytes[self.end..end], index, detail, fault);
+        self.end = end;
+        Ok(())
+    }
+
+    /// Sees that so many bytes more are ready, and writes out what is held where there is no room for them.
+    #[inline(always)]
     fn make_room<W: Sink>(&mut self, writer: &mut W, needed: usize) -> Result<(), WriteStopped>
         requires works { W.has_failed writer.old ≡ false }
         requires size { size_of self.old < 2 ^ 63 }
         requires needed { needed ≤ 187 }
         ensures put { IsPut result (W.taken writer.old) (W.taken writer.new) self.old self.new 0 [] }
-        ensures room { OnOk result (length self.new.held + needed ≤ self.new.room) }
+        ensures ready { OnOk result (length self.new.held + needed ≤ self.new.ready) }
         ensures fails { W.has_failed writer.new ≡ is_err result }
     {
-        if self.held.capacity() - self.held.len() < needed {
-            self.write_held(writer)?;
+        if self.bytes.len() - self.end < needed {
+            self.make_more_room(writer, needed)?;
         }
         Ok(())
+    }
+
+    /// Makes so many bytes more ready, and writes out what is held where there is no room for them.
+    fn make_more_room<W: Sink>(&mut self, writer: &mut W, needed: usize) -> Result<(), WriteStopped>
+        requires works { W.has_failed writer.old ≡ false }
+        requires size { size_of self.old < 2 ^ 63 }
+        requires needed { needed ≤ 187 }
+        ensures put { IsPut result (W.taken writer.old) (W.taken writer.new) self.old self.new 0 [] }
+        ensures ready { OnOk result (length self.new.held + needed ≤ self.new.ready) }
+        ensures fails { W.has_failed writer.new ≡ is_err result }
+    {
+        if needed <= self.bytes.capacity() - self.end {
+            self.make_ready();
+            return Ok(());
+        }
+        self.write_held(writer)?;
+        self.make_ready();
+        Ok(())
+    }
+
+    /// Makes more bytes ready behind what is held, up to the end of the room.
+    fn make_ready(&mut self)
+        ensures held { self.new.held ≡ self.old.held }
+        ensures sent { self.new.sent ≡ self.old.sent }
+        ensures ready { (needed : ℕ) → needed ≤ 187 → length self.old.held + needed ≤ self.old.room → length self.new.held + needed ≤ self.new.ready }
+    {
+        let ready = self.bytes.capacity().min(self.end + STEP);
+        if self.bytes.len() < ready {
+            let Ok(()) = self.bytes.resize(ready, b' ') else {
+                unreachable!()
+            };
+        }
     }
 
     /// Writes out what is held.
@@ -119,10 +191,10 @@ impl<A: Allocator> Outgoing<A> {
         ensures room { OnOk result (187 ≤ self.new.room) }
         ensures fails { W.has_failed writer.new ≡ is_err result }
     {
-        match write_out(writer, &self.held) {
+        match write_out(writer, &self.bytes[..self.end]) {
             Ok(()) => {
-                self.sent += self.held.len() as u64;
-                self.held.clear();
+                self.sent += self.end as u64;
+                self.end = 0;
                 Ok(())
             }
             Err(cut) => Err(WriteStopped {
@@ -135,7 +207,12 @@ impl<A: Allocator> Outgoing<A> {
     pub(crate) fn into_held(self) -> Vec<u8, A>
         ensures { result.items ≡ self.held }
     {
-        let Outgoing { held, sent: _ } = self;
-        held
+        let Outgoing {
+            mut bytes,
+            end,
+            sent: _,
+        } = self;
+        bytes.truncate(end);
+        bytes
     }
 }

@@ -7,8 +7,9 @@ use Rattle.cwr_acknowledgement.proofs.acknowledgement.put_items.Given as goal
 -- what is put and what is left make the whole
 abbrev pub invariant-loop-index : goal.invariant-loop-index
 invariant-loop-index g l = record {
+  form : l.form ≡ l.fn.form;
   works : g.W.Sink.has_failed l.writer ≡ false;
   put : PutsFront (g.W.Sink.taken l.fn.writer) (g.W.Sink.taken l.writer) l.fn.out l.out (l.index + told_count (take l.index (g.L.Answers.items l.answers)))
-      (flat_map ended (all_item_lines l.form.stamp l.form.header l.index (drop l.index (g.L.Answers.items l.answers))))
-      (flat_map ended (all_item_lines l.form.stamp l.form.header 0 (g.L.Answers.items l.answers)));
+      (flat_map ended (all_item_lines l.fn.form.stamp l.fn.form.header l.index (drop l.index (g.L.Answers.items l.answers))))
+      (flat_map ended (all_item_lines l.fn.form.stamp l.fn.form.header 0 (g.L.Answers.items l.answers)));
 }
