@@ -1,4 +1,4 @@
-//! The book between two turns, and in the hands of the seat that is inside.
+//! The book, in its slot and with the seat that is inside.
 
 ghost use Rattle.std.specs.Prelude.{◌≡◌, ◌≤◌, ◌↔◌, ◌∷◌, [], ◌++◌, true, length, IfOk, IfErr, OnErr};
 ghost use Rattle.work_registry.specs.EntryValue.{entry_of};
@@ -13,8 +13,8 @@ use std::boxed::Box;
 use std::marker::Model;
 use work_registry::{Book, Call, Refused, Reply};
 
-/// The book, at one place of memory for as long as the desk is open: from hand to hand goes where it lies, and not
-/// the book. A contract sees the book.
+/// The book, which lies at one place of memory for as long as the desk is open: a turn hands on where it lies, and moves
+/// no book. A contract sees the book.
 #[derive(Drop)]
 pub(crate) struct HeldBook<A: Allocator + Copy + Drop> {
     pub(crate) book: Box<Book<A>, A>,
@@ -62,11 +62,12 @@ impl<A: Allocator + Copy + Drop> HeldBook<A> {
         self.book.apply(session, call)
     }
 
-    /// Looking at it tells the check what holds in every book.
-    pub(crate) fn look(&self)
+    /// How many entries there are.
+    pub(crate) fn len(&self) -> usize
+        ensures value { result ≡ length self.now.history }
         ensures lawful { IsHistory self.now.history }
         ensures fits { length self.now.history ≤ self.now.limit }
     {
-        let _entries = self.book.history().len();
+        self.book.history().len()
     }
 }
