@@ -8,6 +8,7 @@ ghost use Rattle.registry_desk.specs.Kinds.{draws, looks, Moves};
 ghost use Rattle.registry_desk.specs.Turns.{LooksFor, view_after};
 
 use crate::door::Door;
+use crate::held::HeldBook;
 use crate::rule::{Count, DeskRule, Draw, Give, Look, Meet, Opening};
 use crate::seat::{Counts, Inside, Looked, Seat, Waiting};
 use crate::view::View;
@@ -24,7 +25,7 @@ use work_registry::Book;
 /// A contract sees which desk it is.
 #[derive(Drop)]
 pub struct Desk<A: Allocator + Copy + Drop = Global> {
-    pub(crate) table: Table<Option<Book<A>>, View, Opening<A>, DeskRule, A>,
+    pub(crate) table: Table<Option<HeldBook<A>>, View, Opening<A>, DeskRule, A>,
     /// Who waits with a ticket sleeps at the ticket's place, until the one before it passes the lock on.
     pub(crate) sleepers: Vec<EventCount, A>,
     /// Who hands a call in comes through the door first.
@@ -71,6 +72,10 @@ impl<A: Allocator + Copy + Drop> Desk<A> {
         let Ok(mut slots) = Vec::with_capacity(alloc, 1) else {
             return Err(OpenRefused { book });
         };
+        let book = match HeldBook::hold(alloc, book) {
+            Ok(held) => held,
+            Err(book) => return Err(OpenRefused { book }),
+        };
         slots.push_reserved(Some(book));
         let mut words = [0; FLAGS + 1];
         words[flag_word(0)] = OPEN;
@@ -87,7 +92,7 @@ impl<A: Allocator + Copy + Drop> Desk<A> {
                 },
             )),
             Err(Refused { mut slots }) => {
-                let book = slots.pop().unwrap().unwrap();
+                let book = slots.pop().unwrap().unwrap().into_book();
                 Err(OpenRefused { book })
             }
         }
@@ -194,9 +199,9 @@ impl<A: Allocator + Copy + Drop> Desk<A> {
         let Seat { seat, counts: _ } = seat;
         let Desk { table, .. } = self;
         let mut closed = table.close_with(seat);
-        let book = closed.take(BOOK).unwrap();
+        let held = closed.take(BOOK).unwrap();
         closed.free();
-        book
+        held.into_book()
     }
 }
 

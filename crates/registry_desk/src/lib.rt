@@ -12,6 +12,7 @@
 
 mod desk;
 mod door;
+mod held;
 pub mod laws;
 mod rule;
 mod seat;

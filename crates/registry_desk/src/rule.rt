@@ -1,6 +1,7 @@
 //! The rule of a desk, and what each atomic step tells the seat that makes it. Each step is of one of the kinds of
 //! `specs/Kinds.antt`.
 
+use crate::held::HeldBook;
 use crate::view::View;
 use atomic_table::{Join, Play, Split, TableRule};
 use std::alloc::Allocator;
@@ -17,7 +18,7 @@ pub(crate) struct Opening<A: Allocator + Copy + Drop> {
 /// What holds of a desk between any two atomic steps, whoever makes them: the record `Kept` of `specs/Rule.antt`.
 pub struct DeskRule;
 
-impl<A: Allocator + Copy + Drop> TableRule<Option<Book<A>>, View, Opening<A>> for DeskRule {
+impl<A: Allocator + Copy + Drop> TableRule<Option<HeldBook<A>>, View, Opening<A>> for DeskRule {
     ghost use Rattle.registry_desk.specs.Rule.{Kept};
     ghost use Rattle.registry_desk.specs.Views.{opening_view};
 
@@ -29,7 +30,7 @@ impl<A: Allocator + Copy + Drop> TableRule<Option<Book<A>>, View, Opening<A>> fo
 /// A seat draws a ticket.
 pub(crate) struct Draw;
 
-impl<A: Allocator + Copy + Drop> Play<Option<Book<A>>, View> for Draw {
+impl<A: Allocator + Copy + Drop> Play<Option<HeldBook<A>>, View> for Draw {
     ghost use Rattle.registry_desk.specs.Kinds.{Tells, draws};
 
     ghost then = { Tells draws };
@@ -38,7 +39,7 @@ impl<A: Allocator + Copy + Drop> Play<Option<Book<A>>, View> for Draw {
 /// A seat looks at the flag of its ticket.
 pub(crate) struct Look;
 
-impl<A: Allocator + Copy + Drop> Play<Option<Book<A>>, View> for Look {
+impl<A: Allocator + Copy + Drop> Play<Option<HeldBook<A>>, View> for Look {
     ghost use Rattle.registry_desk.specs.Kinds.{Tells, looks};
 
     ghost then = { Tells looks };
@@ -47,7 +48,7 @@ impl<A: Allocator + Copy + Drop> Play<Option<Book<A>>, View> for Look {
 /// A seat shuts the flag of its ticket. `FULL` says whether it found the book full.
 pub(crate) struct Shut<const FULL: bool>;
 
-impl<const FULL: bool, A: Allocator + Copy + Drop> Play<Option<Book<A>>, View> for Shut<FULL> {
+impl<const FULL: bool, A: Allocator + Copy + Drop> Play<Option<HeldBook<A>>, View> for Shut<FULL> {
     ghost use Rattle.registry_desk.specs.Kinds.{Tells, shuts};
 
     ghost then = { Tells (shuts FULL) };
@@ -56,7 +57,7 @@ impl<const FULL: bool, A: Allocator + Copy + Drop> Play<Option<Book<A>>, View> f
 /// A seat opens the flag of the next ticket.
 pub(crate) struct Pass;
 
-impl<A: Allocator + Copy + Drop> Play<Option<Book<A>>, View> for Pass {
+impl<A: Allocator + Copy + Drop> Play<Option<HeldBook<A>>, View> for Pass {
     ghost use Rattle.registry_desk.specs.Kinds.{Tells, passes};
 
     ghost then = { Tells passes };
@@ -65,7 +66,7 @@ impl<A: Allocator + Copy + Drop> Play<Option<Book<A>>, View> for Pass {
 /// The opening seat learns that it has met no more seats than it gave.
 pub(crate) struct Count;
 
-impl<A: Allocator + Copy + Drop> Play<Option<Book<A>>, View> for Count {
+impl<A: Allocator + Copy + Drop> Play<Option<HeldBook<A>>, View> for Count {
     ghost use Rattle.registry_desk.specs.Kinds.{Tells, counts};
 
     ghost then = { Tells counts };

@@ -3,13 +3,13 @@
 ghost use Rattle.std.specs.Prelude.{◌≡◌, ◌+◌, ◌<◌, length};
 ghost use Rattle.registry_desk.specs.Views.{most_turns};
 
+use crate::held::HeldBook;
 use crate::view::View;
 use std::alloc::{Allocator, Global};
 use std::marker::Model;
-use work_registry::Book;
 
 /// What a seat steps with on the desk's words.
-pub(crate) type TableSeat<A> = atomic_table::Seat<Option<Book<A>>, View>;
+pub(crate) type TableSeat<A> = atomic_table::Seat<Option<HeldBook<A>>, View>;
 
 /// The numbers of a seat.
 #[derive(Clone, Copy)]
@@ -64,7 +64,7 @@ pub struct Inside<A: Allocator + Copy + Drop = Global> {
     pub(crate) seat: TableSeat<A>,
     pub(crate) counts: Counts,
     pub(crate) ticket: u64,
-    pub(crate) book: Book<A>,
+    pub(crate) book: HeldBook<A>,
     pub(crate) unused: bool,
     pub(crate) full: bool,
 }

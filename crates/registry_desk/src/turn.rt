@@ -11,13 +11,14 @@ ghost use Rattle.registry_desk.specs.Kinds.{shuts, passes, Moves};
 ghost use Rattle.registry_desk.specs.Turns.{answered, refused, ComesIn, HandsIn, LeavesBySteps, LooksFor};
 
 use crate::desk::Desk;
+use crate::held::HeldBook;
 use crate::rule::{Pass, Shut};
 use crate::seat::{Inside, Leaving, Looked, Seat, Waiting};
 use crate::words::{BOOK, CLOSED, OPEN, flag_word, place_after, place_of};
 use crossbeam_utils::Backoff;
 use std::alloc::Allocator;
 use std::sync::Wait;
-use work_registry::{Book, Call, Refused, Reply, WhyRefused};
+use work_registry::{Call, Refused, Reply, WhyRefused};
 
 /// How often a seat in line looks before it sleeps: some tens of microseconds in all, longer than most turns take.
 const FEW_LOOKS: u32 = 20;
@@ -41,7 +42,7 @@ impl<A: Allocator + Copy + Drop> Inside<A> {
         match self.book.apply(self.counts.session, call) {
             Ok(reply) => {
                 // Looking at it tells the check what holds in every book.
-                let _entries = self.book.history().len();
+                let _entries = self.book.len();
                 self.unused = false;
                 Ok(reply)
             }
@@ -78,7 +79,7 @@ impl<A: Allocator + Copy + Drop> Inside<A> {
             unused: _,
             full,
         } = self;
-        let _none: Option<Book<A>> = desk.table.shared.exchange(&mut seat, BOOK, Some(book));
+        let _none: Option<HeldBook<A>> = desk.table.shared.exchange(&mut seat, BOOK, Some(book));
         let flag = flag_word(place_of(ticket));
         if full {
             desk.table
