@@ -8,6 +8,11 @@ pub mod LaterHistories
 pub mod Decided
 pub mod GrowingBooks
 pub mod ReopenedBooks
+pub mod EightDigits
+pub mod ZeroDigits
+pub mod CodeDigits
+pub mod CleanBytes
+pub mod CleanCalls
 pub mod RegisterFields
 pub mod HandedOn
 pub mod RegisterFits

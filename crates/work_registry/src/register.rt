@@ -15,7 +15,10 @@ ghost use Rattle.std.specs.List.{AllByRecursion};
 ghost use Rattle.work_registry.specs.RegisterFaults.{IsRefusal};
 
 mod auditor;
+mod calls;
+mod clean;
 mod columns;
+mod digits;
 mod entry_line;
 mod faults;
 mod fields;

@@ -1,9 +1,10 @@
 //! The line of an entry.
 
-ghost use Rattle.std.specs.Prelude.{◌≡◌, [], ◌∷◌, ◌++◌, Some, is_some, IfSome, IfOk};
-ghost use Rattle.cwr_call.specs.Lawful.{is_lawful};
+ghost use Rattle.std.specs.Prelude.{◌≡◌, [], ◌∷◌, ◌++◌, Some, is_some, IfSome, IfOk, IsTrue};
+ghost use Rattle.cwr_call.specs.Lawful.{is_clean, is_lawful};
 ghost use Rattle.work_registry.specs.RegisterLine.{EntryLine, IsEntryLine, line_from};
 
+use super::calls::{are_texts_clean, call_from};
 use super::columns::{FAULT_WIDTH, HEAD_WIDTH};
 use super::faults::read_faults;
 use super::head::{Head, read_head};
@@ -34,23 +35,17 @@ impl<A: Allocator> Model for ReadEntry<A> {
     ghost view = { λ e. record { index = e.index; call = e.call; status = e.status; work = e.work; version = e.version } };
 }
 
-/// The entry of these fields and faults, where they can be those of a call.
-fn entry_from<A: Allocator>(head: &Head, faults: Faults<A>) -> Option<ReadEntry<A>>
+/// The entry of these fields and faults, where they can be those of a call. Of the texts it may be known that they are
+/// clean.
+#[inline(always)]
+fn entry_from<A: Allocator>(head: &Head, faults: Faults<A>, clean: bool) -> Option<ReadEntry<A>>
+    requires { IsTrue clean → IsTrue (is_clean head.now.submitter) × IsTrue (is_clean head.now.title) × IsTrue (is_clean head.now.number) }
     ensures when { is_some result ≡ is_lawful (line_from head.now faults).call }
     ensures value { IfSome result (λ x. x ≡ line_from head.now faults) }
 {
-    let call = Call::of(
-        head.submitter,
-        head.kind,
-        head.title,
-        head.number,
-        head.iswc,
-        head.control,
-        faults,
-    )?;
     Some(ReadEntry {
         index: head.index,
-        call,
+        call: call_from(head, faults, clean)?,
         status: head.status,
         work: head.work,
         version: head.version,
@@ -81,5 +76,5 @@ pub(super) fn read_entry<A: Allocator>(
     let Some(faults) = read_faults(alloc, rest)? else {
         return Ok(None);
     };
-    Ok(entry_from(&head, faults))
+    Ok(entry_from(&head, faults, are_texts_clean(front)))
 }

@@ -7,8 +7,9 @@ ghost use Rattle.work_registry.specs.RegisterLine.{head};
 ghost use Rattle.work_registry.specs.declared.register.head.Head.{Head};
 
 use super::columns;
+use super::digits::digits_at;
 use super::fields::code_at;
-use cwr_record::{Status, WorkKind, digits_at, field_at};
+use cwr_record::{Status, WorkKind, field_at};
 
 /// What the fields of fixed place spell.
 #[derive(Clone, Copy)]
@@ -31,6 +32,7 @@ pub(crate) struct Head {
 }
 
 /// What a line has in its fields of fixed place, bytes 1 to 173.
+#[inline(always)]
 pub(super) fn read_head(line: &[u8]) -> Option<Head>
     ensures some { IfSome result (StandsFor head line.now) }
     ensures fits { IfSome result (Fits head) }

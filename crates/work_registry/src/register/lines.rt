@@ -7,25 +7,13 @@ ghost use Rattle.work_registry.specs.Register.{count_line};
 ghost use Rattle.work_registry.specs.RegisterColumns.{head_width};
 ghost use Rattle.work_registry.specs.RegisterFaults.{lines, has_end};
 
+use super::clean::are_most_clean;
 use super::columns::{self, COUNT_WIDTH, HEAD_WIDTH};
 use cwr_record::{digits_at, field_at};
 use memchr::memchr;
 
-/// Whether there is an LF.
-#[inline(always)]
-fn has_end(text: &[u8]) -> bool
-    ensures { result ≡ has_end text.now }
-{
-    let mut found = false;
-    // No byte ends the loop, so that many are looked at at once.
-    for byte in text {
-        found |= *byte == b'\n';
-    }
-    found
-}
-
-/// Whether the first LF stands right behind the fields of fixed place, as it does in the line of an entry without
-/// faults.
+/// Whether the first LF stands right behind the fields of fixed place, as it does in the line of an entry without faults.
+/// No byte of these is a control byte.
 #[inline(always)]
 fn ends_after_head(text: &[u8]) -> bool
     ensures { IsTrue result → IsFirstByte (is_byte 10) text.now (Some head_width) }
@@ -36,7 +24,10 @@ fn ends_after_head(text: &[u8]) -> bool
     if text[HEAD_WIDTH] != b'\n' {
         return false;
     }
-    !has_end(&text[..HEAD_WIDTH])
+    if !are_most_clean(text, 0) {
+        return false;
+    }
+    are_most_clean(text, 64) && are_most_clean(text, 109)
 }
 
 /// The index of the first LF.

@@ -1,3 +1,5 @@
+use Rattle.std.proofs.Common.{List, ℕ, IsTrue, sym, subst}
+use Rattle.cwr_call.specs.Lawful.{is_clean}
 use Rattle.work_registry.proofs.RegisterEntries.{headless, miscounted, faultless, says_some, only_read}
 use Rattle.work_registry.proofs.register.entry_line.read_entry.Goals as goal
 
@@ -21,3 +23,10 @@ pub returns-clause-only : goal.returns-clause-only
 returns-clause-only g c =
     only_read c.args.line.now c.in-Some.head c.in-Some-2.faults c.in_ok-faults.field-0 c.entry_from.result (rw c.split_at.ensures.front at c.in-Some.ensures.some) c.in-Some.ensures.rights
     c.in-Some-2.is (rw c.split_at.ensures.back at c.in_ok-faults.ensures.only) c.entry_from.ensures.when c.entry_from.ensures.value
+
+pub entry_from-requires : goal.entry_from-requires
+entry_from-requires g c = λ clean.
+    let P : List ℕ → Type 0 = λ text. IsTrue (is_clean text) in
+    let stands = c.in-Some.ensures.some in
+    let all = c.are_texts_clean.ensures clean in
+    (subst P (sym stands.1.1.0) all.0, subst P (sym stands.1.1.1.1.0) all.1, subst P (sym stands.1.1.1.1.1.0) all.2)

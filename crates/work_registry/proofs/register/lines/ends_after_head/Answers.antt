@@ -1,14 +1,10 @@
-use Rattle.std.proofs.Common.{◌≡◌, ◌∙◌, not, Bool, false, true, refl, sym, arith}
-use Rattle.std.proofs.lemmas.List.{length-take}
+use Rattle.std.proofs.Common.{arith}
+use Rattle.work_registry.proofs.CleanBytes.{three_blocks}
 use Rattle.work_registry.proofs.RegisterLines.{first_at}
 use Rattle.work_registry.proofs.register.lines.ends_after_head.Goals as goal
 
-pub slice_bounds-has_end-end : goal.slice_bounds-has_end-end
-slice_bounds-has_end-end c = omega (arith, length-take 173 c.args.text.now, c.if-text-le-HEAD_WIDTH.false)
-
-is_none : (b : Bool) → not b ≡ true → b ≡ false
-is_none true h = absurd cc
-is_none false h = refl
-
-pub returns : goal.returns
-returns c = λ none. first_at c.args.text.now 173 c.if-text-le-HEAD_WIDTH.false c.if-text-ne10.false (sym c.has_end.ensures ∙ is_none c.has_end.result none)
+pub returns-then-are_most_clean : goal.returns-then-are_most_clean
+returns-then-are_most_clean c = λ last.
+    let text = c.args.text.now in
+    first_at text 173 c.if-text-le-HEAD_WIDTH.false c.if-text-ne10.false
+    (three_blocks text (c.are_most_clean.ensures c.if-not-are_most_clean.false) (c.are_most_clean-2.ensures c.if-are_most_clean.true) (c.are_most_clean-then-are_most_clean.ensures last) (omega (arith, c.if-text-le-HEAD_WIDTH.false)))
