@@ -5,6 +5,7 @@ use cwr_field::Memory;
 use kept_file::FileNames;
 use std::alloc::Global;
 use std::fs::{self, Metadata};
+use std::io::ErrorKind;
 use std::os::unix::fs::MetadataExt;
 use std::path::Path;
 use std::rt::Files;
@@ -254,6 +255,7 @@ impl<'a, R: AllocGlobal + Files> Finder<'a, R> {
                 Some(node) => Ok(Place::Taken(node)),
                 None => self.free_place(name),
             },
+            Err(error) if error.kind() == ErrorKind::OutOfMemory => Err(Memory),
             Err(_) => self.free_place(name),
         }
     }
