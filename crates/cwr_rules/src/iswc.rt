@@ -19,8 +19,9 @@ fn number_of_nine(code: [u8; 11]) -> Option<u64>
     }
 }
 
-/// Whether the last of eleven bytes is the check digit of the nine digits before it: with it, 1 and the digits in their
-/// weights add up to a multiple of 10. So they do as bytes, with 3 for the 1, since '0' in each weight makes 8.
+/// Whether the last of eleven bytes is the check digit of the nine digits before it: it, 1 and the digits in their weights
+/// add up to a multiple of 10. The bytes are added up as they are: each holds '0', which is 48, and the weights are 46 in
+/// all, so that 2,208 is in the sum too, and 3 stands for the 1.
 #[inline(always)]
 fn has_check_digit(code: [u8; 11]) -> bool
     ensures { (n : ℕ) → number_of (slice_range code 1 10) ≡ Some n → result ≡ (slice_index code 10 == 48 + check_digit n) }
