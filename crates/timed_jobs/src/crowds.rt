@@ -1,0 +1,85 @@
+//! Works of very many records.
+
+use crate::chance::Chance;
+use crate::digits::{five, iswc, nine, work_number};
+use crate::form::{CRLF, Form};
+use crate::sheet::{Sheet, Work};
+use crate::titles::title;
+use cwr_field::Memory;
+use std::alloc::Global;
+
+/// A file of one work without a fault: so many publishers of as many parties, a writer, and a link to each of them, in
+/// another order, and territories of some codes.
+pub(crate) fn crowd(alloc: Global, parties: u32, chance: &mut Chance) -> Result<Vec<u8>, Memory> {
+    let mut form = Form::new(alloc, b"NWR", CRLF)?;
+    for party in shuffled(alloc, parties, chance)? {
+        form.push(
+            b"SPU",
+            55,
+            &[(20, b"01"), (22, &nine(party)), (31, b"MUSIC HOUSE")],
+        )?;
+    }
+    form.push_writer(999_999_999, 10_000)?;
+    for party in shuffled(alloc, parties, chance)? {
+        form.push(b"PWR", 55, &[(20, &nine(party)), (29, b"MUSIC HOUSE")])?;
+    }
+    for territory in shuffled(alloc, parties, chance)? {
+        let code = five(territory % 10_000);
+        form.push(
+            b"SWT",
+            52,
+            &[
+                (20, b"999999999"),
+                (29, b"000010000000001I"),
+                (45, &code[1..5]),
+                (50, b"001"),
+            ],
+        )?;
+    }
+    file_of(alloc, &form, chance)
+}
+
+/// A file of one work of so many records, each with a fault of its own: publishers and writers without a party.
+pub(crate) fn crowd_without_parties(
+    alloc: Global,
+    records: u32,
+    chance: &mut Chance,
+) -> Result<Vec<u8>, Memory> {
+    let mut form = Form::new(alloc, b"NWR", CRLF)?;
+    for record in 0..records {
+        if record < records / 2 {
+            form.push(b"SPU", 60, &[(31, b"MUSIC HOUSE")])?;
+        } else {
+            form.push(b"SWR", 60, &[(29, b"DOE")])?;
+        }
+    }
+    file_of(alloc, &form, chance)
+}
+
+/// A file of one work of these records.
+fn file_of(alloc: Global, form: &Form, chance: &mut Chance) -> Result<Vec<u8>, Memory> {
+    let mut sheet = Sheet::begin(alloc, 9, b"NWR", CRLF)?;
+    let number = chance.below(99_999_999);
+    let work = Work {
+        title: title(chance),
+        number: work_number(number),
+        iswc: iswc(number),
+    };
+    let _ = sheet.push(form, &work)?;
+    sheet.end()
+}
+
+/// The numbers below a bound, each once, in some order.
+fn shuffled(alloc: Global, bound: u32, chance: &mut Chance) -> Result<Vec<u32>, Memory> {
+    let mut numbers = Vec::new(alloc);
+    for number in 0..bound {
+        numbers.push(number)?;
+    }
+    for place in 0..numbers.len() {
+        let other = chance.below(bound) as usize;
+        if other < numbers.len() {
+            numbers.swap(place, other);
+        }
+    }
+    Ok(numbers)
+}

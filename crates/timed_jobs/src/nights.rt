@@ -1,0 +1,205 @@
+//! Runs of many files at one book.
+
+ghost use Rattle.std.specs.Prelude.{◌≡◌, ◌≤◌, ◌<◌, All, IfOk, false, true, length, vec_len};
+ghost use Rattle.work_registry.specs.Replay.{is_opening};
+
+use crate::catalogue::{Order, Style, file, new_works};
+use crate::chance::Chance;
+use crate::digest::Digest;
+use byte_streams::Feed;
+use cwr_desk::{Book, FileOutcome, Job, Run, Stamp, cut, date, serve_in_turn, time, work_alone};
+use cwr_field::Memory;
+use kept_register::{new_book, read_book};
+use std::alloc::Global;
+
+/// How many bytes a file or a register gives in a read.
+pub(crate) const PIECE: usize = 65_536;
+
+/// The most files of a run.
+const MOST_FILES: usize = 63;
+
+type DigestJob<'a> = Job<Feed<'a>, Digest>;
+
+type DigestRun<'a> = Run<Feed<'a>, Digest>;
+
+/// Society 7, on 1 June 2024 at nine.
+pub(crate) fn stamp() -> Result<Stamp, Memory> {
+    let (Some(day), Some(clock)) = (date(cut(b"20240601", 1, 8)), time(cut(b"090000", 1, 6))) else {
+        return Err(Memory);
+    };
+    Stamp::new(7, b"MY SOCIETY", day, clock).ok_or(Memory)
+}
+
+/// Two nights, one after the other, each from the register of the night before, and then small files one at a time.
+///
+/// The first night has sixteen large files of new works. The second has sixty-three smaller ones: new works, revisions,
+/// and works that other submitters have claimed.
+pub(crate) fn nights(alloc: Global, size: u32, chance: &mut Chance) -> Result<Digest, Memory> {
+    let mut digest = Digest::new();
+    let files = large_files(alloc, size, chance)?;
+    let book = run(alloc, new_book(alloc), &files, &mut digest)?;
+    let register = register_of(alloc, &book, &mut digest)?;
+    let Ok(book) = read_book(alloc, &mut Feed::new(&register, PIECE, None)) else {
+        return Err(Memory);
+    };
+    let files = small_files(alloc, size, chance)?;
+    let book = run(alloc, book, &files, &mut digest)?;
+    let book = one_at_a_time(alloc, size, chance, book, &mut digest)?;
+    let _ = register_of(alloc, &book, &mut digest)?;
+    Ok(digest)
+}
+
+/// Sixteen files of new works, an eighth of them of many records each.
+fn large_files(alloc: Global, size: u32, chance: &mut Chance) -> Result<Vec<Vec<u8>>, Memory> {
+    let mut files = Vec::new(alloc);
+    for number in 0..16u32 {
+        let style = if number % 8 == 7 {
+            Style::Mixed
+        } else if number % 8 == 3 {
+            Style::Shared
+        } else {
+            Style::Thin
+        };
+        let order = new_works(style, number, number.saturating_mul(size), size);
+        files.push(file(alloc, chance, &order)?)?;
+    }
+    Ok(files)
+}
+
+/// Sixty-three files, a tenth of the size: revisions of works of the night before, works of theirs that another submitter
+/// claims, and new ones.
+fn small_files(alloc: Global, size: u32, chance: &mut Chance) -> Result<Vec<Vec<u8>>, Memory> {
+    let mut files = Vec::new(alloc);
+    for number in 0..63u32 {
+        files.push(file(alloc, chance, &small_order(size, number))?)?;
+    }
+    Ok(files)
+}
+
+fn small_order(size: u32, number: u32) -> Order {
+    let claimed = number % 16;
+    let first = claimed.saturating_mul(size);
+    let works = size / 10;
+    match number % 4 {
+        0 => Order {
+            kind: b"REV",
+            ..new_works(Style::Thin, claimed, first, works)
+        },
+        1 => new_works(Style::Shared, 100u32.saturating_add(number), first, works),
+        2 => Order {
+            kind: b"REV",
+            ..new_works(Style::Mixed, claimed, first, works / 4)
+        },
+        _ => new_works(
+            Style::Thin,
+            100u32.saturating_add(number),
+            number.saturating_add(20).saturating_mul(size),
+            works,
+        ),
+    }
+}
+
+/// Files of twenty works, each worked alone at the book, after all that came before.
+fn one_at_a_time(
+    alloc: Global,
+    size: u32,
+    chance: &mut Chance,
+    mut book: Book,
+    digest: &mut Digest,
+) -> Result<Book, Memory> {
+    let stamp = stamp()?;
+    for number in 0..size / 50 {
+        let first = 90_000_000u32.saturating_add(chance.below(100_000));
+        let order = new_works(Style::Shared, 200u32.saturating_add(number), first, 20);
+        let text = file(alloc, chance, &order)?;
+        let (worked, job, outcome) = work_alone(alloc, book, 1, job_of(&text), &stamp);
+        take_job(&job, &outcome, digest);
+        book = worked;
+    }
+    Ok(book)
+}
+
+/// Works files in turn at a book, and answers it as one whose entries are all of its opening.
+fn run(alloc: Global, book: Book, files: &[Vec<u8>], digest: &mut Digest) -> Result<Book, Memory>
+    requires { is_opening book.history ≡ true }
+{
+    let jobs = jobs_of(alloc, files)?;
+    match serve_in_turn(alloc, jobs, book, &stamp()?) {
+        Ok(run) => {
+            take_run(&run, digest);
+            Ok(run.book.reopened())
+        }
+        Err(_) => Err(Memory),
+    }
+}
+
+/// A job for each of these files, at most as many as a run takes.
+pub(crate) fn jobs_of<'a>(alloc: Global, files: &'a [Vec<u8>]) -> Result<Vec<DigestJob<'a>>, Memory>
+    ensures few { IfOk result (λ jobs. vec_len jobs < 64) }
+    ensures works { IfOk result (λ jobs. All (λ j. (j.reader.has_failed ≡ false) × (j.writer.failed ≡ false)) jobs.items) }
+{
+    let files = &files[..files.len().min(MOST_FILES)];
+    let mut jobs = Vec::new(alloc);
+    for file in files {
+        jobs.push(job_of(file))?;
+    }
+    Ok(jobs)
+}
+
+/// The job of a file, whose acknowledgement goes into a digest.
+pub(crate) fn job_of<'a>(text: &'a [u8]) -> DigestJob<'a>
+    ensures { (result.reader.has_failed ≡ false) × (result.writer.failed ≡ false) }
+{
+    Job {
+        reader: Feed::new(text, PIECE, None),
+        writer: Digest::new(),
+    }
+}
+
+/// Takes what a run left of its jobs.
+fn take_run(run: &DigestRun<'_>, digest: &mut Digest) {
+    for (job, outcome) in run.jobs.iter().zip(&run.outcomes) {
+        take_job(job, outcome, digest);
+    }
+}
+
+/// Takes a job's acknowledgement, and how it ended.
+fn take_job(job: &DigestJob<'_>, outcome: &FileOutcome, digest: &mut Digest) {
+    digest.number(job.writer.sum());
+    take_outcome(outcome, digest);
+}
+
+/// Takes how a job ended.
+pub(crate) fn take_outcome(outcome: &FileOutcome, digest: &mut Digest) {
+    match outcome {
+        FileOutcome::Acked { transactions } => digest.number(*transactions as u64),
+        FileOutcome::Refused { number, line } => {
+            digest.text(b"refused");
+            digest.number(*number as u64);
+            digest.number(*line);
+        }
+        FileOutcome::Stopped { handed, why: _ } => {
+            digest.text(b"stopped");
+            digest.number(*handed as u64);
+        }
+    }
+}
+
+/// The register of a book, made in pieces as a run keeps it.
+pub(crate) fn register_of(
+    alloc: Global,
+    book: &Book,
+    digest: &mut Digest,
+) -> Result<Vec<u8>, Memory> {
+    let mut register = Vec::new(alloc);
+    let mut pieces = book.register_pieces(alloc, PIECE)?;
+    for _ in 0..=u32::MAX {
+        pieces.advance();
+        if pieces.piece().is_empty() {
+            break;
+        }
+        register.extend_from_slice(pieces.piece())?;
+    }
+    digest.text(&register);
+    Ok(register)
+}

@@ -1,0 +1,151 @@
+//! A register against the files that were sent, and their acknowledgements.
+
+ghost use Rattle.std.specs.Prelude.{◌≡◌, IfOk, false};
+
+use crate::catalogue::{Style, file, new_works};
+use crate::chance::Chance;
+use crate::digest::Digest;
+use crate::nights::{PIECE, register_of, stamp};
+use byte_streams::{Feed, Spool};
+use cwr_desk::{Book, Job, work_alone};
+use cwr_field::Memory;
+use cwr_verify::{SentFile, Unverified, verify};
+use kept_register::{new_book, read_book};
+use std::alloc::Global;
+
+/// A file that was sent, and its acknowledgement.
+#[derive(Drop)]
+struct Sent {
+    text: Vec<u8>,
+    acknowledgement: Vec<u8>,
+}
+
+/// The files of a year: each was answered by the registry in its turn. They are verified against its register, and once
+/// more with one acknowledgement that tells something else.
+pub(crate) fn verifying(alloc: Global, size: u32, chance: &mut Chance) -> Result<Digest, Memory> {
+    let mut digest = Digest::new();
+    let mut sent = Vec::new(alloc);
+    let book = year(alloc, size, chance, &mut sent)?;
+    let register = register_of(alloc, &book, &mut digest)?;
+    let Ok(book) = read_book(alloc, &mut Feed::new(&register, PIECE, None)) else {
+        return Err(Memory);
+    };
+    verify_all(alloc, &book, &sent, &mut digest)?;
+    spoil(&mut sent, chance);
+    verify_all(alloc, &book, &sent, &mut digest)?;
+    Ok(digest)
+}
+
+/// Works so many files of a hundred works one after the other.
+fn year(
+    alloc: Global,
+    size: u32,
+    chance: &mut Chance,
+    sent: &mut Vec<Sent>,
+) -> Result<Book, Memory> {
+    let mut book = new_book(alloc);
+    for number in 0..size {
+        let style = if number % 4 == 3 {
+            Style::Shared
+        } else {
+            Style::Thin
+        };
+        let first = chance.below(20).saturating_mul(50_000);
+        let order = new_works(style, number % 300, first.saturating_add(number), 100);
+        let text = file(alloc, chance, &order)?;
+        let (worked, acknowledgement) = worked_alone(alloc, book, &text)?;
+        sent.push(Sent {
+            text,
+            acknowledgement,
+        })?;
+        book = worked;
+    }
+    Ok(book.reopened())
+}
+
+/// Works a file at a book, and answers that with the acknowledgement.
+fn worked_alone(alloc: Global, book: Book, text: &[u8]) -> Result<(Book, Vec<u8>), Memory> {
+    let (book, job, _) = work_alone(alloc, book, 1, spool_job(alloc, text), &stamp()?);
+    Ok((book, job.writer.into_bytes()))
+}
+
+/// The job of a file, whose acknowledgement is kept.
+fn spool_job<'a>(alloc: Global, text: &'a [u8]) -> Job<Feed<'a>, Spool>
+    ensures { (result.reader.has_failed ≡ false) × (result.writer.has_failed ≡ false) }
+{
+    Job {
+        reader: Feed::new(text, PIECE, None),
+        writer: Spool::new(alloc),
+    }
+}
+
+/// Changes a byte of one of the last acknowledgements.
+fn spoil(sent: &mut Vec<Sent>, chance: &mut Chance) {
+    let count = sent.len();
+    let back = 1 + chance.below(5) as usize;
+    if back <= count {
+        let acknowledgement = &mut sent[count - back].acknowledgement;
+        let middle = acknowledgement.len() / 2;
+        if let Some(byte) = acknowledgement.get_mut(middle) {
+            *byte = if *byte == b'0' { b'1' } else { b'0' };
+        }
+    }
+}
+
+/// Verifies all files, and takes which entries answer them, or what does not fit.
+fn verify_all(
+    alloc: Global,
+    book: &Book,
+    sent: &[Sent],
+    digest: &mut Digest,
+) -> Result<(), Memory> {
+    let mut files = Vec::new(alloc);
+    for Sent {
+        text,
+        acknowledgement,
+    } in sent {
+        files.push(SentFile {
+            text,
+            acknowledgement,
+        })?;
+    }
+    match verify(alloc, book, &files) {
+        Ok(owners) => {
+            for owner in &owners {
+                digest.number(*owner as u64);
+            }
+            Ok(())
+        }
+        Err(Unverified::Memory) => Err(Memory),
+        Err(unverified) => {
+            take_unverified(unverified, digest);
+            Ok(())
+        }
+    }
+}
+
+/// Takes what does not fit.
+fn take_unverified(unverified: Unverified, digest: &mut Digest) {
+    match unverified {
+        Unverified::Memory => digest.text(b"memory"),
+        Unverified::TooLong { file } => digest.number(file as u64),
+        Unverified::Refused { file, number, line } => {
+            digest.number(file as u64);
+            digest.number(number as u64);
+            digest.number(line);
+        }
+        Unverified::Transaction {
+            file,
+            group,
+            sequence,
+        } => {
+            digest.number(file as u64);
+            digest.number(group as u64);
+            digest.number(sequence as u64);
+        }
+        Unverified::Acknowledgement { file, line } => {
+            digest.number(file as u64);
+            digest.number(line as u64);
+        }
+    }
+}
