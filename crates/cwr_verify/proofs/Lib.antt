@@ -1,4 +1,5 @@
 pub mod Owning
+pub mod Chaining
 pub mod Checked
 pub mod Files
 pub mod Telling

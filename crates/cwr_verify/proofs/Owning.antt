@@ -1,10 +1,11 @@
 -- The entries of a file so far, and one more.
-use Rattle.std.proofs.Common.{◌≡◌, ◌≢◌, ◌∙◌, ℕ, zero, suc, ◌+◌, ◌<◌, Bool, true, false, List, [], ◌∷◌, ◌++◌, length, take, get_or, if◌then◌else◌, refl, sym, ap, arith}
+use Rattle.std.proofs.Common.{◌≡◌, ◌≢◌, ◌∙◌, ℕ, zero, suc, ◌+◌, ◌-◌, ◌<◌, ◌≤◌, Bool, true, false, List, [], ◌∷◌, ◌++◌, length, take, get_or, if◌then◌else◌, refl, sym, ap, arith}
 use Rattle.std.specs.Prelude.{◌==◌}
 use Rattle.std.proofs.lemmas.Bool.Decides.{nat_tests}
 use Rattle.cwr_call.specs.CallValue.{CallValue}
 use Rattle.work_registry.specs.EntryValue.{EntryValue, entry_of}
 use Rattle.work_registry.specs.declared.reply.Reply.{Reply}
+use Rattle.cwr_verify.specs.Chained.{IsNext}
 use Rattle.cwr_verify.specs.Owned.{owned}
 
 -- the next entry's part of the list
@@ -49,6 +50,27 @@ passed_over file i owners history o lt same other =
     ∙ (step ∙ (ap (λ own. owned file (take i owners) (take i history) ++ part own (get_or history i (some history i within))) not_own
     ∙ append_none (owned file (take i owners) (take i history))))
 
+skip : (file from n : ℕ) (owners : List ℕ) (history : List EntryValue) → length owners ≡ length history → from + n ≤ length owners
+    → ((k : ℕ) → from ≤ k → k < from + n → get_or owners k 0 ≢ file)
+    → owned file (take (from + n) owners) (take (from + n) history) ≡ owned file (take from owners) (take from history)
+skip file from zero owners history same within other =
+    let none : from + zero ≡ from = omega arith in
+    ap (λ (k : ℕ). owned file (take k owners) (take k history)) none
+skip file from (suc n) owners history same within other =
+    let next : from + suc n ≡ from + n + 1 = omega arith in
+    ap (λ (k : ℕ). owned file (take k owners) (take k history)) next
+    ∙ (passed_over file (from + n) owners history 0 (omega (arith, within)) same (other (from + n) (omega arith) (omega arith))
+    ∙ skip file from n owners history same (omega (arith, within)) (λ k past before. other k past (omega (arith, before))))
+
+-- the file owns none of the entries before its next
+pub skipped_to : (file from next : ℕ) (owners : List ℕ) (history : List EntryValue) → length owners ≡ length history → IsNext file owners from next
+    → owned file (take next owners) (take next history) ≡ owned file (take from owners) (take from history)
+skipped_to file from next owners history same is =
+    let on : from ≤ next = is.onward in
+    let size : from + (next - from) ≡ next = omega (arith, on) in
+    ap (λ (k : ℕ). owned file (take k owners) (take k history)) (sym size)
+    ∙ skip file from (next - from) owners history same (omega (arith, is.within, size)) (λ k past before. is.skipped k past (omega (arith, before, size)))
+
 -- an entry that is the file's
 pub taken_on : (file i : ℕ) (owners : List ℕ) (history : List EntryValue) (o : ℕ) (d : EntryValue) → i < length owners → length owners ≡ length history → get_or owners i o ≡ file
     → owned file (take (i + 1) owners) (take (i + 1) history) ≡ owned file (take i owners) (take i history) ++ get_or history i d ∷ []
@@ -63,16 +85,12 @@ pub as_entry : (e : EntryValue) (session : ℕ) (call : CallValue) (reply : Repl
 as_entry e session call reply s c r = λ i. record { session = s i; call = sym c i; reply = sym r i }
 
 -- the next of the file's entries answers a call
-pub answered_by : (file at seen : ℕ) (owners : List ℕ) (history : List EntryValue) (o : ℕ) (e : EntryValue) (call : CallValue) (reply : Reply)
+pub answered_by : (file at next : ℕ) (owners : List ℕ) (history : List EntryValue) (o : ℕ) (e : EntryValue) (call : CallValue) (reply : Reply)
     → at < length owners → length owners ≡ length history → get_or owners at o ≡ file
-    → owned file (take at owners) (take at history) ≡ owned file (take seen owners) (take seen history)
+    → owned file (take next owners) (take next history) ≡ owned file (take (at + 1) owners) (take (at + 1) history)
     → e ≡ get_or history at e → e.session ≡ 0 → call ≡ e.call → reply ≡ e.reply
-    → owned file (take (at + 1) owners) (take (at + 1) history) ≡ owned file (take seen owners) (take seen history) ++ entry_of 0 call reply ∷ []
-answered_by file at seen owners history o e call reply lt same its before is session asked replied =
-    taken_on file at owners history o e lt same its
-    ∙ (ap (λ l. l ++ get_or history at e ∷ []) before
-    ∙ ap (λ x. owned file (take seen owners) (take seen history) ++ x ∷ []) (sym is ∙ as_entry e 0 call reply session asked replied))
-
--- no entry is seen yet
-pub none_seen : (file at : ℕ) (owners : List ℕ) (history : List EntryValue) → at ≡ 0 → owned file (take at owners) (take at history) ≡ []
-none_seen file at owners history none = ap (λ (n : ℕ). owned file (take n owners) (take n history)) none
+    → owned file (take next owners) (take next history) ≡ owned file (take at owners) (take at history) ++ entry_of 0 call reply ∷ []
+answered_by file at next owners history o e call reply lt same its after is session asked replied =
+    after
+    ∙ (taken_on file at owners history o e lt same its
+    ∙ ap (λ x. owned file (take at owners) (take at history) ++ x ∷ []) (sym is ∙ as_entry e 0 call reply session asked replied))

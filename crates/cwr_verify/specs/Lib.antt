@@ -1,5 +1,6 @@
 pub mod Sent
 pub mod Owned
+pub mod Chained
 pub mod Verified
 pub mod Told
 pub mod Home

@@ -1,9 +1,11 @@
 //! One file against the entries that it is said to own.
-ghost use Rattle.std.specs.Prelude.{◌≡◌, ℕ, [], false, length, IfErr, IsTrue, OnOk};
+ghost use Rattle.std.specs.Prelude.{◌≡◌, ◌<◌, ℕ, [], false, length, take, IfErr, IsTrue, OnOk};
+ghost use Rattle.cwr_verify.specs.Chained.{AreChained};
 ghost use Rattle.cwr_verify.specs.Owned.{owned};
 ghost use Rattle.cwr_verify.specs.Told.{IsSo, IsToldOf};
 ghost use Rattle.cwr_verify.specs.Verified.{IsAnsweredBy};
 
+use crate::chains::Chains;
 use crate::past::Past;
 use crate::same_call::are_same_bytes;
 use crate::sent::SentFile;
@@ -24,10 +26,13 @@ pub(crate) fn check_file<A: Allocator + Copy + Drop>(
     alloc: A,
     book: &Book<A>,
     owners: &[usize],
+    chains: &Chains<A>,
     number: usize,
     file: &SentFile,
 ) -> Result<(), Unverified>
-    requires { length owners.now ≡ length book.now.history }
+    requires same { length owners.now ≡ length book.now.history }
+    requires chained { AreChained owners.now chains.now.firsts.items chains.now.nexts.items }
+    requires known { number < length chains.now.firsts.items }
     ensures answered { OnOk result (IsAnsweredBy file.now (owned number owners.now book.now.history)) }
     ensures told { IfErr result (λ told. IsToldOf number file.now told) }
 {
@@ -40,7 +45,7 @@ pub(crate) fn check_file<A: Allocator + Copy + Drop>(
     let Ok(mut writer) = Room::new(alloc, file.acknowledgement.len(), true) else {
         return Err(Unverified::Memory);
     };
-    let past = Past::of(book, owners, number);
+    let past = Past::of(book, owners, chains, number);
     let (outcome, is_over) = work_again(alloc, past, file.text, &mut writer, &stamp);
     if let FileOutcome::Acked { transactions: _ } = outcome {
         if is_over && are_same_bytes(writer.bytes(), file.acknowledgement) {
@@ -83,7 +88,7 @@ fn work_again<A: Allocator + Copy + Drop>(
     writer: &mut Room<A>,
     stamp: &Stamp,
 ) -> (FileOutcome, bool)
-    requires begins { past.at ≡ 0 }
+    requires begins { owned past.file (take past.at past.owners.now) (take past.at past.book.now.history) ≡ [] }
     requires empty { writer.old.taken ≡ [] }
     requires works { writer.old.has_failed ≡ false }
     ensures so { IsSo text.now result.0 }

@@ -4,6 +4,7 @@
 //! finds for each of them the entry of the register that has its call, with the reply that the acknowledgement tells.
 #![tactic(auto)]
 
+mod chains;
 mod file_check;
 mod past;
 mod proposal;

@@ -1,10 +1,11 @@
 //! The past of a registry, as a place to hand calls in.
-ghost use Rattle.std.specs.Prelude.{◌≡◌, ◌<◌, ◌≤◌, ℕ, List, None, true, length, take, IsTrue};
+ghost use Rattle.std.specs.Prelude.{◌≡◌, ◌<◌, ◌≤◌, [], List, None, true, length, take, IsTrue};
 ghost use Rattle.std.specs.List.{slice_index};
-ghost use Rattle.work_registry.specs.EntryValue.{EntryValue};
+ghost use Rattle.cwr_verify.specs.Chained.{AreChained};
 ghost use Rattle.cwr_verify.specs.Home.{Home};
 ghost use Rattle.cwr_verify.specs.Owned.{owned};
 
+use crate::chains::Chains;
 use crate::same_call::is_same_call;
 use cwr_engine::Window;
 use std::alloc::Allocator;
@@ -18,27 +19,39 @@ use work_registry::{Book, Call, Reply, WhyRefused};
 pub(crate) struct Past<'h, A: Allocator + Copy + Drop> {
     book: &'h Book<A>,
     owners: &'h [usize],
+    chains: &'h Chains<A>,
     file: usize,
-    /// The entries before this one are seen.
+    /// The next entry that the file owns, the number of the entries where it owns no more: those before it are seen.
     at: usize,
     ghost same: { length owners.now ≡ length book.now.history },
+    ghost chained: { AreChained owners.now chains.now.firsts.items chains.now.nexts.items },
+    ghost known: { file < length chains.now.firsts.items },
     ghost within: { at ≤ length owners.now },
+    ghost mine: { at < length owners.now → slice_index owners.now at ≡ file },
 }
 
 impl<'h, A: Allocator + Copy + Drop> Past<'h, A> {
     /// The entries that a file owns.
-    pub(crate) fn of(book: &'h Book<A>, owners: &'h [usize], file: usize) -> Past<'h, A>
-        requires { length owners.now ≡ length book.now.history }
+    pub(crate) fn of(
+        book: &'h Book<A>,
+        owners: &'h [usize],
+        chains: &'h Chains<A>,
+        file: usize,
+    ) -> Past<'h, A>
+        requires same { length owners.now ≡ length book.now.history }
+        requires chained { AreChained owners.now chains.now.firsts.items chains.now.nexts.items }
+        requires known { file < length chains.now.firsts.items }
         ensures book { result.book.now ≡ book.now }
         ensures owners { result.owners.now ≡ owners.now }
         ensures file { result.file ≡ file }
-        ensures begins { result.at ≡ 0 }
+        ensures begins { owned result.file (take result.at result.owners.now) (take result.at result.book.now.history) ≡ [] }
     {
         Past {
             book,
             owners,
+            chains,
             file,
-            at: 0,
+            at: chains.first(file),
         }
     }
 
@@ -47,25 +60,8 @@ impl<'h, A: Allocator + Copy + Drop> Past<'h, A> {
         ensures { IsTrue result → owned self.now.file (take self.now.at self.now.owners.now) (take self.now.at self.now.book.now.history)
             ≡ owned self.now.file self.now.owners.now self.now.book.now.history }
     {
-        next_owned(self.owners, self.file, self.at) == self.owners.len()
+        self.at == self.owners.len()
     }
-}
-
-/// The next entry that a file owns, from one on; the number of the entries where it owns no more.
-fn next_owned(owners: &[usize], file: usize, from: usize) -> usize
-    requires { from ≤ length owners.now }
-    ensures onward { from ≤ result }
-    ensures within { result ≤ length owners.now }
-    ensures skipped { (history : List EntryValue) → length owners.now ≡ length history
-        → owned file (take result owners.now) (take result history) ≡ owned file (take from owners.now) (take from history) }
-    ensures found { result < length owners.now → slice_index owners.now result ≡ file }
-{
-    for at in from..owners.len() {
-        if owners[at] == file {
-            return at;
-        }
-    }
-    owners.len()
 }
 
 impl<'h, A: Allocator + Copy + Drop> Window<Call<A>> for Past<'h, A> {
@@ -87,7 +83,7 @@ impl<'h, A: Allocator + Copy + Drop> Window<Call<A>> for Past<'h, A> {
 
     fn hand_in(self, call: Call<A>) -> (Past<'h, A>, Result<Reply, WhyRefused>) {
         let history = self.book.history();
-        let at = next_owned(self.owners, self.file, self.at);
+        let at = self.at;
         if at == history.len() {
             return (self, Err(WhyRefused::Full));
         }
@@ -99,8 +95,9 @@ impl<'h, A: Allocator + Copy + Drop> Window<Call<A>> for Past<'h, A> {
         let after = Past {
             book: self.book,
             owners: self.owners,
+            chains: self.chains,
             file: self.file,
-            at: at + 1,
+            at: self.chains.after(at),
         };
         (after, Ok(reply))
     }

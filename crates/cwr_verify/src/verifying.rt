@@ -2,6 +2,7 @@ ghost use Rattle.std.specs.Prelude.{IfErr, IfOk};
 ghost use Rattle.cwr_verify.specs.Told.{IsTold};
 ghost use Rattle.cwr_verify.specs.Verified.{AreAnswered};
 
+use crate::chains::Chains;
 use crate::file_check::check_file;
 use crate::proposal::proposed;
 use crate::sent::SentFile;
@@ -32,8 +33,12 @@ pub fn verify<A: Allocator + Copy + Drop>(
         Ok(owners) => owners,
         Err(Memory) => return Err(Unverified::Memory),
     };
+    let each = owners.as_slice();
+    let Ok(chains) = Chains::of(alloc, each, files.len()) else {
+        return Err(Unverified::Memory);
+    };
     for (number, file) in files.iter().enumerate() {
-        check_file(alloc, book, &owners, number, file)?;
+        check_file(alloc, book, each, &chains, number, file)?;
     }
     Ok(owners)
 }
