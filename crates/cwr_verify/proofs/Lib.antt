@@ -3,3 +3,4 @@ pub mod Chaining
 pub mod Checked
 pub mod Files
 pub mod Telling
+pub mod Turns

@@ -1,6 +1,7 @@
 pub mod Sent
 pub mod Owned
 pub mod Chained
+pub mod Wanting
 pub mod Verified
 pub mod Told
 pub mod Home

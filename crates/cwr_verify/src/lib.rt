@@ -13,6 +13,8 @@ mod sent;
 mod told;
 mod unverified;
 mod verifying;
+mod waiting;
+mod wanted;
 
 pub use sent::SentFile;
 pub use unverified::Unverified;

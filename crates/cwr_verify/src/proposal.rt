@@ -1,39 +1,17 @@
 //! Which file each entry answers, as the acknowledgements let one think. Nothing rests on it: it is checked.
 ghost use Rattle.std.specs.Prelude.{◌≡◌, length, IfOk, IsTrue};
 ghost use Rattle.cwr_call.specs.Lawful.{is_clean};
+ghost use Rattle.cwr_verify.specs.Wanting.{AreWaiting};
 
-use crate::same_call::is_same_call;
 use crate::sent::SentFile;
-use crate::told::{Told, told_in};
+use crate::told::told_in;
+use crate::waiting::Waiting;
+use crate::wanted::{Wanted, owner_of, waiting_of};
 use cwr_field::Memory;
 use cwr_grammar::{FileRefusal, Submission, parse_file};
 use cwr_rules::judge;
 use std::alloc::Allocator;
 use work_registry::{Call, Entry};
-
-/// The calls of a file that are not found yet, with what its acknowledgement tells of them.
-#[derive(Drop)]
-struct Wanted<A: Allocator> {
-    calls: Vec<Call<A>, A>,
-    told: Vec<Told, A>,
-    /// So many of them are found.
-    found: usize,
-}
-
-impl<A: Allocator> Wanted<A> {
-    /// Takes an entry that the next transaction can have made, and answers whether it is one.
-    fn takes(&mut self, entry: &Entry<A>) -> bool {
-        let (Some(call), Some(told)) = (self.calls.get(self.found), self.told.get(self.found))
-        else {
-            return false;
-        };
-        let fits = told.is_of(entry.reply()) && is_same_call(call, entry.call());
-        if fits {
-            self.found += 1;
-        }
-        fits
-    }
-}
 
 /// The file of each entry, the first of those whose next transaction can have made it, else the number of the files.
 pub(crate) fn proposed<A: Allocator + Copy>(
@@ -44,22 +22,26 @@ pub(crate) fn proposed<A: Allocator + Copy>(
     ensures { IfOk result (λ owners. length owners.items ≡ length history.now) }
 {
     let mut wanted = wanted_of(alloc, files)?;
+    let mut waiting = waiting_of(alloc, &wanted)?;
+    owners_of(alloc, wanted.as_mut_slice(), &mut waiting, history)
+}
+
+/// The owner of each entry, one after the other.
+fn owners_of<A: Allocator + Copy>(
+    alloc: A,
+    wanted: &mut [Wanted<A>],
+    waiting: &mut Waiting<A>,
+    history: &[Entry<A>],
+) -> Result<Vec<usize, A>, Memory>
+    requires { AreWaiting wanted.old waiting.old }
+    ensures { IfOk result (λ owners. length owners.items ≡ length history.now) }
+{
     let mut owners = Vec::new(alloc);
     for entry in history {
-        let owner = owner_of(wanted.as_mut_slice(), entry);
+        let owner = owner_of(wanted, waiting, entry)?;
         owners.push(owner)?;
     }
     Ok(owners)
-}
-
-/// The first file whose next transaction can have made an entry, else the number of the files.
-fn owner_of<A: Allocator>(wanted: &mut [Wanted<A>], entry: &Entry<A>) -> usize {
-    for file in 0..wanted.len() {
-        if wanted[file].takes(entry) {
-            return file;
-        }
-    }
-    wanted.len()
 }
 
 fn wanted_of<A: Allocator + Copy>(
@@ -68,12 +50,9 @@ fn wanted_of<A: Allocator + Copy>(
 ) -> Result<Vec<Wanted<A>, A>, Memory> {
     let mut all = Vec::new(alloc);
     for file in files {
-        let wanted = Wanted {
-            calls: calls_in(alloc, file.text)?,
-            told: told_in(alloc, file.acknowledgement)?,
-            found: 0,
-        };
-        all.push(wanted)?;
+        let calls = calls_in(alloc, file.text)?;
+        let told = told_in(alloc, file.acknowledgement)?;
+        all.push(Wanted::of(calls, told))?;
     }
     Ok(all)
 }

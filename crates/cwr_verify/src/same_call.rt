@@ -1,4 +1,4 @@
-ghost use Rattle.std.specs.Prelude.{◌≡◌, IsTrue};
+ghost use Rattle.std.specs.Prelude.{◌≡◌, ◌↔◌, IsTrue};
 
 use cwr_record::WorkKind;
 use std::alloc::Allocator;
@@ -6,7 +6,7 @@ use work_registry::{Call, Fault};
 
 /// Whether two calls ask the same.
 pub(crate) fn is_same_call<A: Allocator>(one: &Call<A>, other: &Call<A>) -> bool
-    ensures { IsTrue result → one.now ≡ other.now }
+    ensures { IsTrue result ↔ (one.now ≡ other.now) }
 {
     are_same_bytes(&one.number(), &other.number())
         && are_same_bytes(&one.submitter(), &other.submitter())
@@ -19,31 +19,31 @@ pub(crate) fn is_same_call<A: Allocator>(one: &Call<A>, other: &Call<A>) -> bool
 
 /// Whether two texts are the same.
 pub(crate) fn are_same_bytes(one: &[u8], other: &[u8]) -> bool
-    ensures { IsTrue result → one.now ≡ other.now }
+    ensures { IsTrue result ↔ (one.now ≡ other.now) }
 {
     one == other
 }
 
 fn is_same_kind(one: WorkKind, other: WorkKind) -> bool
-    ensures { IsTrue result → one ≡ other }
+    ensures { IsTrue result ↔ (one ≡ other) }
 {
     one == other
 }
 
 fn is_same_code(one: Option<u64>, other: Option<u64>) -> bool
-    ensures { IsTrue result → one ≡ other }
+    ensures { IsTrue result ↔ (one ≡ other) }
 {
     one == other
 }
 
 fn are_same_shares(one: &[u64], other: &[u64]) -> bool
-    ensures { IsTrue result → one.now ≡ other.now }
+    ensures { IsTrue result ↔ (one.now ≡ other.now) }
 {
     one == other
 }
 
 fn are_same_faults(one: &[Fault], other: &[Fault]) -> bool
-    ensures { IsTrue result → one.now ≡ other.now }
+    ensures { IsTrue result ↔ (one.now ≡ other.now) }
 {
     if one.len() != other.len() {
         return false;
@@ -57,7 +57,7 @@ fn are_same_faults(one: &[Fault], other: &[Fault]) -> bool
 }
 
 fn is_same_fault(one: &Fault, other: &Fault) -> bool
-    ensures { IsTrue result → one.now ≡ other.now }
+    ensures { IsTrue result ↔ (one.now ≡ other.now) }
 {
     one.sequence == other.sequence
         && one.number == other.number

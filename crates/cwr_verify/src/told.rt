@@ -1,4 +1,6 @@
 //! What an acknowledgement tells, as far as it can be read. Nothing rests on it: what is found by it is checked.
+ghost use Rattle.std.specs.Prelude.{◌≡◌};
+ghost use Rattle.cwr_verify.specs.Wanting.{told_of};
 
 use cwr_field::{cut, digits};
 use cwr_grammar::Lines;
@@ -14,9 +16,14 @@ pub(crate) struct Told {
 }
 
 impl Told {
-    /// Whether a reply is told so.
-    pub(crate) fn is_of(&self, reply: Reply) -> bool {
-        self.status == reply.status() && self.work == reply.work()
+    /// What is told of a reply.
+    pub(crate) fn of(reply: Reply) -> Told
+        ensures { result ≡ told_of reply }
+    {
+        Told {
+            status: reply.status(),
+            work: reply.work(),
+        }
     }
 }
 

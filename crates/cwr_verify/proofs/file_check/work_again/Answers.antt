@@ -1,4 +1,4 @@
-use Rattle.std.proofs.Common.{◌≡◌, ◌∙◌, List, ℕ, Some, ap, refl}
+use Rattle.std.proofs.Common.{◌∙◌, List, ℕ, Some, ap, refl}
 use Rattle.cwr_verify.specs.Home.{Home}
 use Rattle.cwr_verify.specs.Owned.{owned}
 use Rattle.cwr_verify.proofs.Checked.{answered}

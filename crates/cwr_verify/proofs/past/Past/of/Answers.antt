@@ -1,4 +1,4 @@
-use Rattle.std.proofs.Common.{◌≡◌, ℕ, sym, subst}
+use Rattle.std.proofs.Common.{ℕ, sym, subst}
 use Rattle.cwr_verify.specs.Chained.{IsNext}
 use Rattle.cwr_verify.proofs.Owning.{skipped_to}
 use Rattle.cwr_verify.proofs.past.Past.of.Goals as goal

@@ -39,6 +39,6 @@ returns-clause-gained g c =
       list = answered_by c.args.self.file c.args.self.at c.after.result c.args.self.owners.now c.args.self.book.now.history _ e c.args.call c.reply-reply.result lt same
           (c.args.self.mine lt) (skipped_to c.args.self.file (c.args.self.at + 1) c.after.result c.args.self.owners.now c.args.self.book.now.history same is)
           (subst (λ (h : List EntryValue). e ≡ get_or h c.args.self.at e) entries c.index-history-at.is)
-          (sym c.session.ensures ∙ c.if-session-ne0.false) (c.if-not-is_same_call.ensures refl ∙ c.call-else-session-ne0.ensures) c.reply-reply.ensures;
+          (sym c.session.ensures ∙ c.if-session-ne0.false) (c.if-not-is_same_call.ensures.0 refl ∙ c.call-else-session-ne0.ensures) c.reply-reply.ensures;
       whole = tt;
     }

@@ -1,0 +1,261 @@
+-- Who waits under a key, by turns: by key, and then by file.
+use Rattle.std.proofs.Common.{◌≡◌, ◌≢◌, ◌∙◌, ℕ, zero, suc, ◌+◌, ◌<◌, ◌≤◌, Bool, true, false, List, [], ◌∷◌, length, get_or, set, Some, None, refl, sym, ap, subst, ⊎_elim, arith}
+use Rattle.std.specs.Prelude.{◌||◌, slice_get}
+use Rattle.std.specs.BTreeSet.{BTreeSet, contains, keys_between, IsKeyInRange, IsOrdered, Updates}
+use Rattle.std.specs.BTreeMap.Range.{range_contains, Places}
+use Rattle.std.specs.Cmp.{IsTotalOrder, nat_cmp_is}
+use Rattle.std.specs.List.{All, list_any}
+use Rattle.std.specs.Ordering.{nat_cmp, ordering_then, ordering_reverse, is_eq, is_gt}
+use Rattle.std.specs.declared.cmp.Ordering.{Ordering}
+use Rattle.std.specs.declared.cmp.Ordering.TheVariants.{Less, Equal, Greater}
+use Rattle.std.specs.declared.ops.Bound.TheVariants.{Included, Excluded}
+use Rattle.std.proofs.lemmas.Bool.{cases_eq, cases_lt}
+use Rattle.std.proofs.lemmas.List.{length-set, get_or-set_same, get_or-set_other}
+use Rattle.std.proofs.lemmas.Option.{slice_get_read, get_or_from_slice_get}
+use Rattle.std.proofs.lemmas.Cmp.{ranked, tied_itself, alike_right, nat_cmp_total, nat_list_cmp_total, on_total, then_total}
+use Rattle.std.proofs.lemmas.Map.Keys.{Less-from_sorted}
+use Rattle.std.proofs.lemmas.Map.Views.{any-filter_same, range_contains-from_IsInRange, by_place}
+use Rattle.cwr_call.specs.CallValue.{CallValue}
+use Rattle.work_registry.specs.EntryValue.{EntryValue}
+use Rattle.cwr_verify.specs.declared.waiting.Key.{Key}
+use Rattle.cwr_verify.specs.Wanting.{Wanting, CanHaveMade, IsFirst, HasMovedOn, AreWaiting, found_next, key_of, key_cmp, turn_cmp}
+
+-- ---- the order of turns
+
+pub key_total : IsTotalOrder key_cmp
+key_total = then_total (on_total (λ (k : Key). k.submitter) nat_list_cmp_total) (on_total (λ (k : Key). k.number) nat_list_cmp_total)
+
+pub turn_total : IsTotalOrder turn_cmp
+turn_total = then_total (on_total (λ (t : Key × ℕ). t.0) key_total) (on_total (λ (t : Key × ℕ). t.1) nat_cmp_total)
+
+-- under one key, by file
+pub under_key : (key : Key) (a b : ℕ) → turn_cmp (key, a) (key, b) ≡ nat_cmp a b
+under_key key a b = ap (λ (o : Ordering). ordering_then o (nat_cmp a b)) (tied_itself key_total key)
+
+then_equal : (o p : Ordering) → ordering_then o p ≡ Equal → p ≡ Equal
+then_equal Less p h = absurd (let bad : Less ≡ Equal = h in cc)
+then_equal Equal p h = h
+then_equal Greater p h = absurd (let bad : Greater ≡ Equal = h in cc)
+
+-- equal turns are of one file
+pub one_file : (x y : Key × ℕ) → turn_cmp x y ≡ Equal → x.1 ≡ y.1
+one_file x y same = ranked x.1 y.1 Equal (sym (then_equal (key_cmp x.0 y.0) (nat_cmp x.1 y.1) same))
+
+equal_from : (o : Ordering) → is_eq o ≡ true → o ≡ Equal
+equal_from Less h = absurd (let bad : false ≡ true = h in cc)
+equal_from Equal h = refl
+equal_from Greater h = absurd (let bad : false ≡ true = h in cc)
+
+unequal_from : (o : Ordering) → (o ≡ Equal → ⊥) → is_eq o ≡ false
+unequal_from Less h = refl
+unequal_from Equal h = absurd (h refl)
+unequal_from Greater h = refl
+
+-- the turns of two files differ
+pub apart : (x y : Key × ℕ) → (x.1 ≡ y.1 → ⊥) → is_eq (turn_cmp x y) ≡ false
+apart x y other = unequal_from (turn_cmp x y) (λ same. other (one_file x y same))
+
+last_part : (o p q : Ordering) → is_gt (ordering_then (ordering_reverse o) p) ≡ false → ordering_then o q ≡ Less → q ≡ Less
+last_part Less p q h less = absurd (let bad : true ≡ false = h in cc)
+last_part Equal p q h less = less
+last_part Greater p q h less = absurd (let bad : Greater ≡ Less = less in cc)
+
+-- a turn from the first one of a key on, and before a file's turn under this key, is of an earlier file
+pub earlier_file : (key : Key) (t : Key × ℕ) (b : ℕ) → is_gt (turn_cmp (key, 0) t) ≡ false → turn_cmp t (key, b) ≡ Less → t.1 < b
+earlier_file key t b from before =
+    let back : is_gt (ordering_then (ordering_reverse (key_cmp t.0 key)) (nat_cmp 0 t.1)) ≡ false =
+    ap (λ (o : Ordering). is_gt (ordering_then o (nat_cmp 0 t.1))) (sym (key_total.antisymm key t.0)) ∙ from in
+    ranked t.1 b Less (sym (last_part (key_cmp t.0 key) (nat_cmp 0 t.1) (nat_cmp t.1 b) back before))
+
+least : (n : ℕ) → is_gt (nat_cmp 0 n) ≡ false
+least zero = refl
+least (suc n) = ap is_gt (sym (nat_cmp_is 0 (suc n) Less (omega arith)))
+
+less_from_lt : (a b : ℕ) → a < b → nat_cmp a b ≡ Less
+less_from_lt a b lt = sym (nat_cmp_is a b Less lt)
+
+-- the first turn of a key is not after another
+pub forward : (key : Key) (n : ℕ) → is_gt (turn_cmp (key, 0) (key, n)) ≡ false
+forward key n = ap is_gt (under_key key 0 n) ∙ least n
+
+-- what is equal to a file's turn lies among the turns of its key
+pub among : (key : Key) (files file : ℕ) (t : Key × ℕ) → file < files → turn_cmp (key, file) t ≡ Equal
+    → range_contains turn_cmp (Included (key, 0)) (Excluded (key, files)) t ≡ true
+among key files file t lt same =
+    range_contains-from_IsInRange turn_total (Included (key, 0)) (Excluded (key, files)) t (
+      ap is_gt (sym (alike_right turn_total (key, file) t (key, 0) same) ∙ under_key key 0 file) ∙ least file,
+      sym (turn_total.congr (key, file) t (key, files) same) ∙ (under_key key file files ∙ less_from_lt file files lt),
+    )
+
+-- ---- the place of what a test finds
+
+abbrev pub Place : {X : Type 0} → (X → Bool) → List X → Type 0
+Place {X} test xs = (k : ℕ) × (k < length xs) × ((d : X) → test (get_or xs k d) ≡ true)
+
+place_step : {X : Type 0} (test : X → Bool) (x : X) (xs : List X) (b : Bool) → test x ≡ b → (b || list_any test xs) ≡ true → (list_any test xs ≡ true → Place test xs) → Place test (x ∷ xs)
+place_step test x xs true is h rest = (0, omega arith, λ d. is)
+place_step test x xs false is h rest =
+    let p = rest h in
+    (suc p.0, let lt : p.0 < length xs = p.1 in omega arith, λ d. p.2 d)
+
+pub place_of : {X : Type 0} (test : X → Bool) (xs : List X) → list_any test xs ≡ true → Place test xs
+place_of test [] h = absurd (let bad : false ≡ true = h in cc)
+place_of test (x ∷ xs) h = place_step test x xs (test x) refl h (place_of test xs)
+
+-- ---- the first file that can have made an entry
+
+abbrev pub Refuses : List Wanting → EntryValue → ℕ → Type 0
+Refuses all e file = (d : Wanting) → file < length all → CanHaveMade (get_or all file d) e → ⊥
+
+-- these are the turns of the key of an entry
+abbrev pub AreTurns : List Wanting → BTreeSet (Key × ℕ) → EntryValue → List (Key × ℕ) → Type 0
+AreTurns all waiting e turns = turns ≡ keys_between turn_cmp (Included (key_of e.call, 0)) (Excluded (key_of e.call, length all)) waiting
+
+-- a file that can have made the entry has its turn there
+pub has_turn : (all : List Wanting) (waiting : BTreeSet (Key × ℕ)) (e : EntryValue) (turns : List (Key × ℕ)) (file : ℕ) (d : Wanting)
+    → AreWaiting all waiting → AreTurns all waiting e turns → file < length all → CanHaveMade (get_or all file d) e
+    → Place (λ (t : Key × ℕ). is_eq (turn_cmp (key_of e.call, file) t)) turns
+has_turn all waiting e turns file d waits are lt made =
+    let test : Key × ℕ → Bool = λ (t : Key × ℕ). is_eq (turn_cmp (key_of e.call, file) t) in
+    place_of test turns
+    (ap (list_any test) are
+    ∙ (any-filter_same test (range_contains turn_cmp (Included (key_of e.call, 0)) (Excluded (key_of e.call, length all))) true
+    (λ t same. among (key_of e.call) (length all) file t lt (equal_from (turn_cmp (key_of e.call, file) t) same)) waiting.keys
+    ∙ waits file d e.call lt made.call))
+
+pub none_made : (all : List Wanting) (waiting : BTreeSet (Key × ℕ)) (e : EntryValue) (turns : List (Key × ℕ))
+    → AreWaiting all waiting → AreTurns all waiting e turns
+    → ((k : ℕ) (d : Key × ℕ) → k < length turns → Refuses all e (get_or turns k d).1)
+    → IsFirst all e (length all)
+none_made all waiting e turns waits are refuse = record {
+  within = omega arith;
+  passed = λ file d lt made.
+      let place = has_turn all waiting e turns file d waits are lt made in
+      let turn : Key × ℕ = get_or turns place.0 (key_of e.call, file) in
+      let same : file ≡ turn.1 = one_file (key_of e.call, file) turn (equal_from (turn_cmp (key_of e.call, file) turn) (place.2 (key_of e.call, file))) in
+      refuse place.0 (key_of e.call, file) place.1 d (subst (λ (f : ℕ). f < length all) same lt) (subst (λ (f : ℕ). CanHaveMade (get_or all f d) e) same made);
+  made = λ d lt. absurd (omega arith);
+}
+
+pub first_made : (all : List Wanting) (waiting : BTreeSet (Key × ℕ)) (e : EntryValue) (turns : List (Key × ℕ)) (i : ℕ) (t : Key × ℕ)
+    → AreWaiting all waiting → AreTurns all waiting e turns
+    → IsOrdered turn_cmp waiting → Places waiting.keys turns → All (IsKeyInRange turn_cmp (Included (key_of e.call, 0)) (Excluded (key_of e.call, length all)) waiting) turns
+    → ((k : ℕ) (d : Key × ℕ) → k < i → Refuses all e (get_or turns k d).1)
+    → i < length turns → ((d : Key × ℕ) → get_or turns i d ≡ t) → t.1 < length all → ((d : Wanting) → CanHaveMade (get_or all t.1 d) e)
+    → IsFirst all e t.1
+first_made all waiting e turns i t waits are ordered places within refuse lt at known made = record {
+  within = omega (arith, known);
+  passed = λ file d before its.
+      let key : Key = key_of e.call in
+      let all_of : file < length all = omega (arith, before, known) in
+      let place = has_turn all waiting e turns file d waits are all_of its in
+      let k : ℕ = place.0 in
+      let lt' : k < length turns = place.1 in
+      let o : Key × ℕ = (key, file) in
+      let turn : Key × ℕ = get_or turns k o in
+      let equal : turn_cmp o turn ≡ Equal = equal_from (turn_cmp o turn) (place.2 o) in
+      let same : file ≡ turn.1 = one_file o turn equal in
+      ⊎_elim
+      (λ (sooner : k < i). refuse k o sooner d (subst (λ (f : ℕ). f < length all) same all_of) (subst (λ (f : ℕ). CanHaveMade (get_or all f d) e) same its))
+      (λ (later : i ≤ k). ⊎_elim
+      (λ (here : k ≡ i).
+      let it : turn ≡ t = ap (λ (j : ℕ). get_or turns j o) here ∙ at o in
+      let file_is : file ≡ t.1 = same ∙ ap (λ (u : Key × ℕ). u.1) it in
+      omega (arith, file_is, before))
+      (λ (other : k ≢ i).
+      let mine = places.at i o by_place lt in
+      let its_place = places.at k o by_place lt' in
+      let rises : turn_cmp (get_or waiting.keys (places.start + i) o) (get_or waiting.keys (places.start + k) o) ≡ Less =
+      Less-from_sorted turn_cmp waiting.keys (places.start + i) (places.start + k) o ordered (omega (arith, later, other)) its_place.0 in
+      let less : turn_cmp t turn ≡ Less =
+      ap (λ (u : Key × ℕ). turn_cmp u turn) (sym (at o) ∙ mine.1) ∙ (ap (λ (u : Key × ℕ). turn_cmp (get_or waiting.keys (places.start + i) o) u) its_place.1 ∙ rises) in
+      let before_it : turn_cmp t o ≡ Less = alike_right turn_total o turn t equal ∙ less in
+      let from : is_gt (turn_cmp (key, 0) t) ≡ false = subst (λ (u : Key × ℕ). is_gt (turn_cmp (key, 0) u) ≡ false) (at o) (within i o lt).0.0 in
+      let earlier : t.1 < file = earlier_file key t file from before_it in
+      omega (arith, earlier, before))
+      (cases_eq k i))
+      (cases_lt k i);
+  made = λ d _. made d;
+}
+
+-- ---- what is read
+
+pub read_at : {X : Type 0} (xs : List X) (i : ℕ) (x : X) → i < length xs → x ≡ get_or xs i x → (d : X) → get_or xs i d ≡ x
+read_at xs i x lt is d = get_or_from_slice_get xs i x d (slice_get_read xs (length xs) i x refl lt is)
+
+-- one turn more
+pub refused_more : (all : List Wanting) (e : EntryValue) (turns : List (Key × ℕ)) (n : ℕ) (t : Key × ℕ) → slice_get turns n ≡ Some t
+    → ((k : ℕ) (d : Key × ℕ) → k < n → Refuses all e (get_or turns k d).1) → Refuses all e t.1
+    → (k : ℕ) (d : Key × ℕ) → k < n + 1 → Refuses all e (get_or turns k d).1
+refused_more all e turns n t is before here k d lt =
+    ⊎_elim
+    (λ (same : k ≡ n).
+    subst (λ (u : Key × ℕ). Refuses all e u.1) (sym (ap (λ (j : ℕ). get_or turns j d) same ∙ get_or_from_slice_get turns n t d is)) here)
+    (λ (other : k ≢ n). before k d (omega (arith, lt, other)))
+    (cases_eq k n)
+
+-- a file that has moved on
+pub moved_on : (all : List Wanting) (file : ℕ) (w next : Wanting) → file < length all → w ≡ get_or all file w → next ≡ found_next w → HasMovedOn all (set all file next) file
+moved_on all file w next lt is on = record {
+  files = length-set all file next;
+  others = λ other d differs. get_or-set_other all file other next d differs;
+  its = λ d _. get_or-set_same all file next d lt ∙ (on ∙ ap found_next (sym (read_at all file w lt is d)));
+}
+
+-- ---- files that wait for their next calls
+
+-- the same of the files below this one
+abbrev pub AreWaitingBelow : ℕ → List Wanting → BTreeSet (Key × ℕ) → Type 0
+AreWaitingBelow files all waiting = (file : ℕ) (d : Wanting) (call : CallValue) → file < files
+    → slice_get (get_or all file d).calls (get_or all file d).found ≡ Some call → contains turn_cmp waiting (key_of call, file) ≡ true
+
+-- one file more, which waits for no call
+pub none_waits : (files : ℕ) (all : List Wanting) (waiting : BTreeSet (Key × ℕ)) → ((d : Wanting) → slice_get (get_or all files d).calls (get_or all files d).found ≡ None)
+    → AreWaitingBelow files all waiting → AreWaitingBelow (files + 1) all waiting
+none_waits files all waiting none before file d call lt is =
+    ⊎_elim
+    (λ (same : file ≡ files). absurd (let bad : None ≡ Some call = sym (subst (λ (f : ℕ). slice_get (get_or all f d).calls (get_or all f d).found ≡ None) (sym same) (none d)) ∙ is in cc))
+    (λ (other : file ≢ files). before file d call (omega (arith, lt, other)) is)
+    (cases_eq file files)
+
+-- one file more, which waits under this key
+pub one_waits : (files : ℕ) (all : List Wanting) (before after : BTreeSet (Key × ℕ)) (key : Key)
+    → ((d : Wanting) (call : CallValue) → slice_get (get_or all files d).calls (get_or all files d).found ≡ Some call → key ≡ key_of call)
+    → Updates turn_cmp before after (key, files) true → AreWaitingBelow files all before → AreWaitingBelow (files + 1) all after
+one_waits files all before after key its put waits file d call lt is =
+    ⊎_elim
+    (λ (same : file ≡ files).
+    let key_is : key ≡ key_of call = its d call (subst (λ (f : ℕ). slice_get (get_or all f d).calls (get_or all f d).found ≡ Some call) same is) in
+    subst (λ (t : Key × ℕ). contains turn_cmp after t ≡ true) (λ i. (key_is i, sym same i)) put.1)
+    (λ (other : file ≢ files).
+    put.2 (key_of call, file) (apart (key, files) (key_of call, file) (λ same. other (sym same))) ∙ waits file d call (omega (arith, lt, other)) is)
+    (cases_eq file files)
+
+-- a file that has moved on waits for no call
+pub stops_waiting : (all now : List Wanting) (file : ℕ) (before after : BTreeSet (Key × ℕ)) (key : Key)
+    → HasMovedOn all now file → AreWaiting all before → Updates turn_cmp before after (key, file) false
+    → ((d : Wanting) → slice_get (get_or now file d).calls (get_or now file d).found ≡ None)
+    → AreWaiting now after
+stops_waiting all now file before after key moved waits removed none other d call lt is =
+    ⊎_elim
+    (λ (same : other ≡ file). absurd (let bad : None ≡ Some call = sym (subst (λ (f : ℕ). slice_get (get_or now f d).calls (get_or now f d).found ≡ None) (sym same) (none d)) ∙ is in cc))
+    (λ (differs : other ≢ file).
+    removed.2 (key_of call, other) (apart (key, file) (key_of call, other) (λ same. differs (sym same)))
+    ∙ waits other d call (omega (arith, lt, moved.files)) (subst (λ (w : Wanting). slice_get w.calls w.found ≡ Some call) (moved.others other d differs) is))
+    (cases_eq other file)
+
+-- a file that has moved on waits under another key
+pub waits_on : (all now : List Wanting) (file : ℕ) (before between after : BTreeSet (Key × ℕ)) (gone key : Key)
+    → HasMovedOn all now file → AreWaiting all before → Updates turn_cmp before between (gone, file) false → Updates turn_cmp between after (key, file) true
+    → ((d : Wanting) (call : CallValue) → slice_get (get_or now file d).calls (get_or now file d).found ≡ Some call → key ≡ key_of call)
+    → AreWaiting now after
+waits_on all now file before between after gone key moved waits removed put its other d call lt is =
+    ⊎_elim
+    (λ (same : other ≡ file).
+    let key_is : key ≡ key_of call = its d call (subst (λ (f : ℕ). slice_get (get_or now f d).calls (get_or now f d).found ≡ Some call) same is) in
+    subst (λ (t : Key × ℕ). contains turn_cmp after t ≡ true) (λ i. (key_is i, sym same i)) put.1)
+    (λ (differs : other ≢ file).
+    put.2 (key_of call, other) (apart (key, file) (key_of call, other) (λ same. differs (sym same)))
+    ∙ (removed.2 (key_of call, other) (apart (gone, file) (key_of call, other) (λ same. differs (sym same)))
+    ∙ waits other d call (omega (arith, lt, moved.files)) (subst (λ (w : Wanting). slice_get w.calls w.found ≡ Some call) (moved.others other d differs) is)))
+    (cases_eq other file)

@@ -1,0 +1,29 @@
+use Rattle.std.proofs.Common.{◌≡◌, ◌∙◌, List, ◌<◌, length, set, Some, None, sym, ap, subst, arith}
+use Rattle.std.specs.Prelude.{slice_get}
+use Rattle.std.proofs.lemmas.List.{get_or_default, length-set}
+use Rattle.cwr_verify.proofs.Turns.{moved_on, stops_waiting, waits_on}
+use Rattle.cwr_verify.specs.Wanting.{Wanting, found_next}
+use Rattle.cwr_verify.proofs.wanted.owner_of.Goals as goal
+
+pub returns-in_ok-insert-clause-waiting : goal.returns-in_ok-insert-clause-waiting
+returns-in_ok-insert-clause-waiting g c =
+    let known : c.in-Some.file < length c.args.wanted.now = c.in-Some.ensures.1 in
+    let now : List Wanting = set c.args.wanted.now c.in-Some.file c.pass.new.self in
+    let still : c.in-Some.file < length now = omega (arith, known, length-set c.args.wanted.now c.in-Some.file c.pass.new.self) in
+    waits_on c.args.wanted.now now c.in-Some.file c.args.waiting.now c.remove.new.self c.insert.new.self c.of.result c.in-Some-next_key.key
+    (moved_on c.args.wanted.now c.in-Some.file c.index-wanted-file.result c.pass.new.self known c.index-wanted-file.is
+    (c.pass.ensures ∙ ap found_next (sym c.index-wanted-file.is)))
+    c.requires c.remove.ensures.updates c.in_ok-insert.ensures.updates
+    (λ d call is. c.in-Some-next_key.ensures call
+    (subst (λ (w : Wanting). slice_get w.calls w.found ≡ Some call) (get_or_default now c.in-Some.file d c.index-wanted-file-2.result still) is))
+
+pub returns-in_default-next_key-clause-waiting : goal.returns-in_default-next_key-clause-waiting
+returns-in_default-next_key-clause-waiting g c =
+    let known : c.in-Some.file < length c.args.wanted.now = c.in-Some.ensures.1 in
+    let now : List Wanting = set c.args.wanted.now c.in-Some.file c.pass.new.self in
+    let still : c.in-Some.file < length now = omega (arith, known, length-set c.args.wanted.now c.in-Some.file c.pass.new.self) in
+    stops_waiting c.args.wanted.now now c.in-Some.file c.args.waiting.now c.remove.new.self c.of.result
+    (moved_on c.args.wanted.now c.in-Some.file c.index-wanted-file.result c.pass.new.self known c.index-wanted-file.is
+    (c.pass.ensures ∙ ap found_next (sym c.index-wanted-file.is)))
+    c.requires c.remove.ensures.updates
+    (λ d. subst (λ (w : Wanting). slice_get w.calls w.found ≡ None) (get_or_default now c.in-Some.file c.index-wanted-file-2.result d still) c.in_default-next_key.ensures)

@@ -1,0 +1,126 @@
+//! What files want of a history.
+ghost use Rattle.std.specs.Prelude.{◌≡◌, ◌↔◌, ◌<◌, IsTrue, IfOk, OnOk, length, slice_get, MatchOption};
+ghost use Rattle.cwr_verify.specs.Wanting.{CanHaveMade, IsFirst, HasMovedOn, AreWaiting, found_next, key_of};
+ghost use Rattle.cwr_call.specs.CallValue.{CallValue};
+
+use crate::same_call::is_same_call;
+use crate::told::Told;
+use crate::waiting::{Key, Waiting};
+use std::alloc::{AllocError, Allocator};
+use std::collections::BTreeSet;
+use std::marker::Model;
+use work_registry::{Call, Entry};
+
+/// The calls of a file that are not found yet, with what its acknowledgement tells of them.
+#[derive(Drop)]
+pub(crate) struct Wanted<A: Allocator> {
+    calls: Vec<Call<A>, A>,
+    told: Vec<Told, A>,
+    /// So many of them are found.
+    found: usize,
+}
+
+impl<A: Allocator> Model for Wanted<A> {
+    ghost use Rattle.cwr_verify.specs.Wanting.{Wanting};
+
+    ghost Value = { Wanting };
+
+    ghost view = { λ w. record { calls = w.calls.items; told = w.told.items; found = w.found } };
+}
+
+impl<A: Allocator> Wanted<A> {
+    /// These calls, none of which is found, with what is told of them.
+    pub(crate) fn of(calls: Vec<Call<A>, A>, told: Vec<Told, A>) -> Wanted<A>
+        ensures { result ≡ record { calls = calls.items; told = told.items; found = 0 } }
+    {
+        Wanted {
+            calls,
+            told,
+            found: 0,
+        }
+    }
+
+    /// Whether the next transaction can have made an entry.
+    fn can_have_made(&self, entry: &Entry<A>) -> bool
+        ensures { IsTrue result ↔ CanHaveMade self.now entry.now }
+    {
+        let (Some(call), Some(told)) = (self.calls.get(self.found), self.told.get(self.found))
+        else {
+            return false;
+        };
+        *told == Told::of(entry.reply()) && is_same_call(call, entry.call())
+    }
+
+    /// What the next transaction's call is looked up by, where there is one.
+    fn next_key(&self) -> Option<Key>
+        ensures { MatchOption result (slice_get self.now.calls self.now.found ≡ None) (λ key. (call : CallValue) → slice_get self.now.calls self.now.found ≡ Some call → key ≡ key_of call) }
+    {
+        self.calls.get(self.found).map(|call| Key::of(call))
+    }
+
+    /// The next transaction is found.
+    fn pass(&mut self)
+        requires { self.old.found < length self.old.calls }
+        ensures { self.new ≡ found_next self.old }
+    {
+        self.found += 1;
+    }
+}
+
+/// The files that wait for their next calls.
+pub(crate) fn waiting_of<A: Allocator + Copy>(
+    alloc: A,
+    wanted: &[Wanted<A>],
+) -> Result<Waiting<A>, AllocError>
+    ensures { IfOk result (AreWaiting wanted.now) }
+{
+    let mut waiting = BTreeSet::new(alloc);
+    for (file, wanted) in wanted.iter().enumerate() {
+        if let Some(key) = wanted.next_key() {
+            waiting.insert((key, file))?;
+        }
+    }
+    Ok(waiting)
+}
+
+/// The first file whose next transaction can have made an entry.
+fn first_of<A: Allocator>(
+    wanted: &[Wanted<A>],
+    waiting: &Waiting<A>,
+    entry: &Entry<A>,
+) -> Option<usize>
+    requires { AreWaiting wanted.now waiting.now }
+    ensures { MatchOption result (IsFirst wanted.now entry.now (length wanted.now)) (λ file. IsFirst wanted.now entry.now file × (file < length wanted.now)) }
+{
+    let key = Key::of(entry.call());
+    for turn in waiting.range((key, 0)..(key, wanted.len())) {
+        let file = turn.1;
+        if file < wanted.len() && wanted[file].can_have_made(entry) {
+            return Some(file);
+        }
+    }
+    None
+}
+
+/// The first file whose next transaction can have made an entry, else the number of the files. The transaction is then
+/// found, and its file waits for the one after it.
+pub(crate) fn owner_of<A: Allocator + Copy>(
+    wanted: &mut [Wanted<A>],
+    waiting: &mut Waiting<A>,
+    entry: &Entry<A>,
+) -> Result<usize, AllocError>
+    requires { AreWaiting wanted.old waiting.old }
+    ensures first { IfOk result (IsFirst wanted.old entry.now) }
+    ensures moved { IfOk result (HasMovedOn wanted.old wanted.new) }
+    ensures waiting { OnOk result (AreWaiting wanted.new waiting.new) }
+{
+    let Some(file) = first_of(wanted, waiting, entry) else {
+        return Ok(wanted.len());
+    };
+    let _ = waiting.remove(&(Key::of(entry.call()), file));
+    wanted[file].pass();
+    if let Some(key) = wanted[file].next_key() {
+        waiting.insert((key, file))?;
+    }
+    Ok(file)
+}
