@@ -10,14 +10,15 @@ use Rattle.std.proofs.lemmas.List.Sums.{count_by-le-length, length-filter}
 use Rattle.work_registry.specs.declared.reply.Reply.{Reply}
 use Rattle.work_registry.specs.declared.reply.Reply.TheVariants.{Accepted, Duplicate, Conflict, Rejected}
 use Rattle.work_registry.specs.EntryValue.{EntryValue}
-use Rattle.work_registry.specs.Rows.{Row}
+use Rattle.work_registry.specs.History.{IsHistory}
+use Rattle.work_registry.specs.Rows.{rows_of}
 use Rattle.work_registry.specs.Told.{status_in}
 use Rattle.register_tables.specs.declared.tally.Tally.{Tally}
 use Rattle.register_tables.specs.declared.shares.Bands.{Bands}
 use Rattle.register_tables.specs.declared.conflicts.Conflicted.{Conflicted}
-use Rattle.register_tables.specs.ClaimsTable.{is_current}
-use Rattle.register_tables.specs.Counting.{banded, conflict_noted, counted, tallied, AreCounted}
+use Rattle.register_tables.specs.Counting.{banded, conflict_noted, counted, is_first, tallied, tallied_all, AreCounted}
 use Rattle.register_tables.specs.Summary.{bands_of, count, different, has_conflicts, is_ahead, is_all, is_answered, is_conflict_on, is_half, is_more, is_none, is_quarter, placed, ranked, tally_of}
+use Rattle.register_tables.proofs.Firsts.{as_many_in_all}
 use Rattle.cwr_record.specs.declared.status.Status.TheVariants as status
 
 count-le : {X : Type 0} (test : X → Bool) (xs : List X) → count test xs ≤ length xs
@@ -30,15 +31,15 @@ counted_more {X} test x xs few = by (test x)
     by true = let less = count-le test xs in omega (arith, few, less)
     by false = refl
 
-pub tally_more : (rows : List Row) (e : EntryValue) (es : List EntryValue) → length es < 2 ^ 64 - 1
-    → tallied (tally_of rows es) (status_in e.reply) (is_current rows e) ≡ tally_of rows (e ∷ es)
-tally_more rows e es few =
+pub tally_more : (e : EntryValue) (es : List EntryValue) → length es < 2 ^ 64 - 1
+    → tallied (tallied_all es) (status_in e.reply) (is_first e.reply) ≡ tallied_all (e ∷ es)
+tally_more e es few =
     rw (
       counted_more (is_answered status.Accepted) e es few,
       counted_more (is_answered status.Duplicate) e es few,
       counted_more (is_answered status.Conflict) e es few,
       counted_more (is_answered status.Rejected) e es few,
-      counted_more (is_current rows) e es few,
+      counted_more (λ (x : EntryValue). is_first x.reply) e es few,
     )
     refl
 
@@ -63,10 +64,14 @@ one_before {X} xs i x some within is =
 short : {X : Type 0} (xs : List X) (i n : ℕ) → length xs < n → length (drop i xs) < n
 short xs i n few = let left = length-drop i xs in omega (arith, few, left)
 
-pub tally_step : (rows : List Row) (entries : List EntryValue) (i : ℕ) (e : EntryValue) (tally : Tally) → 0 < i → i ≤ length entries → length entries < 2 ^ 64 - 1
-    → e ≡ get_or entries (i - 1) e → tally ≡ tally_of rows (drop i entries) → tallied tally (status_in e.reply) (is_current rows e) ≡ tally_of rows (drop (i - 1) entries)
-tally_step rows entries i e tally some within few is so_far =
-    rw (one_before entries i e some within is, so_far) (tally_more rows e (drop i entries) (short entries i (2 ^ 64 - 1) few))
+-- in a history the first versions are as many as the claims in force
+pub tally_all : (history : List EntryValue) → IsHistory history → tallied_all history ≡ tally_of (rows_of history) history
+tally_all history is = rw (as_many_in_all history is) refl
+
+pub tally_step : (entries : List EntryValue) (i : ℕ) (e : EntryValue) (tally : Tally) → 0 < i → i ≤ length entries → length entries < 2 ^ 64 - 1
+    → e ≡ get_or entries (i - 1) e → tally ≡ tallied_all (drop i entries) → tallied tally (status_in e.reply) (is_first e.reply) ≡ tallied_all (drop (i - 1) entries)
+tally_step entries i e tally some within few is so_far =
+    rw (one_before entries i e some within is, so_far) (tally_more e (drop i entries) (short entries i (2 ^ 64 - 1) few))
 
 -- the texts that are known are these, each once
 pub record AreKnown (known texts : List (List ℕ)) : Type 0 where

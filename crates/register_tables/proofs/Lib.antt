@@ -1,4 +1,5 @@
 pub mod Steps
 pub mod Entries
+pub mod Firsts
 pub mod WorkRows
 pub mod Counts

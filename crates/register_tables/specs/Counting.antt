@@ -1,5 +1,5 @@
 -- What the code counts, one more at a time. A count stays at the greatest that it can be.
-use Rattle.std.specs.Prelude.{◌≡◌, ℕ, ◌+◌, ◌-◌, ◌^◌, ◌<◌, Bool, true, List, if◌then◌else◌, Some, length, min, nat_le, nat_lt, ◌&&◌, slice_index_or, slice_set}
+use Rattle.std.specs.Prelude.{◌≡◌, ℕ, ◌+◌, ◌-◌, ◌^◌, ◌<◌, ◌==◌, Bool, true, false, List, if◌then◌else◌, Some, length, min, nat_le, nat_lt, ◌&&◌, slice_index_or, slice_set}
 use Rattle.cwr_record.specs.declared.status.Status.{Status}
 use Rattle.cwr_record.specs.declared.status.Status.TheVariants as status
 use Rattle.work_registry.specs.declared.reply.Reply.{Reply}
@@ -8,20 +8,37 @@ use Rattle.work_registry.specs.EntryValue.{EntryValue}
 use Rattle.register_tables.specs.declared.tally.Tally.{Tally}
 use Rattle.register_tables.specs.declared.shares.Bands.{Bands}
 use Rattle.register_tables.specs.Wanted.{fits_status}
-use Rattle.register_tables.specs.Summary.{count, is_all, is_conflict_on, is_half, is_more, is_none, is_quarter}
+use Rattle.register_tables.specs.Summary.{count, is_all, is_answered, is_conflict_on, is_half, is_more, is_none, is_quarter}
 
 -- one more, or as many
 abbrev pub counted : ℕ → Bool → ℕ
 counted n more = if more then min (n + 1) (2 ^ 64 - 1) else n
 
--- one entry more
+-- it is the first version of a claim
+abbrev pub is_first : Reply → Bool
+is_first (Accepted work version) = version == 1
+is_first (Duplicate work) = false
+is_first (Conflict work) = false
+is_first Rejected = false
+
+-- one entry more, with this status, which is a first version or not
 abbrev pub tallied : Tally → Status → Bool → Tally
-tallied tally answer current = record {
+tallied tally answer first = record {
   accepted = counted tally.accepted (fits_status (Some status.Accepted) answer);
   duplicates = counted tally.duplicates (fits_status (Some status.Duplicate) answer);
   conflicts = counted tally.conflicts (fits_status (Some status.Conflict) answer);
   rejected = counted tally.rejected (fits_status (Some status.Rejected) answer);
-  current = counted tally.current current;
+  current = counted tally.current first;
+}
+
+-- these entries, by status and by how many are first versions
+abbrev pub tallied_all : List EntryValue → Tally
+tallied_all entries = record {
+  accepted = count (is_answered status.Accepted) entries;
+  duplicates = count (is_answered status.Duplicate) entries;
+  conflicts = count (is_answered status.Conflict) entries;
+  rejected = count (is_answered status.Rejected) entries;
+  current = count (λ e. is_first e.reply) entries;
 }
 
 -- one work more, of which so much is left

@@ -1,29 +1,46 @@
--- What the code gathers of the works, entry by entry, with the claims that are current after all rows.
-use Rattle.std.specs.Prelude.{◌≡◌, ℕ, ◌&&◌, ◌+◌, ◌-◌, ◌^◌, ◌<◌, Bool, List, Option, None, if◌then◌else◌, IsTrue, length, min, nat_le, nat_lt, slice_index_or, slice_set}
+-- What the code gathers of the works, entry by entry: of the claims it counts the first versions, which are as many as those in force.
+use Rattle.std.specs.Prelude.{◌≡◌, ℕ, ◌&&◌, ◌+◌, ◌-◌, ◌^◌, ◌<◌, ◌==◌, Bool, List, Option, None, if◌then◌else◌, IsTrue, count_by, length, min, nat_le, nat_lt, slice_index_or, slice_set}
 use Rattle.cwr_call.specs.Lawful.{is_iswc}
 use Rattle.work_registry.specs.declared.reply.Reply.{Reply}
 use Rattle.work_registry.specs.declared.reply.Reply.TheVariants.{Accepted, Duplicate, Conflict, Rejected}
 use Rattle.work_registry.specs.EntryValue.{EntryValue}
-use Rattle.work_registry.specs.Rows.{Row}
+use Rattle.work_registry.specs.Rows.{Row, rows_of}
+use Rattle.work_registry.specs.Works.{iswc_of}
+use Rattle.work_registry.specs.Told.{work_in}
 use Rattle.work_registry.specs.Indexes.{newer}
 use Rattle.register_tables.specs.declared.works.KeptWork.{KeptWork}
-use Rattle.register_tables.specs.WorksTable.{kept_of}
+use Rattle.register_tables.specs.WorksTable.{is_on, kept_of}
+use Rattle.register_tables.specs.Counting.{is_first}
 
 -- nothing yet
 abbrev pub blank_work : KeptWork
 blank_work = record { iswc = None; claims = 0 }
 
--- one entry more on a work, with this ISWC, which made a current claim or did not
-abbrev pub grown : KeptWork → Option ℕ → Bool → KeptWork
-grown kept iswc current = record { iswc = newer iswc kept.iswc; claims = if current then min (kept.claims + 1) (2 ^ 64 - 1) else kept.claims }
+-- one entry more on a work, with this ISWC and of this version
+abbrev pub grown : KeptWork → Option ℕ → ℕ → KeptWork
+grown kept iswc version = record { iswc = newer iswc kept.iswc; claims = if version == 1 then min (kept.claims + 1) (2 ^ 64 - 1) else kept.claims }
 
 -- the works after one entry more
-abbrev pub noted : List KeptWork → Option ℕ → Bool → Reply → List KeptWork
-noted works iswc current (Accepted work version) =
-    if nat_lt 0 work && nat_le work (length works) then slice_set works (work - 1) (grown (slice_index_or works (work - 1) blank_work) iswc current) else works
-noted works iswc current (Duplicate work) = works
-noted works iswc current (Conflict work) = works
-noted works iswc current Rejected = works
+abbrev pub noted : List KeptWork → Option ℕ → Reply → List KeptWork
+noted works iswc (Accepted work version) =
+    if nat_lt 0 work && nat_le work (length works) then slice_set works (work - 1) (grown (slice_index_or works (work - 1) blank_work) iswc version) else works
+noted works iswc (Duplicate work) = works
+noted works iswc (Conflict work) = works
+noted works iswc Rejected = works
+
+-- a first version of a claim on a work
+abbrev pub is_first_on : ℕ → EntryValue → Bool
+is_first_on work e = is_on work (work_in e.reply) && is_first e.reply
+
+-- of a work: its ISWC, and how many of these entries are first versions of claims on it
+abbrev pub gathered_of : ℕ → List EntryValue → KeptWork
+gathered_of work entries = record { iswc = iswc_of work (rows_of entries); claims = count_by (is_first_on work) entries }
+
+-- so many works are gathered from these entries
+pub record AreGathered (works : ℕ) (entries : List EntryValue) (gathered : List KeptWork) : Type 0 where
+  pub size : length gathered ≡ works
+  pub each : (w : ℕ) (d : KeptWork) → w < length gathered → slice_index_or gathered w d ≡ gathered_of (w + 1) entries
+  pub codes : (w : ℕ) (d : KeptWork) → w < length gathered → IsTrue (is_iswc (slice_index_or gathered w d).iswc)
 
 -- so many works are kept as these entries say
 pub record AreKept (rows : List Row) (count : ℕ) (entries : List EntryValue) (works : List KeptWork) : Type 0 where

@@ -1,12 +1,13 @@
 //! The table of the current claims.
 
-ghost use Rattle.std.specs.Prelude.{◌≡◌, [], if◌then◌else◌, filter, IfOk, OnOk};
+ghost use Rattle.std.specs.Prelude.{◌≡◌, [], if◌then◌else◌, filter, IfOk, OnOk, Some};
 ghost use Rattle.std.specs.List.{flat_map};
 ghost use Rattle.std.specs.Io.KnownBytes.{Appends};
 ghost use Rattle.csv.specs.Writing.{text_written};
-ghost use Rattle.work_registry.specs.Rows.{rows_of};
+ghost use Rattle.work_registry.specs.Claims.{claim_of};
+ghost use Rattle.work_registry.specs.Rows.{key_of, rows_of};
 ghost use Rattle.register_tables.specs.CsvRows.{csv_line, iswc_field, IsAtRow};
-ghost use Rattle.register_tables.specs.ClaimsTable.{is_current, claims_header, claim_fields, claim_line, is_listed, claims_text};
+ghost use Rattle.register_tables.specs.ClaimsTable.{is_current, is_version_of, claims_header, claim_fields, claim_line, is_listed, claims_text};
 
 use crate::rows::{Unwritten, ended, number_field, put_row, rows_to, set_iswc};
 use crate::wanted::{Wanted, is_wanted};
@@ -14,7 +15,7 @@ use csv::Writer;
 use itoa::Buffer;
 use std::alloc::Allocator;
 use std::io::Write;
-use work_registry::{Book, Entry};
+use work_registry::{Book, Call, Entry};
 
 /// Writes the current claims of a book that are wanted, in the order of their entries, and gives back what it wrote to.
 ///
@@ -88,24 +89,30 @@ fn put_listed<W: Write + Drop, A: Allocator + Copy + Drop>(
     ensures ready { OnOk result (IsAtRow out.new) }
     ensures text { OnOk result (Appends (text_written W.contents out.old) (text_written W.contents out.new) (if is_listed wanted.now (rows_of book.now.history) entry.now then claim_line entry.now else [])) }
 {
-    if is_current(book, entry) && is_wanted(wanted, entry) {
+    if is_wanted(wanted, entry) && is_current(book, entry) {
         set_iswc(iswc, entry.call().iswc())?;
         put_claim(out, entry, iswc)?;
     }
     Ok(())
 }
 
-/// Whether an entry made the claim in force under its key.
-pub(crate) fn is_current<A: Allocator + Copy + Drop>(book: &Book<A>, entry: &Entry<A>) -> bool
+/// Whether an entry made the claim in force under its key. The claim is looked up only where the entry made one.
+fn is_current<A: Allocator + Copy + Drop>(book: &Book<A>, entry: &Entry<A>) -> bool
     ensures { result ≡ is_current (rows_of book.now.history) entry.now }
 {
-    let call = entry.call();
-    match (
-        book.claim(&call.submitter(), &call.number()),
-        entry.reply().version(),
-    ) {
-        (Some(claim), Some(version)) => claim.version == version,
-        (Some(_), None) | (None, _) => false,
+    match entry.reply().version() {
+        Some(version) => is_in_force(book, entry.call(), version),
+        None => false,
+    }
+}
+
+/// Whether the claim in force under the key of a call has this version.
+fn is_in_force<A: Allocator + Copy + Drop>(book: &Book<A>, call: &Call<A>, version: u32) -> bool
+    ensures { result ≡ is_version_of (claim_of (key_of call.now) (rows_of book.now.history)) (Some version) }
+{
+    match book.claim(&call.submitter(), &call.number()) {
+        Some(claim) => claim.version == version,
+        None => false,
     }
 }
 

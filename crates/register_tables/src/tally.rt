@@ -2,15 +2,14 @@
 
 ghost use Rattle.std.specs.Prelude.{◌≡◌, ◌+◌, ◌-◌, ◌^◌, if◌then◌else◌, length, min, IfOk};
 ghost use Rattle.work_registry.specs.Rows.{rows_of};
-ghost use Rattle.register_tables.specs.Counting.{counted, tallied};
+ghost use Rattle.register_tables.specs.Counting.{counted, is_first, tallied};
 ghost use Rattle.register_tables.specs.Summary.{different, submitters, tally_of};
 
-use crate::claims::is_current;
 use crate::wanted::fits_status;
 use indexmap::IndexSet;
 use std::alloc::{AllocError, Allocator};
 use std::hash::{BuildHasherDefault, FoldHasher};
-use work_registry::{Book, Entry, Status};
+use work_registry::{Book, Entry, Reply, Status};
 
 /// How many entries have each status, and how many made the claim in force under their key.
 #[derive(Clone, Copy)]
@@ -22,7 +21,8 @@ pub(crate) struct Tally {
     pub(crate) current: u64,
 }
 
-/// Counts the entries of a book.
+/// Counts the entries of a book. Under a key there is one claim in force, and one entry made its first version: so these are
+/// counted, and no claim is looked up.
 pub(crate) fn tally_of<A: Allocator + Copy + Drop>(book: &Book<A>) -> Tally
     ensures { result ≡ tally_of (rows_of book.now.history) book.now.history }
 {
@@ -35,15 +35,25 @@ pub(crate) fn tally_of<A: Allocator + Copy + Drop>(book: &Book<A>) -> Tally
         current: 0,
     };
     for index in (0..entries.len()).rev() {
-        let entry = &entries[index];
-        tally = tallied(tally, entry.reply().status(), is_current(book, entry));
+        let reply = entries[index].reply();
+        tally = tallied(tally, reply.status(), is_first(reply));
     }
     tally
 }
 
-/// One entry more, with this status, which made the claim in force or did not.
-fn tallied(tally: Tally, status: Status, current: bool) -> Tally
-    ensures { result ≡ tallied tally status current }
+/// Whether a call was accepted as the first under its key.
+fn is_first(reply: Reply) -> bool
+    ensures { result ≡ is_first reply }
+{
+    match reply {
+        Reply::Accepted { work: _, version } => version == 1,
+        Reply::Duplicate { work: _ } | Reply::Conflict { work: _ } | Reply::Rejected => false,
+    }
+}
+
+/// One entry more, with this status, which was accepted as the first under its key or was not.
+fn tallied(tally: Tally, status: Status, first: bool) -> Tally
+    ensures { result ≡ tallied tally status first }
 {
     Tally {
         accepted: counted(tally.accepted, fits_status(Some(Status::Accepted), status)),
@@ -53,7 +63,7 @@ fn tallied(tally: Tally, status: Status, current: bool) -> Tally
         ),
         conflicts: counted(tally.conflicts, fits_status(Some(Status::Conflict), status)),
         rejected: counted(tally.rejected, fits_status(Some(Status::Rejected), status)),
-        current: counted(tally.current, current),
+        current: counted(tally.current, first),
     }
 }
 

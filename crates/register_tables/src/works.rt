@@ -1,16 +1,15 @@
 //! The table of the works.
 
-ghost use Rattle.std.specs.Prelude.{◌≡◌, ◌<◌, ◌≤◌, ◌^◌, [], length, IfOk, IsTrue, List, OnOk};
+ghost use Rattle.std.specs.Prelude.{◌≡◌, ◌<◌, ◌≤◌, ◌^◌, [], length, IfOk, IsTrue, OnOk};
 ghost use Rattle.std.specs.Io.KnownBytes.{Appends};
 ghost use Rattle.csv.specs.Writing.{text_written};
 ghost use Rattle.cwr_call.specs.Lawful.{is_iswc};
-ghost use Rattle.work_registry.specs.Rows.{Row, rows_of};
+ghost use Rattle.work_registry.specs.Rows.{rows_of};
 ghost use Rattle.work_registry.specs.Works.{control_of};
 ghost use Rattle.register_tables.specs.CsvRows.{csv_line, iswc_field, IsAtRow};
 ghost use Rattle.register_tables.specs.WorksTable.{last_work, wanted_line, work_fields, work_lines, works_header, works_text};
-ghost use Rattle.register_tables.specs.Gathered.{AreKept, blank_work, grown, noted};
+ghost use Rattle.register_tables.specs.Gathered.{AreGathered, AreKept, blank_work, grown, noted};
 
-use crate::claims::is_current;
 use crate::rows::{Unwritten, ended, put_row, rows_to, set_iswc};
 use crate::wanted::{Wanted, fits_number};
 use csv::Writer;
@@ -51,6 +50,9 @@ pub fn works_text<W: Write + Drop, A: Allocator + Copy + Drop>(
 }
 
 /// What the entries of a book say of each work, in the order of their numbers.
+///
+/// Under a key there is one claim in force, and one entry made its first version, on the same work: so the first versions on
+/// a work are as many as the claims in force on it, and no claim is looked up.
 fn kept_works<A: Allocator + Copy + Drop>(
     alloc: A,
     book: &Book<A>,
@@ -61,7 +63,7 @@ fn kept_works<A: Allocator + Copy + Drop>(
     let entries = book.history();
     let mut works = blank_works(alloc, last_work(entries))?;
     for entry in entries {
-        note(&mut works, entry, is_current(book, entry));
+        note(&mut works, entry);
     }
     Ok(works)
 }
@@ -71,7 +73,7 @@ fn blank_works<A: Allocator + Copy + Drop>(
     alloc: A,
     count: u32,
 ) -> Result<Vec<KeptWork, A>, AllocError>
-    ensures { (rows : List Row) → IfOk result (λ works. AreKept rows count [] works.items) }
+    ensures { IfOk result (λ works. AreGathered count [] works.items) }
 {
     Vec::from_elem(
         alloc,
@@ -96,30 +98,30 @@ pub(crate) fn last_work<A: Allocator>(entries: &[Entry<A>]) -> u32
     last
 }
 
-/// Notes an entry at its work, if it was accepted; `current` is whether it made the claim in force.
-fn note<A: Allocator + Copy + Drop>(works: &mut Vec<KeptWork, A>, entry: &Entry<A>, current: bool)
-    ensures noted { works.new.items ≡ noted works.old.items entry.now.call.iswc current entry.now.reply }
+/// Notes an entry at its work, if it was accepted.
+fn note<A: Allocator + Copy + Drop>(works: &mut Vec<KeptWork, A>, entry: &Entry<A>)
+    ensures noted { works.new.items ≡ noted works.old.items entry.now.call.iswc entry.now.reply }
     ensures code { IsTrue (is_iswc entry.now.call.iswc) }
 {
     let iswc = entry.call().iswc();
-    if let Reply::Accepted { work, version: _ } = entry.reply() {
+    if let Reply::Accepted { work, version } = entry.reply() {
         if 0 < work && work as usize <= works.len() {
             let place = work as usize - 1;
-            works[place] = grown(works[place], iswc, current);
+            works[place] = grown(works[place], iswc, version);
         }
     }
 }
 
-/// What is gathered of a work with one entry more on it.
-fn grown(kept: KeptWork, iswc: Option<u64>, current: bool) -> KeptWork
-    ensures { result ≡ grown kept iswc current }
+/// What is gathered of a work with one entry more on it, of this version.
+fn grown(kept: KeptWork, iswc: Option<u64>, version: u32) -> KeptWork
+    ensures { result ≡ grown kept iswc version }
 {
     KeptWork {
         iswc: match iswc {
             Some(_) => iswc,
             None => kept.iswc,
         },
-        claims: if current {
+        claims: if version == 1 {
             kept.claims.saturating_add(1)
         } else {
             kept.claims
