@@ -1,5 +1,5 @@
 -- A work's code, whose nine digits are read as eight and one.
-use Rattle.std.proofs.Common.{◌≡◌, ◌∙◌, ℕ, ◌+◌, ◌-◌, ◌*◌, Bool, true, false, cond, eqb, List, [], ◌∷◌, ◌++◌, length, get_or, Some, None, eq-eqb, refl, ap, arith}
+use Rattle.std.proofs.Common.{◌≡◌, ◌∙◌, ℕ, ◌+◌, ◌-◌, ◌*◌, ◌/◌, ◌%◌, Bool, true, false, cond, eqb, List, [], ◌∷◌, ◌++◌, length, get_or, Some, None, eq-eqb, refl, ap, sym, arith}
 use Rattle.std.specs.Prelude.{slice_range, slice_index, if◌then◌else◌}
 use Rattle.std.specs.List.{list_all}
 use Rattle.std.specs.Char.{is_ascii_digit}
@@ -12,6 +12,7 @@ use Rattle.cwr_field.specs.Layout.{is_blank}
 use Rattle.cwr_field.specs.Number.{number_of}
 use Rattle.cwr_field.specs.declared.codes.Iswc.TheVariants.{Blank, Valid, Wrong}
 use Rattle.cwr_field.proofs.lemmas.DigitSteps.{is_digit}
+use Rattle.cwr_field.proofs.lemmas.Spelling.{number_spells}
 use Rattle.cwr_field.proofs.lemmas.Tests.{both}
 
 -- the second to the ninth of eleven bytes
@@ -22,7 +23,7 @@ known : (bytes : List ℕ) (m : ℕ) (b : Bool) → list_all is_ascii_digit byte
 known bytes m true h e = (h, cc)
 known bytes m false h e = absurd cc
 
-one_more : (bytes : List ℕ) (c m : ℕ) → is_ascii_digit c ≡ true → number_of bytes ≡ Some m → number_of (bytes ++ c ∷ []) ≡ Some (m * 10 + (c - 48))
+pub one_more : (bytes : List ℕ) (c m : ℕ) → is_ascii_digit c ≡ true → number_of bytes ≡ Some m → number_of (bytes ++ c ∷ []) ≡ Some (m * 10 + (c - 48))
 one_more bytes c m digit is =
     let k = known bytes m (list_all is_ascii_digit bytes) refl is in
     rw (list_all-append is_ascii_digit bytes (c ∷ []), k.0, digit, digits_value_push 10 bytes c, k.1, (is_digit c digit).value) refl
@@ -55,3 +56,29 @@ code_is (t ∷ a ∷ b ∷ c ∷ d ∷ e ∷ f ∷ g ∷ h ∷ l ∷ k ∷ []) m
     let bytes : List ℕ = t ∷ a ∷ b ∷ c ∷ d ∷ e ∷ f ∷ g ∷ h ∷ l ∷ k ∷ [] in
     let blank : is_blank bytes ≡ false = rw (no_blank t mark) refl in
     by_parts bytes (m * 10 + (l - 48)) blank (one_more (a ∷ b ∷ c ∷ d ∷ e ∷ f ∷ g ∷ h ∷ []) l m digit eight) mark check
+
+-- ---- the check digit
+
+-- nine bytes in their weights, and 1
+abbrev pub weighed : List ℕ → ℕ
+weighed xs =
+    1 + (get_or xs 0 0 + 2 * get_or xs 1 0 + 3 * get_or xs 2 0 + 4 * get_or xs 3 0 + 5 * get_or xs 4 0) + 6 * get_or xs 5 0 + 7 * get_or xs 6 0 + 8 * get_or xs 7 0 + 9 * get_or xs 8 0
+
+without_zeros : (a b c d e f g h i : ℕ)
+    → (1 + ((48 + a) + 2 * (48 + b) + 3 * (48 + c) + 4 * (48 + d) + 5 * (48 + e)) + 6 * (48 + f) + 7 * (48 + g) + 8 * (48 + h) + 9 * (48 + i)) % 10
+    ≡ (1 + (0 + 1 * a + 2 * b + 3 * c + 4 * d + 5 * e + 6 * f + 7 * g + 8 * h + 9 * i)) % 10
+without_zeros a b c d e f g h i = omega arith
+
+-- they tell the check digit of the number that they spell
+pub check_is : (bytes : List ℕ) (n : ℕ) → length bytes ≡ 9 → number_of bytes ≡ Some n → 48 + (10 - weighed bytes % 10) % 10 ≡ 48 + check_digit n
+check_is bytes n len is =
+    let eight = n / 10 in
+    let seven = eight / 10 in
+    let six = seven / 10 in
+    let five = six / 10 in
+    let four = five / 10 in
+    let three = four / 10 in
+    let two = three / 10 in
+    let one = two / 10 in
+    ap (λ (xs : List ℕ). 48 + (10 - weighed xs % 10) % 10) (sym (number_spells bytes 9 n len is))
+    ∙ ap (λ (r : ℕ). 48 + (10 - r) % 10) (without_zeros (one % 10) (two % 10) (three % 10) (four % 10) (five % 10) (six % 10) (seven % 10) (eight % 10) (n % 10))

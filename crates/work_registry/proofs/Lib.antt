@@ -10,6 +10,7 @@ pub mod GrowingBooks
 pub mod ReopenedBooks
 pub mod EightDigits
 pub mod ZeroDigits
+pub mod WrittenDigits
 pub mod CodeDigits
 pub mod CleanBytes
 pub mod CleanCalls

@@ -2,7 +2,7 @@
 use Rattle.std.proofs.Common.{◌≡◌, ◌∙◌, ℕ, ◌+◌, ◌*◌, ◌<◌, ◌≤◌, true, List, [], ◌∷◌, ◌++◌, length, take, drop, Option, Some, None, arith, ap, sym, subst, refl, is_some, IsTrue}
 use Rattle.std.specs.Prelude.{slice_index, IfSome}
 use Rattle.std.specs.List.{AllByRecursion}
-use Rattle.std.proofs.lemmas.List.{length-append, length-take, take_at, drop_at, take_all, take-append-drop, append_cancel_right}
+use Rattle.std.proofs.lemmas.List.{length-append, length-take, take_at, drop_at, take_all, drop_all, take-append-drop, append_cancel_right}
 use Rattle.cwr_record.specs.declared.works.WorkKind.{WorkKind}
 use Rattle.cwr_record.specs.declared.status.Status.{Status}
 use Rattle.cwr_call.specs.declared.transaction_fault.Fault.{Fault}
@@ -160,3 +160,27 @@ faultless front p is only x line =
     let s = said front x line in
     let found : None ≡ Some x.call.faults = sym is ∙ only x.call.faults s.whole s.faults in
     cc
+
+-- a line of the fields of fixed place alone, which tell no faults
+
+pub alone_says : (line : List ℕ) (h : Head) → length line ≡ column.head_width → StandsFor head line h → Fits head h → length h.control ≡ 3 → h.faults ≡ 0 → IsTrue (is_lawful (line_from h []).call)
+    → IsEntryLine (line ++ 10 ∷ []) (line_from h [])
+alone_says line h len st fits rights none lawful =
+    let P : List ℕ → Type 0 = λ xs. StandsFor head xs h in
+    let whole = take_all column.head_width line (omega (arith, len)) in
+    let left = drop_all column.head_width line (omega (arith, len)) in
+    says line h [] (line_from h []) (omega (arith, len)) (subst P (sym whole) st) fits rights (sym left) tt (let n = ap length left in omega (arith, n, none)) refl lawful
+
+pub alone_only : (line : List ℕ) (h : Head) → length line ≡ column.head_width → StandsFor head line h → length h.control ≡ 3 → (x : EntryLine) → IsEntryLine (line ++ 10 ∷ []) x → x ≡ line_from h []
+alone_only line h len st rights x is =
+    let s = said line x is in
+    let P : List ℕ → Type 0 = λ xs. StandsFor head xs h in
+    let whole = take_all column.head_width line (omega (arith, len)) in
+    let left = drop_all column.head_width line (omega (arith, len)) in
+    let same = same_head (take column.head_width line) h (head_of x) rights is.call.control (subst P (sym whole) st) s.head_stands in
+    let none : length x.call.faults ≡ 0 = (let n = ap length left in let rest = s.rest in omega (arith, n, rest)) in
+    sym (ap (λ (y : Head). line_from y []) same ∙ ap (λ (fs : List Fault). line_from (head_of x) fs) (sym (empty x.call.faults none)))
+  where
+    empty : (fs : List Fault) → length fs ≡ 0 → fs ≡ []
+    empty [] e = refl
+    empty (f ∷ fs) e = absurd (omega arith)

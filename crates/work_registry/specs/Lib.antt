@@ -13,6 +13,7 @@ pub mod History
 pub mod Replay
 pub mod Indexes
 pub mod RegisterLine
+pub mod ToldLine
 pub mod RegisterColumns
 pub mod Register
 pub mod RegisterInPieces

@@ -76,7 +76,7 @@ impl<A: Allocator + Copy + Drop> Auditor<A> {
         ensures read { OnOk result ((text more : List ℕ) → IsLeft self.old text (line.now ++ 10 ∷ more) → IsLeft self.new text more) }
         ensures fault { IfErr result (λ refusal. (text more : List ℕ) → IsLeft self.old text (line.now ++ 10 ∷ more) → IsRefusal most_entries text refusal) }
     {
-        self.lines.take_line(line)?;
+        self.lines.audit_line(line)?;
         Ok(())
     }
 

@@ -1,4 +1,4 @@
-//! The call in the line of an entry. Most calls have no faults, and of these it is seen at once that they are lawful.
+//! The call in the line of an entry. Of a call without faults it is seen at once that it is lawful.
 
 ghost use Rattle.std.specs.Prelude.{◌≡◌, ◌≤◌, [], length, is_some, IfSome, IsTrue};
 ghost use Rattle.cwr_call.specs.Lawful.{are_at_most, is_clean, is_iswc, is_lawful};
@@ -7,7 +7,7 @@ ghost use Rattle.work_registry.specs.RegisterColumns as column;
 ghost use Rattle.work_registry.specs.RegisterLine.{line_from};
 
 use super::clean::are_most_clean;
-use super::head::Head;
+use super::head::HeadInLine;
 use cwr_call::{Call, Faults};
 use cwr_field::{MOST_CODE, MOST_WHOLE};
 use std::alloc::Allocator;
@@ -40,54 +40,44 @@ fn are_at_most(limit: u64, control: &[u64]) -> bool
     control.iter().all(|right| *right <= limit)
 }
 
-/// Whether these fields can be those of a call without faults. Of the texts it may be known that they are clean.
+/// Whether these fields, the texts of which are clean, can be those of a call without faults.
 #[inline(always)]
-fn is_lawful_alone(head: &Head, clean: bool) -> bool
-    requires { IsTrue clean → IsTrue (is_clean head.now.submitter) × IsTrue (is_clean head.now.title) × IsTrue (is_clean head.now.number) }
+pub(super) fn is_lawful_alone(head: &HeadInLine) -> bool
+    requires submitter { IsTrue (is_clean head.now.submitter) }
+    requires title { IsTrue (is_clean head.now.title) }
+    requires number { IsTrue (is_clean head.now.number) }
     ensures { IsTrue result → IsTrue (is_lawful (line_from head.now []).call) }
 {
-    if !clean {
-        return false;
-    }
     is_iswc(head.iswc) && are_at_most(MOST_WHOLE, &head.control)
 }
 
-/// The call of these fields and faults, where they can be those of one. Of the texts it may be known that they are clean.
+/// The call of these fields, which are those of one without faults. No memory is asked for.
 #[inline(always)]
-pub(super) fn call_from<A: Allocator>(
-    head: &Head,
-    faults: Faults<A>,
-    clean: bool,
-) -> Option<Call<A>>
-    requires { IsTrue clean → IsTrue (is_clean head.now.submitter) × IsTrue (is_clean head.now.title) × IsTrue (is_clean head.now.number) }
-    ensures when { is_some result ≡ is_lawful (line_from head.now faults).call }
-    ensures value { IfSome result (λ c. c ≡ (line_from head.now faults).call) }
+pub(super) fn call_alone<A: Allocator>(alloc: A, head: &HeadInLine) -> Call<A>
+    requires { IsTrue (is_lawful (line_from head.now []).call) }
+    ensures { result ≡ (line_from head.now []).call }
 {
-    if faults.as_slice().is_empty() && is_lawful_alone(head, clean) {
-        return Some(Call::of_lawful(
-            head.submitter,
-            head.kind,
-            head.title,
-            head.number,
-            head.iswc,
-            head.control,
-            faults,
-        ));
-    }
-    other_call_from(head, faults)
+    Call::of_lawful(
+        head.submitter(),
+        head.kind,
+        head.title(),
+        head.number(),
+        head.iswc,
+        head.control,
+        Faults::new(Vec::new(alloc)),
+    )
 }
 
-/// The same of fields and faults that may be those of none.
-#[inline(never)]
-fn other_call_from<A: Allocator>(head: &Head, faults: Faults<A>) -> Option<Call<A>>
+/// The call of these fields and faults, where they can be those of one.
+pub(super) fn call_from<A: Allocator>(head: &HeadInLine, faults: Faults<A>) -> Option<Call<A>>
     ensures when { is_some result ≡ is_lawful (line_from head.now faults).call }
     ensures value { IfSome result (λ c. c ≡ (line_from head.now faults).call) }
 {
     Call::of(
-        head.submitter,
+        head.submitter(),
         head.kind,
-        head.title,
-        head.number,
+        head.title(),
+        head.number(),
         head.iswc,
         head.control,
         faults,

@@ -1,25 +1,25 @@
-//! The line of an entry.
+//! The line of an entry. Most calls have no faults: their lines are read apart, and no text of these is copied before the
+//! call is made.
 
-ghost use Rattle.std.specs.Prelude.{◌≡◌, [], ◌∷◌, ◌++◌, Some, is_some, IfSome, IfOk, IsTrue};
-ghost use Rattle.cwr_call.specs.Lawful.{is_clean, is_lawful};
+ghost use Rattle.std.specs.Prelude.{◌≡◌, [], ◌∷◌, ◌++◌, Some, is_some, IfSome, IfOk};
+ghost use Rattle.cwr_call.specs.Lawful.{is_lawful};
 ghost use Rattle.work_registry.specs.RegisterLine.{EntryLine, IsEntryLine, line_from};
 
-use super::calls::{are_texts_clean, call_from};
+use super::calls::{are_texts_clean, call_from, is_lawful_alone};
 use super::columns::{FAULT_WIDTH, HEAD_WIDTH};
 use super::faults::read_faults;
-use super::head::{Head, read_head};
+use super::head::{HeadInLine, read_head};
 use cwr_call::{Call, Faults};
 use cwr_field::Memory;
 use cwr_record::Status;
 use std::alloc::Allocator;
 use std::marker::Model;
 
-/// What a line says of an entry.
-#[derive(Drop)]
-pub(super) struct ReadEntry<A: Allocator> {
+/// What a line tells of an entry beside its call.
+#[derive(Clone, Copy)]
+pub(super) struct Told {
     /// The place of the entry in the register, from 1.
     pub(super) index: u32,
-    pub(super) call: Call<A>,
     pub(super) status: Status,
     /// The work that the reply names, or 0.
     pub(super) work: u32,
@@ -27,35 +27,60 @@ pub(super) struct ReadEntry<A: Allocator> {
     pub(super) version: u32,
 }
 
+/// What a line says of an entry.
+#[derive(Drop)]
+pub(super) struct ReadEntry<A: Allocator> {
+    pub(super) told: Told,
+    pub(super) call: Call<A>,
+}
+
 impl<A: Allocator> Model for ReadEntry<A> {
     ghost use Rattle.work_registry.specs.RegisterLine.{EntryLine};
+    ghost use Rattle.work_registry.specs.ToldLine.{line_told};
 
     ghost Value = { EntryLine };
 
-    ghost view = { λ e. record { index = e.index; call = e.call; status = e.status; work = e.work; version = e.version } };
+    ghost view = { λ e. line_told e.told e.call };
 }
 
-/// The entry of these fields and faults, where they can be those of a call. Of the texts it may be known that they are
-/// clean.
+/// What a line, without the LF at its end, says of an entry whose call has no faults; `None` where it says something else,
+/// or nothing. No memory is asked for.
 #[inline(always)]
-fn entry_from<A: Allocator>(head: &Head, faults: Faults<A>, clean: bool) -> Option<ReadEntry<A>>
-    requires { IsTrue clean → IsTrue (is_clean head.now.submitter) × IsTrue (is_clean head.now.title) × IsTrue (is_clean head.now.number) }
+pub(super) fn read_alone(line: &[u8]) -> Option<HeadInLine<'_>>
+    ensures says { IfSome result (λ h. IsEntryLine (line.now ++ 10 ∷ []) (line_from h [])) }
+    ensures only { IfSome result (λ h. (x : EntryLine) → IsEntryLine (line.now ++ 10 ∷ []) x → x ≡ line_from h []) }
+{
+    if line.len() != HEAD_WIDTH {
+        return None;
+    }
+    if !are_texts_clean(line) {
+        return None;
+    }
+    let head = read_head(line)?;
+    if head.faults != 0 {
+        return None;
+    }
+    if !is_lawful_alone(&head) {
+        return None;
+    }
+    Some(head)
+}
+
+/// The entry of these fields and faults, where they can be those of a call.
+fn entry_from<A: Allocator>(head: &HeadInLine, faults: Faults<A>) -> Option<ReadEntry<A>>
     ensures when { is_some result ≡ is_lawful (line_from head.now faults).call }
     ensures value { IfSome result (λ x. x ≡ line_from head.now faults) }
 {
     Some(ReadEntry {
-        index: head.index,
-        call: call_from(head, faults, clean)?,
-        status: head.status,
-        work: head.work,
-        version: head.version,
+        told: head.told(),
+        call: call_from(head, faults)?,
     })
 }
 
 /// What a line, without the LF at its end, says of an entry; `None` where it says nothing.
 ///
-/// The time is linear in the line's length, whatever number of faults it claims, and no part of it is copied but for
-/// the call's texts. Memory is asked for the list of faults alone.
+/// The time is linear in the line's length, whatever number of faults it claims. Memory is asked for the list of faults
+/// alone.
 pub(super) fn read_entry<A: Allocator>(
     alloc: A,
     line: &[u8],
@@ -76,5 +101,5 @@ pub(super) fn read_entry<A: Allocator>(
     let Some(faults) = read_faults(alloc, rest)? else {
         return Ok(None);
     };
-    Ok(entry_from(&head, faults, are_texts_clean(front)))
+    Ok(entry_from(&head, faults))
 }

@@ -1,15 +1,19 @@
 //! The fields of fixed place in the line of an entry.
 
 ghost use Rattle.std.specs.Prelude.{◌≡◌, length, IfSome, IfNone};
+ghost use Rattle.cwr_record.specs.Columns.{field_at};
 ghost use Rattle.cwr_record.specs.Layout.{StandsFor};
 ghost use Rattle.cwr_record.specs.Lines.{Fits};
+ghost use Rattle.work_registry.specs.RegisterColumns as column;
 ghost use Rattle.work_registry.specs.RegisterLine.{head};
 ghost use Rattle.work_registry.specs.declared.register.head.Head.{Head};
 
 use super::columns;
 use super::digits::digits_at;
+use super::entry_line::Told;
 use super::fields::code_at;
 use cwr_record::{Status, WorkKind, field_at};
+use std::marker::Model;
 
 /// What the fields of fixed place spell.
 #[derive(Clone, Copy)]
@@ -31,9 +35,71 @@ pub(crate) struct Head {
     pub(crate) faults: u32,
 }
 
+/// The same of a line that was read: its texts stay where they lie.
+///
+/// A contract sees what the fields spell.
+#[derive(Drop)]
+pub(super) struct HeadInLine<'a> {
+    line: &'a [u8],
+    pub(super) index: u32,
+    pub(super) kind: WorkKind,
+    pub(super) iswc: Option<u64>,
+    pub(super) control: [u64; 3],
+    pub(super) status: Status,
+    pub(super) work: u32,
+    pub(super) version: u32,
+    pub(super) faults: u32,
+}
+
+impl<'a> Model for HeadInLine<'a> {
+    ghost use Rattle.cwr_record.specs.Columns.{field_at};
+    ghost use Rattle.work_registry.specs.RegisterColumns as column;
+    ghost use Rattle.work_registry.specs.declared.register.head.Head.{Head};
+
+    ghost Value = { Head };
+
+    ghost view = { λ h. record { index = h.index; submitter = field_at h.line.now column.submitter; kind = h.kind; title = field_at h.line.now column.title; number = field_at h.line.now column.number; iswc = h.iswc; control = h.control; status = h.status; work = h.work; version = h.version; faults = h.faults } };
+}
+
+impl HeadInLine<'_> {
+    /// What it tells beside the call.
+    #[inline(always)]
+    pub(super) fn told(&self) -> Told
+        ensures { result ≡ record { index = self.now.index; status = self.now.status; work = self.now.work; version = self.now.version } }
+    {
+        Told {
+            index: self.index,
+            status: self.status,
+            work: self.work,
+            version: self.version,
+        }
+    }
+
+    #[inline(always)]
+    pub(super) fn submitter(&self) -> [u8; 11]
+        ensures { result ≡ self.now.submitter }
+    {
+        field_at(self.line, columns::SUBMITTER).bytes()
+    }
+
+    #[inline(always)]
+    pub(super) fn title(&self) -> [u8; 60]
+        ensures { result ≡ self.now.title }
+    {
+        field_at(self.line, columns::TITLE).bytes()
+    }
+
+    #[inline(always)]
+    pub(super) fn number(&self) -> [u8; 14]
+        ensures { result ≡ self.now.number }
+    {
+        field_at(self.line, columns::NUMBER).bytes()
+    }
+}
+
 /// What a line has in its fields of fixed place, bytes 1 to 173.
 #[inline(always)]
-pub(super) fn read_head(line: &[u8]) -> Option<Head>
+pub(super) fn read_head(line: &[u8]) -> Option<HeadInLine<'_>>
     ensures some { IfSome result (StandsFor head line.now) }
     ensures fits { IfSome result (Fits head) }
     ensures rights { IfSome result (λ x. length x.control ≡ 3) }
@@ -42,12 +108,10 @@ pub(super) fn read_head(line: &[u8]) -> Option<Head>
     if field_at(line, columns::MARK).bytes() != *b"ENT" {
         return None;
     }
-    Some(Head {
+    Some(HeadInLine {
+        line,
         index: digits_at(line, columns::INDEX)? as u32,
-        submitter: field_at(line, columns::SUBMITTER).bytes(),
         kind: WorkKind::named(&field_at(line, columns::KIND).bytes())?,
-        title: field_at(line, columns::TITLE).bytes(),
-        number: field_at(line, columns::NUMBER).bytes(),
         iswc: code_at(line, columns::ISWC)?,
         control: [
             digits_at(line, columns::PERFORMING_CONTROL)?,

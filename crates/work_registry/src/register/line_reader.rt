@@ -1,6 +1,6 @@
 //! The lines of a register, one after another: the step that its audit and its reading share.
 
-ghost use Rattle.std.specs.Prelude.{◌≡◌, ◌≤◌, ◌++◌, ◌∷◌, [], ℕ, List, None, true, false, length, MatchOption, OnOk, OnErr, IfOk, IfErr};
+ghost use Rattle.std.specs.Prelude.{◌≡◌, ◌≤◌, ◌<◌, ◌++◌, ◌∷◌, [], ℕ, List, None, Some, true, false, length, vec_len, vec_capacity, IfSome, OnOk, OnErr, IfOk, IfErr};
 ghost use Rattle.std.specs.List.{AllByRecursion};
 ghost use Rattle.work_registry.specs.History.{IsHistory};
 ghost use Rattle.work_registry.specs.Numbers.{most_entries};
@@ -9,14 +9,14 @@ ghost use Rattle.work_registry.specs.RegisterFaults.{has_end, IsRefusal};
 ghost use Rattle.work_registry.specs.RegisterReader.{IsRest};
 ghost use Rattle.work_registry.specs.Replay.{is_opening};
 
-use super::reading::{fault, first_count, next_number, no_line, read_line};
+use super::reading::{audit_line, fault, first_count, next_number, no_line, read_line};
 use super::refusal::RegisterRefusal;
 use crate::entry::Entry;
 use crate::ledger::Ledger;
 use std::alloc::Allocator;
 use std::marker::Model;
 
-/// Reads a register line by line, and decides anew on each call. It keeps no entry: who reads a line is given it.
+/// Reads a register line by line, and decides anew on each call. It keeps no entry itself.
 ///
 /// A contract sees how many entries there may be, how many the first line tells, once it was read, and the entries so
 /// far.
@@ -54,12 +54,17 @@ impl<A: Allocator + Copy + Drop> LineReader<A> {
         }
     }
 
-    /// Reads a line, which has no LF at its end here, and answers its entry: the first line has none. With a refusal
-    /// nothing is changed.
-    pub(super) fn take_line(&mut self, line: &[u8]) -> Result<Option<Entry<A>>, RegisterRefusal>
+    /// How many entries the first line told, where a line, which has no LF at its end here, can be that of one more; `None`
+    /// for the first line. With a refusal nothing is changed.
+    #[inline(always)]
+    fn count_before(&mut self, line: &[u8]) -> Result<Option<u32>, RegisterRefusal>
         requires { has_end line.now ≡ false }
-        ensures read { OnOk result ((text more : List ℕ) → IsRest self.old text (line.now ++ 10 ∷ more) → IsRest self.new text more) }
-        ensures entry { IfOk result (λ o. MatchOption o (self.new.history ≡ self.old.history) (λ e. self.new.history ≡ self.old.history ++ e ∷ [])) }
+        ensures first { IfOk result (λ o. o ≡ None → (text more : List ℕ) → IsRest self.old text (line.now ++ 10 ∷ more) → IsRest self.new text more) }
+        ensures same { IfOk result (λ o. IfSome o (λ count. self.new ≡ self.old)) }
+        ensures counted { IfOk result (λ o. IfSome o (λ count. self.old.count ≡ Some count)) }
+        ensures more { IfOk result (λ o. IfSome o (λ count. length self.old.history < count)) }
+        ensures few { IfOk result (λ o. IfSome o (λ count. count ≤ most_entries)) }
+        ensures history { self.new.history ≡ self.old.history }
         ensures limit { self.new.limit ≡ self.old.limit }
         ensures unchanged { OnErr result (self.new ≡ self.old) }
         ensures fault { IfErr result (λ refusal. (text more : List ℕ) → IsRest self.old text (line.now ++ 10 ∷ more) → IsRefusal self.old.limit text refusal) }
@@ -71,8 +76,45 @@ impl<A: Allocator + Copy + Drop> LineReader<A> {
         if self.ledger.len() == count {
             return Err(fault(2, next_number(&self.ledger)));
         }
-        let entry = read_line(self.alloc, &mut self.ledger, line)?;
-        Ok(Some(entry))
+        Ok(Some(count))
+    }
+
+    /// Reads a line, which has no LF at its end here, and keeps its entry as the last of the history, where there is room
+    /// for it: the first line has none. With a refusal nothing is changed.
+    pub(super) fn take_line(
+        &mut self,
+        line: &[u8],
+        history: &mut Vec<Entry<A>, A>,
+    ) -> Result<(), RegisterRefusal>
+        requires one { has_end line.now ≡ false }
+        requires spare { vec_len history.old < vec_capacity history.old }
+        ensures read { OnOk result ((text more : List ℕ) → IsRest self.old text (line.now ++ 10 ∷ more) → IsRest self.new text more) }
+        ensures kept { OnOk result (history.old.items ≡ self.old.history → history.new.items ≡ self.new.history) }
+        ensures limit { self.new.limit ≡ self.old.limit }
+        ensures unchanged { OnErr result (self.new ≡ self.old) }
+        ensures unkept { OnErr result (history.new.items ≡ history.old.items) }
+        ensures fault { IfErr result (λ refusal. (text more : List ℕ) → IsRest self.old text (line.now ++ 10 ∷ more) → IsRefusal self.old.limit text refusal) }
+    {
+        let Some(_count) = self.count_before(line)? else {
+            return Ok(());
+        };
+        read_line(self.alloc, &mut self.ledger, line, history)?;
+        Ok(())
+    }
+
+    /// The same, but no entry is kept.
+    pub(super) fn audit_line(&mut self, line: &[u8]) -> Result<(), RegisterRefusal>
+        requires { has_end line.now ≡ false }
+        ensures read { OnOk result ((text more : List ℕ) → IsRest self.old text (line.now ++ 10 ∷ more) → IsRest self.new text more) }
+        ensures limit { self.new.limit ≡ self.old.limit }
+        ensures unchanged { OnErr result (self.new ≡ self.old) }
+        ensures fault { IfErr result (λ refusal. (text more : List ℕ) → IsRest self.old text (line.now ++ 10 ∷ more) → IsRefusal self.old.limit text refusal) }
+    {
+        let Some(_count) = self.count_before(line)? else {
+            return Ok(());
+        };
+        audit_line(self.alloc, &mut self.ledger, line)?;
+        Ok(())
     }
 
     /// How many entries there are at the end, before which these bytes stand that no LF ends.

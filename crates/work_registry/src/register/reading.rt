@@ -1,10 +1,11 @@
 //! A register is read line by line into a ledger, which decides on each call anew.
 
-ghost use Rattle.std.specs.Prelude.{◌≡◌, ◌≤◌, ◌<◌, ◌^◌, ◌∷◌, ◌++◌, [], ℕ, List, true, false, length, IsTrue, ◌↔◌, ◌+◌, OnOk, OnErr, IfOk, IfErr};
+ghost use Rattle.std.specs.Prelude.{◌≡◌, ◌≤◌, ◌<◌, ◌^◌, ◌∷◌, ◌++◌, [], ℕ, List, true, false, length, vec_len, vec_capacity, IsTrue, ◌↔◌, ◌+◌, OnOk, OnErr, IfOk, IfErr};
 ghost use Rattle.work_registry.specs.EntryValue.{EntryValue, entry_of};
 ghost use Rattle.work_registry.specs.Rows.{rows_of};
 ghost use Rattle.work_registry.specs.Reply.{reply_to};
-ghost use Rattle.work_registry.specs.RegisterLine.{EntryLine};
+ghost use Rattle.work_registry.specs.RegisterLine.{EntryLine, IsEntryLine};
+ghost use Rattle.work_registry.specs.ToldLine.{line_told};
 ghost use Rattle.work_registry.specs.Numbers.{most_entries};
 ghost use Rattle.work_registry.specs.Replay.{is_opening};
 ghost use Rattle.work_registry.specs.Register.{count_line, register_text, IsWholeEntry};
@@ -13,12 +14,15 @@ ghost use Rattle.work_registry.specs.RegisterFaults.{lines, has_end, Tells, IsRe
 ghost use Rattle.work_registry.specs.RegisterReading.{IsReadTo, IsStep, IsStop};
 ghost use Rattle.work_registry.specs.declared.register.refusal.RegisterRefusal.TheVariants as refusal;
 
-use super::entry_line::{ReadEntry, read_entry};
+use super::calls::call_alone;
+use super::entry_line::{ReadEntry, Told, read_alone, read_entry};
 use super::lines::count_in;
 use super::refusal::RegisterRefusal;
+use crate::book::store_entry;
 use crate::entry::Entry;
 use crate::ledger::Ledger;
 use crate::reply::Reply;
+use cwr_call::Call;
 use cwr_record::Status;
 use std::alloc::Allocator;
 
@@ -72,10 +76,104 @@ pub(super) fn next_number<A: Allocator + Copy + Drop>(ledger: &Ledger<A>) -> u64
     ledger.len() as u64 + 2
 }
 
-/// Reads the next line, without the LF at its end, as an entry, on which the ledger decides anew.
+/// Enters the call of the next line, which was read without the LF at its end, where the ledger decides on it what the
+/// line tells.
 ///
-/// With a refusal the ledger is as it was.
+/// With a refusal the ledger is as it was. The line is there for the contract alone.
+#[inline(always)]
+fn enter_told<A: Allocator + Copy + Drop>(
+    ledger: &mut Ledger<A>,
+    line: &[u8],
+    told: Told,
+    call: &Call<A>,
+) -> Result<Reply, RegisterRefusal>
+    requires room { length ledger.old < most_entries }
+    requires one { has_end line.now ≡ false }
+    requires says { IsEntryLine (line.now ++ 10 ∷ []) (line_told told call.now) }
+    requires only { (x : EntryLine) → IsEntryLine (line.now ++ 10 ∷ []) x → x ≡ line_told told call.now }
+    ensures read { OnOk result ((more : List ℕ) → IsStep ledger.old (line.now ++ 10 ∷ more) ledger.new more) }
+    ensures entry { IfOk result (λ reply. ledger.new ≡ ledger.old ++ entry_of 0 call.now reply ∷ []) }
+    ensures unchanged { OnErr result (ledger.new ≡ ledger.old) }
+    ensures fault { IfErr result (λ refusal. (more : List ℕ) → IsStop ledger.old (line.now ++ 10 ∷ more) refusal) }
+{
+    let number = next_number(ledger);
+    if told.index as u64 + 1 != number {
+        return Err(fault(2, number));
+    }
+    let decision = ledger.decide(call);
+    if !is_told(told.status, told.work, told.version, decision.reply) {
+        return Err(fault(3, number));
+    }
+    ledger.enter(call, decision)?;
+    Ok(decision.reply)
+}
+
+/// Reads the next line, without the LF at its end, as an entry, on which the ledger decides anew, and keeps it as the last
+/// of the history, where there is room for it.
+///
+/// With a refusal both are as they were.
+#[inline(always)]
 pub(super) fn read_line<A: Allocator + Copy + Drop>(
+    alloc: A,
+    ledger: &mut Ledger<A>,
+    line: &[u8],
+    history: &mut Vec<Entry<A>, A>,
+) -> Result<(), RegisterRefusal>
+    requires room { length ledger.old < most_entries }
+    requires one { has_end line.now ≡ false }
+    requires spare { vec_len history.old < vec_capacity history.old }
+    ensures read { OnOk result ((more : List ℕ) → IsStep ledger.old (line.now ++ 10 ∷ more) ledger.new more) }
+    ensures longer { OnOk result (length ledger.new ≡ length ledger.old + 1) }
+    ensures opening { OnOk result (is_opening ledger.old ≡ true → is_opening ledger.new ≡ true) }
+    ensures kept { OnOk result (history.old.items ≡ ledger.old → history.new.items ≡ ledger.new) }
+    ensures unchanged { OnErr result (ledger.new ≡ ledger.old) }
+    ensures unkept { OnErr result (history.new.items ≡ history.old.items) }
+    ensures fault { IfErr result (λ refusal. (more : List ℕ) → IsStop ledger.old (line.now ++ 10 ∷ more) refusal) }
+{
+    let Some(head) = read_alone(line) else {
+        store_entry(history, read_other_line(alloc, ledger, line)?);
+        return Ok(());
+    };
+    let call = call_alone(alloc, &head);
+    let reply = enter_told(ledger, line, head.told(), &call)?;
+    store_entry(
+        history,
+        Entry {
+            session: 0,
+            call,
+            reply,
+        },
+    );
+    Ok(())
+}
+
+/// The same, but the entry is not kept.
+#[inline(always)]
+pub(super) fn audit_line<A: Allocator + Copy + Drop>(
+    alloc: A,
+    ledger: &mut Ledger<A>,
+    line: &[u8],
+) -> Result<(), RegisterRefusal>
+    requires room { length ledger.old < most_entries }
+    requires one { has_end line.now ≡ false }
+    ensures read { OnOk result ((more : List ℕ) → IsStep ledger.old (line.now ++ 10 ∷ more) ledger.new more) }
+    ensures longer { OnOk result (length ledger.new ≡ length ledger.old + 1) }
+    ensures opening { OnOk result (is_opening ledger.old ≡ true → is_opening ledger.new ≡ true) }
+    ensures unchanged { OnErr result (ledger.new ≡ ledger.old) }
+    ensures fault { IfErr result (λ refusal. (more : List ℕ) → IsStop ledger.old (line.now ++ 10 ∷ more) refusal) }
+{
+    let Some(head) = read_alone(line) else {
+        let _entry = read_other_line(alloc, ledger, line)?;
+        return Ok(());
+    };
+    let call = call_alone(alloc, &head);
+    let _reply = enter_told(ledger, line, head.told(), &call)?;
+    Ok(())
+}
+
+/// Reads the next line, which may have faults or say nothing. With a refusal the ledger is as it was.
+#[inline(never)]
+fn read_other_line<A: Allocator + Copy + Drop>(
     alloc: A,
     ledger: &mut Ledger<A>,
     line: &[u8],
@@ -88,28 +186,14 @@ pub(super) fn read_line<A: Allocator + Copy + Drop>(
     ensures unchanged { OnErr result (ledger.new ≡ ledger.old) }
     ensures fault { IfErr result (λ refusal. (more : List ℕ) → IsStop ledger.old (line.now ++ 10 ∷ more) refusal) }
 {
-    let number = next_number(ledger);
     let Some(entry) = read_entry(alloc, line)? else {
-        return Err(fault(1, number));
+        return Err(fault(1, next_number(ledger)));
     };
-    if entry.index as u64 + 1 != number {
-        return Err(fault(2, number));
-    }
-    let ReadEntry {
-        index: _,
-        call,
-        status,
-        work,
-        version,
-    } = entry;
-    let decision = ledger.decide(&call);
-    if !is_told(status, work, version, decision.reply) {
-        return Err(fault(3, number));
-    }
-    ledger.enter(&call, decision)?;
+    let ReadEntry { told, call } = entry;
+    let reply = enter_told(ledger, line, told, &call)?;
     Ok(Entry {
         session: 0,
         call,
-        reply: decision.reply,
+        reply,
     })
 }

@@ -12,7 +12,7 @@ ghost use Rattle.work_registry.specs.Replay.{is_opening};
 use super::line_reader::LineReader;
 use super::lines::cut_line;
 use super::refusal::RegisterRefusal;
-use crate::book::{Book, store_entry};
+use crate::book::Book;
 use crate::entry::Entry;
 use std::alloc::{Allocator, Global};
 use std::marker::Model;
@@ -99,9 +99,7 @@ impl<A: Allocator + Copy + Drop> RegisterReader<A> {
         let Ok(()) = self.history.reserve(1) else {
             return Err(RegisterRefusal::Memory);
         };
-        if let Some(entry) = self.lines.take_line(line)? {
-            store_entry(&mut self.history, entry);
-        }
+        self.lines.take_line(line, &mut self.history)?;
         Ok(())
     }
 

@@ -1,9 +1,13 @@
 //! The text of a history.
 
-ghost use Rattle.std.specs.Prelude.{◌≡◌, ◌++◌, ◌∷◌, [], ◌<◌, ◌≤◌, ◌^◌, ◌*◌, ◌+◌, OnOk, IfOk, IsTrue, length, sum_by, codes};
+ghost use Rattle.std.specs.Prelude.{◌≡◌, ◌++◌, ◌∷◌, ℕ, List, [], ◌<◌, ◌≤◌, ◌^◌, ◌*◌, ◌+◌, ◌-◌, ◌%◌, OnOk, IfOk, IsTrue, length, sum_by, codes};
 ghost use Rattle.std.specs.List.{flat_map, AllByRecursion};
 ghost use Rattle.cwr_call.specs.Lawful.{is_lawful};
-ghost use Rattle.cwr_record.specs.Lines.{Fits, line_of};
+ghost use Rattle.cwr_field.specs.Iswc.{iswc_text};
+ghost use Rattle.cwr_field.specs.Number.{number_text};
+ghost use Rattle.cwr_record.specs.Lines.{Fits, FitsCode, line_of};
+ghost use Rattle.cwr_record.specs.Pieces.{piece_text};
+ghost use Rattle.cwr_record.specs.declared.pieces.Piece.TheVariants.{Code};
 ghost use Rattle.work_registry.specs.RegisterColumns.{count_width, head_width, fault_width};
 ghost use Rattle.work_registry.specs.RegisterLine.{entry_count, head, fault, head_of, IsTyped};
 ghost use Rattle.work_registry.specs.Register.{line_for, entry_line, entry_lines, count_line, register_text, FitsEntry, IsWholeEntry};
@@ -13,7 +17,7 @@ use super::head::Head;
 use crate::entry::Entry;
 use cwr_call::Fault;
 use cwr_field::Memory;
-use cwr_record::{LineRoom, Piece};
+use cwr_record::{Column, LineRoom, Piece};
 use std::alloc::Allocator;
 
 /// What the fields of fixed place in the line of an entry tell.
@@ -41,6 +45,89 @@ pub(super) fn head_for<A: Allocator>(index: u32, entry: &Entry<A>) -> Head
     }
 }
 
+/// Appends a number in as many digits as the column has. Where it is below the limit, the first of them are these zeros.
+#[inline(always)]
+fn put_number(line: &mut LineRoom<HEAD_WIDTH>, value: u64, column: Column, zeros: &[u8], limit: u64)
+    requires fits { value < 10 ^ column.width }
+    requires start { column.start ≤ 4096 }
+    requires width { column.width ≤ 18 }
+    requires few { length zeros.now ≤ column.width }
+    requires zeros { zeros.now ≡ number_text (length zeros.now) 0 }
+    requires limit { limit ≡ 10 ^ (column.width - length zeros.now) }
+    requires room { length line.old + column.width ≤ head_width }
+    ensures text { line.new ≡ line.old ++ number_text column.width value }
+    // The same, with what is put behind it.
+    ensures before { (behind : List ℕ) → line.new ++ behind ≡ line.old ++ (number_text column.width value ++ behind) }
+{
+    if value >= limit {
+        line.put(&Piece::Digits(value, column));
+        return;
+    }
+    let front = Column {
+        start: column.start,
+        width: zeros.len(),
+    };
+    let back = Column {
+        start: column.start + zeros.len(),
+        width: column.width - zeros.len(),
+    };
+    line.put(&Piece::Text(zeros, front));
+    line.put(&Piece::Digits(value, back));
+}
+
+/// The last digit of a number.
+#[inline(always)]
+fn digit(number: u32) -> u8
+    ensures { result ≡ 48 + number % 10 }
+{
+    b'0' + (number % 10) as u8
+}
+
+/// The text of a work's code (ISWC) by the number of its nine digits. The digits that are written make the check digit.
+fn code_text(number: u32) -> [u8; 11]
+    requires { number < 10 ^ 9 }
+    ensures { result ≡ iswc_text number }
+{
+    let eight = number / 10;
+    let seven = eight / 10;
+    let six = seven / 10;
+    let five = six / 10;
+    let four = five / 10;
+    let three = four / 10;
+    let two = three / 10;
+    let one = two / 10;
+    let front = one % 10 + 2 * (two % 10) + 3 * (three % 10) + 4 * (four % 10) + 5 * (five % 10);
+    let sum = 1 + front + 6 * (six % 10) + 7 * (seven % 10) + 8 * (eight % 10) + 9 * (number % 10);
+    [
+        b'T',
+        digit(one),
+        digit(two),
+        digit(three),
+        digit(four),
+        digit(five),
+        digit(six),
+        digit(seven),
+        digit(eight),
+        digit(number),
+        digit(10 - sum % 10),
+    ]
+}
+
+/// Appends a work's code, or blanks.
+#[inline(always)]
+fn put_code(line: &mut LineRoom<HEAD_WIDTH>, iswc: Option<u64>)
+    requires fits { FitsCode iswc }
+    requires room { length line.old + 11 ≤ head_width }
+    ensures text { line.new ≡ line.old ++ piece_text (Code iswc) }
+    // The same, with what is put behind it.
+    ensures before { (behind : List ℕ) → line.new ++ behind ≡ line.old ++ (piece_text (Code iswc) ++ behind) }
+{
+    match iswc {
+        None => line.put(&Piece::Code(None)),
+        Some(number) => line.put(&Piece::Text(&code_text(number as u32), columns::ISWC)),
+    }
+}
+
 /// The fields of fixed place.
 pub(super) fn head_line(x: &Head) -> LineRoom<HEAD_WIDTH>
     requires { Fits head x.now }
@@ -53,14 +140,38 @@ pub(super) fn head_line(x: &Head) -> LineRoom<HEAD_WIDTH>
     line.put(&Piece::Text(x.kind.code(), columns::KIND));
     line.put(&Piece::Text(&x.title, columns::TITLE));
     line.put(&Piece::Text(&x.number, columns::NUMBER));
-    line.put(&Piece::Code(x.iswc));
-    line.put(&Piece::Digits(x.control[0], columns::PERFORMING_CONTROL));
-    line.put(&Piece::Digits(x.control[1], columns::MECHANICAL_CONTROL));
-    line.put(&Piece::Digits(x.control[2], columns::SYNCHRONIZATION_CONTROL));
+    put_code(&mut line, x.iswc);
+    put_number(
+        &mut line,
+        x.control[0],
+        columns::PERFORMING_CONTROL,
+        b"000000",
+        1000000,
+    );
+    put_number(
+        &mut line,
+        x.control[1],
+        columns::MECHANICAL_CONTROL,
+        b"000000",
+        1000000,
+    );
+    put_number(
+        &mut line,
+        x.control[2],
+        columns::SYNCHRONIZATION_CONTROL,
+        b"000000",
+        1000000,
+    );
     line.put(&Piece::Text(x.status.code(), columns::STATUS));
     line.put(&Piece::Digits(x.work as u64, columns::WORK));
-    line.put(&Piece::Digits(x.version as u64, columns::VERSION));
-    line.put(&Piece::Digits(x.faults as u64, columns::FAULTS));
+    put_number(
+        &mut line,
+        x.version as u64,
+        columns::VERSION,
+        b"000000",
+        100,
+    );
+    put_number(&mut line, x.faults as u64, columns::FAULTS, b"00000000", 10);
     line
 }
 

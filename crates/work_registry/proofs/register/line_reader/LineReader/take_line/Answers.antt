@@ -1,55 +1,40 @@
-use Rattle.std.proofs.Common.{◌≡◌, ◌∙◌, ◌<◌, ◌+◌, ◌∷◌, ◌++◌, ℕ, List, length, length-append, Option, arith, ap, sym, subst}
+use Rattle.std.proofs.Common.{◌≡◌, ◌∙◌, ◌<◌, ◌∷◌, ◌++◌, ℕ, List, Option, Some, length, ap, sym, subst}
+use Rattle.work_registry.specs.EntryValue.{EntryValue}
 use Rattle.work_registry.specs.RegisterReader.{ReaderState, IsRest, IsRestAfter}
 use Rattle.work_registry.specs.RegisterFaults.{IsRefusal}
-use Rattle.work_registry.proofs.Audited.{rest_first, rest_later, counted_later}
+use Rattle.work_registry.proofs.Audited.{rest_later}
 use Rattle.work_registry.proofs.HandedOn.{handed_on}
-use Rattle.work_registry.proofs.RegisterNextLine.{tail_line}
 use Rattle.work_registry.proofs.register.line_reader.LineReader.take_line.Goals as goal
 
-pub returns-in_err-first_count-clause-fault : goal.returns-in_err-first_count-clause-fault
-returns-in_err-first_count-clause-fault g c =
+pub returns-in_err-read_line-clause-fault : goal.returns-in_err-read_line-clause-fault
+returns-in_err-read_line-clause-fault g c =
     let line = c.args.line.now in
-    let refusal = c.in_err-first_count.field-0.0 in
-    let limit = ap (λ (s : ReaderState). s.limit) c.self.view_is in
-    handed_on c.from_residual.result refusal (λ r. (text more : List ℕ) → IsRest c.args.self.now text (line ++ 10 ∷ more) → IsRefusal c.args.self.now.limit text r) c.from_residual.ensures.1
-    (λ text more left.
-    let P : ReaderState → Type 0 = λ s. IsRest s text (line ++ 10 ∷ more) in
-    let Q : List ℕ → Type 0 = λ xs. IsRefusal c.args.self.now.limit xs refusal in
-    let R : ℕ → Type 0 = λ n. IsRefusal n (line ++ 10 ∷ more) refusal in
-    subst Q (sym (rest_first _ text (line ++ 10 ∷ more) c.in_default.is (subst P (sym c.self.view_is) left))) (subst R limit (c.in_err-first_count.ensures.fault more)))
-
-pub returns-then-len-count-clause-fault : goal.returns-then-len-count-clause-fault
-returns-then-len-count-clause-fault g c = λ text more left.
-    let line = c.args.line.now in
-    let P : ReaderState → Type 0 = λ s. IsRest s text (line ++ 10 ∷ more) in
-    let R : ℕ → Type 0 = λ n. IsRefusal n text c.fault.result in
-    let limit = ap (λ (s : ReaderState). s.limit) c.self.view_is in
-    let read = rest_later _ c.in-Some.count text (line ++ 10 ∷ more) c.in-Some.is (subst P (sym c.self.view_is) left) in
-    let size = length-append line (10 ∷ more) in
-    let full : length c.self.inside.ledger ≡ c.in-Some.count = sym c.len.ensures.value ∙ c.if-len-count.true in
-    subst R limit (rw c.fault.ensures (tail_line c.self.inside.limit c.in-Some.count c.next_number.result text (line ++ 10 ∷ more) c.self.inside.ledger read (omega (arith, size)) full (c.next_number.ensures ∙ ap (λ (n : ℕ). n + 2) full)))
-
-pub invariant_of-self-in_err-entry : goal.invariant_of-self-in_err-entry
-invariant_of-self-in_err-entry g c = rw c.in_err-entry.ensures.unchanged c.self.invariant
-
-pub returns-in_err-entry-clause-fault : goal.returns-in_err-entry-clause-fault
-returns-in_err-entry-clause-fault g c =
-    let line = c.args.line.now in
-    let refusal = c.in_err-entry.field-0.0 in
-    let limit = ap (λ (s : ReaderState). s.limit) c.self.view_is in
-    let most = (counted_later c.self.inside.limit c.self.inside.count c.self.inside.ledger c.in-Some.count c.in-Some.is c.self.invariant.counted).0 in
-    let counted : length c.self.inside.ledger < c.in-Some.count = omega (arith, most, c.len.ensures.value, c.if-len-count.false) in
-    handed_on c.from_residual-in_err-entry.result refusal (λ r. (text more : List ℕ) → IsRest c.args.self.now text (line ++ 10 ∷ more) → IsRefusal c.args.self.now.limit text r) c.from_residual-in_err-entry.ensures.1
+    let count = c.in-Some._count in
+    let refusal = c.in_err-read_line.field-0.0 in
+    let same : c.count_before.new.self ≡ c.args.self.now = rw c.in-Some.is at c.in_ok-_count.ensures.same in
+    let state = c.self.view_is ∙ same in
+    let now : c.args.self.now.count ≡ Some count = rw c.in-Some.is at c.in_ok-_count.ensures.counted in
+    let counted = ap (λ (s : ReaderState). s.count) state ∙ now in
+    let more_now : length c.args.self.now.history < count = rw c.in-Some.is at c.in_ok-_count.ensures.more in
+    let M : List EntryValue → Type 0 = λ h. length h < count in
+    let room = subst M (sym (ap (λ (s : ReaderState). s.history) state)) more_now in
+    handed_on c.from_residual-in_err-read_line.result refusal (λ r. (text more : List ℕ) → IsRest c.args.self.now text (line ++ 10 ∷ more) → IsRefusal c.args.self.now.limit text r) c.from_residual-in_err-read_line.ensures.1
     (λ text more left.
     let P : ReaderState → Type 0 = λ s. IsRest s text (line ++ 10 ∷ more) in
     let R : ℕ → Type 0 = λ n. IsRefusal n text refusal in
-    subst R limit (c.in_err-entry.ensures.fault more c.self.inside.limit text c.in-Some.count counted (rest_later _ c.in-Some.count text (line ++ 10 ∷ more) c.in-Some.is (subst P (sym c.self.view_is) left))))
+    subst R (ap (λ (s : ReaderState). s.limit) state) (c.in_err-read_line.ensures.fault more c.self.inside.limit text count room (rest_later _ count text (line ++ 10 ∷ more) counted (subst P (sym state) left))))
 
 pub returns-clause-read : goal.returns-clause-read
 returns-clause-read g c = λ text more left.
     let line = c.args.line.now in
+    let count = c.in-Some._count in
+    let same : c.count_before.new.self ≡ c.args.self.now = rw c.in-Some.is at c.in_ok-_count.ensures.same in
+    let state = c.self.view_is ∙ same in
+    let now : c.args.self.now.count ≡ Some count = rw c.in-Some.is at c.in_ok-_count.ensures.counted in
+    let counted = ap (λ (s : ReaderState). s.count) state ∙ now in
+    let more_now : length c.args.self.now.history < count = rw c.in-Some.is at c.in_ok-_count.ensures.more in
+    let M : List EntryValue → Type 0 = λ h. length h < count in
+    let room = subst M (sym (ap (λ (s : ReaderState). s.history) state)) more_now in
     let P : ReaderState → Type 0 = λ s. IsRest s text (line ++ 10 ∷ more) in
     let Q : Option ℕ → Type 0 = λ o. IsRestAfter c.self.inside.limit o c.read_line.new.ledger text more in
-    let most = (counted_later c.self.inside.limit c.self.inside.count c.self.inside.ledger c.in-Some.count c.in-Some.is c.self.invariant.counted).0 in
-    let counted : length c.self.inside.ledger < c.in-Some.count = omega (arith, most, c.len.ensures.value, c.if-len-count.false) in
-    subst Q (sym c.in-Some.is) (c.in_ok-entry.ensures.read more c.self.inside.limit text c.in-Some.count counted (rest_later _ c.in-Some.count text (line ++ 10 ∷ more) c.in-Some.is (subst P (sym c.self.view_is) left)))
+    subst Q (sym counted) (c.in_ok-read_line.ensures.read more c.self.inside.limit text count room (rest_later _ count text (line ++ 10 ∷ more) counted (subst P (sym state) left)))

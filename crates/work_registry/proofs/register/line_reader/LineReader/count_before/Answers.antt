@@ -1,0 +1,35 @@
+use Rattle.std.proofs.Common.{◌≡◌, ◌∙◌, ◌+◌, ◌∷◌, ◌++◌, ℕ, List, length, length-append, arith, ap, sym, subst}
+use Rattle.work_registry.specs.RegisterReader.{ReaderState, IsRest}
+use Rattle.work_registry.specs.RegisterFaults.{IsRefusal}
+use Rattle.work_registry.proofs.Audited.{rest_first, rest_later, counted_later}
+use Rattle.work_registry.proofs.HandedOn.{handed_on}
+use Rattle.work_registry.proofs.RegisterNextLine.{tail_line}
+use Rattle.work_registry.proofs.register.line_reader.LineReader.count_before.Goals as goal
+
+pub returns-in_err-first_count-clause-fault : goal.returns-in_err-first_count-clause-fault
+returns-in_err-first_count-clause-fault g c =
+    let line = c.args.line.now in
+    let refusal = c.in_err-first_count.field-0.0 in
+    let limit = ap (λ (s : ReaderState). s.limit) c.self.view_is in
+    handed_on c.from_residual.result refusal (λ r. (text more : List ℕ) → IsRest c.args.self.now text (line ++ 10 ∷ more) → IsRefusal c.args.self.now.limit text r) c.from_residual.ensures.1
+    (λ text more left.
+    let P : ReaderState → Type 0 = λ s. IsRest s text (line ++ 10 ∷ more) in
+    let Q : List ℕ → Type 0 = λ xs. IsRefusal c.args.self.now.limit xs refusal in
+    let R : ℕ → Type 0 = λ n. IsRefusal n (line ++ 10 ∷ more) refusal in
+    subst Q (sym (rest_first _ text (line ++ 10 ∷ more) c.in_default.is (subst P (sym c.self.view_is) left))) (subst R limit (c.in_err-first_count.ensures.fault more)))
+
+pub returns-then-len-count-clause-fault : goal.returns-then-len-count-clause-fault
+returns-then-len-count-clause-fault g c = λ text more left.
+    let line = c.args.line.now in
+    let P : ReaderState → Type 0 = λ s. IsRest s text (line ++ 10 ∷ more) in
+    let R : ℕ → Type 0 = λ n. IsRefusal n text c.fault.result in
+    let limit = ap (λ (s : ReaderState). s.limit) c.self.view_is in
+    let read = rest_later _ c.in-Some.count text (line ++ 10 ∷ more) c.in-Some.is (subst P (sym c.self.view_is) left) in
+    let size = length-append line (10 ∷ more) in
+    let full : length c.self.inside.ledger ≡ c.in-Some.count = sym c.len.ensures.value ∙ c.if-len-count.true in
+    subst R limit (rw c.fault.ensures (tail_line c.self.inside.limit c.in-Some.count c.next_number.result text (line ++ 10 ∷ more) c.self.inside.ledger read (omega (arith, size)) full (c.next_number.ensures ∙ ap (λ (n : ℕ). n + 2) full)))
+
+pub returns-clause-more : goal.returns-clause-more
+returns-clause-more g c =
+    let most = (counted_later c.self.inside.limit c.self.inside.count c.self.inside.ledger c.in-Some.count c.in-Some.is c.self.invariant.counted).0 in
+    rw (← c.self.view_is) (omega (arith, most, c.len.ensures.value, c.if-len-count.false))
