@@ -3,7 +3,8 @@ pub mod Walking
 pub mod Reported
 pub mod Written
 pub mod Counting
-pub mod NoFloats
+pub mod JsonStrings
+pub mod JsonText
 pub mod Located
 pub mod Inside
 pub mod Told

@@ -10,3 +10,7 @@ four out b c d new x y z w p q r s = then out d new (x ++ y ++ z) w (three out b
 
 pub five : (out b c d e new x y z w v : List ℕ) → b ≡ out ++ x → c ≡ b ++ y → d ≡ c ++ z → e ≡ d ++ w → new ≡ e ++ v → new ≡ out ++ (x ++ y ++ z ++ w ++ v)
 five out b c d e new x y z w v p q r s t = then out e new (x ++ y ++ z ++ w) v (four out b c d e x y z w p q r s) t
+
+pub seven : (out b c d e f g new x y z w v u t : List ℕ) → b ≡ out ++ x → c ≡ b ++ y → d ≡ c ++ z → e ≡ d ++ w → f ≡ e ++ v → g ≡ f ++ u → new ≡ g ++ t → new ≡ out ++ (x ++ y ++ z ++ w ++ v ++ u ++ t)
+seven out b c d e f g new x y z w v u t p q r s k l m =
+    then out g new (x ++ y ++ z ++ w ++ v ++ u) t (then out f g (x ++ y ++ z ++ w ++ v) u (five out b c d e f x y z w v p q r s k) l) m

@@ -9,5 +9,6 @@ pub mod FileExpected
 pub mod FileFindings
 pub mod FileText
 pub mod Json
+pub mod JsonText
 pub mod Report
 pub mod Told

@@ -1,15 +1,18 @@
-ghost use Rattle.std.specs.Prelude.{◌≡◌, ◌++◌, map, codes, IfOk, OnOk, string_bytes};
-ghost use Rattle.serde_json.specs.Data.{object, put as with_member};
-ghost use Rattle.serde_json.specs.View.{view, members_view};
-ghost use Rattle.cwr_report.specs.Json.{latin, text_data, option_data, field_members, spot_data, fields_data, place_members};
+ghost use Rattle.std.specs.Prelude.{◌≡◌, ◌++◌, ◌∷◌, ℕ, List, IfOk, OnOk, string_bytes};
+ghost use Rattle.serde_json.specs.Data.{Data, boolean};
+ghost use Rattle.serde_json.specs.View.{view, items_of};
+ghost use Rattle.serde_json.specs.Written.{comma_if, compact_text, items_text};
+ghost use Rattle.cwr_report.specs.Json.{latin, text_data, spot_data, fields_data};
+ghost use Rattle.cwr_report.specs.JsonText.{string_text, option_text, type_data, field_text};
 ghost use Rattle.cwr_report.specs.FileText.{counted};
 
 use crate::file_lines::put_counted;
 use crate::finding::Spot;
-use crate::long_lines::stands_at;
+use crate::json_strings::put_json_text;
+use crate::long_lines::{put_text, stands_at};
 use crate::words::name_text;
-use cwr_field::Memory;
-use serde_json::{Map, Value, push, put};
+use cwr_field::{Memory, put_decimal};
+use serde_json::Value;
 use std::alloc::Global;
 
 /// Bytes as a text: each byte is the character with its number.
@@ -31,142 +34,108 @@ pub fn text_value(alloc: Global, bytes: &[u8]) -> Result<Value, Memory>
     Ok(Value::String(text))
 }
 
-/// A rule by its letter and its number.
-fn rule_value(alloc: Global, letter: &[u8], number: u8) -> Result<Value, Memory>
-    ensures { IfOk result (λ value. view value ≡ text_data (counted letter.now number)) }
+/// Appends a comma, where something stands before.
+pub(crate) fn put_comma(out: &mut Vec<u8>, later: bool) -> Result<(), Memory>
+    ensures { OnOk result (out.new.items ≡ out.old.items ++ comma_if later) }
 {
-    let mut name = Vec::new(alloc);
-    put_counted(&mut name, letter, number as u64)?;
-    text_value(alloc, &name)
-}
-
-/// A number, or null.
-fn option_value(number: Option<u64>) -> Value
-    ensures { view result ≡ option_data number }
-{
-    match number {
-        None => Value::Null,
-        Some(number) => Value::from(number),
-    }
-}
-
-/// A field that breaks a rule, with the bytes that the line has there.
-fn field_value(alloc: Global, line: &[u8], spot: &Spot) -> Result<Value, Memory>
-    ensures { IfOk result (λ value. view value ≡ object (field_members line.now spot.now)) }
-{
-    let mut map = Map::new(alloc);
-    put(
-        &mut map,
-        alloc,
-        "name",
-        text_value(alloc, name_text(spot.name))?,
-    )?;
-    put(&mut map, alloc, "start", Value::from(spot.column.start))?;
-    put(&mut map, alloc, "length", Value::from(spot.column.width))?;
-    put(
-        &mut map,
-        alloc,
-        "bytes",
-        text_value(alloc, stands_at(line, spot.column))?,
-    )?;
-    Ok(Value::Object(map))
-}
-
-fn fields_value(alloc: Global, line: &[u8], spots: &[Option<Spot>]) -> Result<Value, Memory>
-    ensures { IfOk result (λ value. view value ≡ fields_data line.now spots.now) }
-{
-    let mut list = Vec::new(alloc);
-    for spot in spots {
-        push_field(alloc, &mut list, line, spot)?;
-    }
-    Ok(Value::Array(list))
-}
-
-fn push_field(
-    alloc: Global,
-    list: &mut Vec<Value>,
-    line: &[u8],
-    spot: &Option<Spot>,
-) -> Result<(), Memory>
-    ensures { OnOk result (map view list.new.items ≡ map view list.old.items ++ spot_data line.now spot.now) }
-{
-    if let Some(spot) = spot {
-        push(list, field_value(alloc, line, spot)?)?;
+    if later {
+        out.push(b',')?;
     }
     Ok(())
 }
 
-/// Where a fault is: the line, and the record where there is one.
-pub(crate) fn place_map(
-    alloc: Global,
-    line: u64,
-    rtype: Value,
-    group: Option<u64>,
-    transaction: Option<u64>,
-    detail: Option<u64>,
-) -> Result<Map<String, Value>, Memory>
-    ensures { IfOk result (λ map. members_view map.entries ≡ place_members line (view rtype) group transaction detail) }
+/// Appends a number, or null.
+pub(crate) fn put_option(out: &mut Vec<u8>, number: Option<u64>) -> Result<(), Memory>
+    ensures { OnOk result (out.new.items ≡ out.old.items ++ option_text number) }
 {
-    let mut map = Map::new(alloc);
-    put(&mut map, alloc, "line", Value::from(line))?;
-    put(&mut map, alloc, "record", rtype)?;
-    put(&mut map, alloc, "group", option_value(group))?;
-    put(&mut map, alloc, "transaction", option_value(transaction))?;
-    put(&mut map, alloc, "sequence", option_value(detail))?;
-    Ok(map)
+    match number {
+        None => put_text(out, b"null"),
+        Some(number) => put_decimal(out, number),
+    }
 }
 
-/// The same members, and one more.
-pub(crate) fn with_value(
-    alloc: Global,
-    mut map: Map<String, Value>,
-    name: &str,
-    value: Value,
-) -> Result<Map<String, Value>, Memory>
-    ensures { IfOk result (λ made. members_view made.entries ≡ with_member name.now (view value) (members_view map.entries)) }
+/// Appends true or false.
+pub(crate) fn put_bool(out: &mut Vec<u8>, value: bool) -> Result<(), Memory>
+    ensures { OnOk result (out.new.items ≡ out.old.items ++ compact_text (boolean value)) }
 {
-    put(&mut map, alloc, name, value)?;
-    Ok(map)
+    if value {
+        put_text(out, b"true")
+    } else {
+        put_text(out, b"false")
+    }
 }
 
-/// The same members, and a text.
-pub(crate) fn with_text(
-    alloc: Global,
-    map: Map<String, Value>,
-    name: &str,
-    text: &[u8],
-) -> Result<Map<String, Value>, Memory>
-    ensures { IfOk result (λ made. members_view made.entries ≡ with_member name.now (text_data text.now) (members_view map.entries)) }
+/// Appends a record type, or null.
+pub(crate) fn put_type(out: &mut Vec<u8>, rtype: Option<[u8; 3]>) -> Result<(), Memory>
+    ensures { OnOk result (out.new.items ≡ out.old.items ++ compact_text (type_data rtype)) }
 {
-    let value = text_value(alloc, text)?;
-    with_value(alloc, map, name, value)
+    match rtype {
+        None => put_text(out, b"null"),
+        Some(rtype) => put_json_text(out, &rtype),
+    }
 }
 
-/// The same members, and the rule that is broken, with its text.
-pub(crate) fn with_rule(
-    alloc: Global,
-    map: Map<String, Value>,
+/// Appends a rule by its letter and its number, which are put together in a room for texts.
+pub(crate) fn put_rule_name(
+    out: &mut Vec<u8>,
+    room: &mut Vec<u8>,
     letter: &[u8],
     number: u8,
-    text: &[u8],
-) -> Result<Map<String, Value>, Memory>
-    ensures { IfOk result (λ made. members_view made.entries ≡
-        with_member (codes "text") (text_data text.now) (with_member (codes "rule") (text_data (counted letter.now number)) (members_view map.entries))) }
+) -> Result<(), Memory>
+    ensures { OnOk result (out.new.items ≡ out.old.items ++ string_text (counted letter.now number)) }
 {
-    let rule = rule_value(alloc, letter, number)?;
-    let map = with_value(alloc, map, "rule", rule)?;
-    with_text(alloc, map, "text", text)
+    room.clear();
+    put_counted(room, letter, number as u64)?;
+    put_json_text(out, room)?;
+    Ok(())
 }
 
-/// The same members, and the fields that break a rule.
-pub(crate) fn with_fields(
-    alloc: Global,
-    map: Map<String, Value>,
+/// Appends a field that breaks a rule, with the bytes that the line has there.
+fn put_field(out: &mut Vec<u8>, line: &[u8], spot: &Spot) -> Result<(), Memory>
+    ensures { OnOk result (out.new.items ≡ out.old.items ++ field_text line.now spot.now) }
+{
+    out.extend_from_slice(b"{\"bytes\":")?;
+    put_json_text(out, stands_at(line, spot.column))?;
+    out.extend_from_slice(b",\"length\":")?;
+    put_decimal(out, spot.column.width as u64)?;
+    out.extend_from_slice(b",\"name\":")?;
+    put_json_text(out, name_text(spot.name))?;
+    out.extend_from_slice(b",\"start\":")?;
+    put_decimal(out, spot.column.start as u64)?;
+    out.extend_from_slice(b"}")?;
+    Ok(())
+}
+
+/// Appends the next of some fields, where there is one, and tells whether one has been.
+fn put_spot(
+    out: &mut Vec<u8>,
+    later: bool,
+    line: &[u8],
+    spot: &Option<Spot>,
+) -> Result<bool, Memory>
+    ensures { (ds : List Data) → IfOk result (λ told. out.new.items ++ items_text told (items_of ds) ≡ out.old.items ++ items_text later (items_of (spot_data line.now spot.now ++ ds))) }
+{
+    let Some(spot) = spot else {
+        return Ok(later);
+    };
+    put_comma(out, later)?;
+    put_field(out, line, spot)?;
+    Ok(true)
+}
+
+/// Appends the fields that break a rule.
+pub(crate) fn put_fields(
+    out: &mut Vec<u8>,
     line: &[u8],
     spots: &[Option<Spot>],
-) -> Result<Map<String, Value>, Memory>
-    ensures { IfOk result (λ made. members_view made.entries ≡ with_member (codes "fields") (fields_data line.now spots.now) (members_view map.entries)) }
+) -> Result<(), Memory>
+    ensures { OnOk result (out.new.items ≡ out.old.items ++ compact_text (fields_data line.now spots.now)) }
 {
-    let fields = fields_value(alloc, line, spots)?;
-    with_value(alloc, map, "fields", fields)
+    out.push(b'[')?;
+    let mut later = false;
+    for spot in spots {
+        later = put_spot(out, later, line, spot)?;
+    }
+    out.push(b']')?;
+    Ok(())
 }

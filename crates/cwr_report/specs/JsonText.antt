@@ -1,0 +1,145 @@
+-- What is told as JSON, as it is written: pieces one after the other.
+use Rattle.std.specs.Prelude.{ℕ, List, [], ◌∷◌, ◌++◌, Bool, true, ◌||◌, ◌==◌, nat_lt, codes, Option, Some, None}
+use Rattle.std.specs.Fmt.{decimal}
+use Rattle.std.specs.Ordering.{nat_cmp, match_ordering}
+use Rattle.std.specs.Cmp.Lexicographic.{slice_cmp}
+use Rattle.json.specs.Print.{quoted}
+use Rattle.serde_json.specs.Data.{Data, null, array, Members, no_members, member}
+use Rattle.serde_json.specs.View.{items_of}
+use Rattle.serde_json.specs.Written.{compact_text, comma_if, members_text}
+use Rattle.cwr_report.specs.declared.finding.Finding.{Finding}
+use Rattle.cwr_report.specs.declared.finding.Spot.{Spot}
+use Rattle.cwr_report.specs.declared.file_finding.FileFinding.{FileFinding}
+use Rattle.cwr_report.specs.declared.file_finding.WrongByte.{WrongByte}
+use Rattle.cwr_report.specs.declared.json_faults.Place.{Place}
+use Rattle.cwr_report.specs.declared.json_members.Member.{Member}
+use Rattle.cwr_report.specs.declared.json_members.ReportMember.{ReportMember}
+use Rattle.cwr_report.specs.declared.json_members.ReportMember.TheVariants as own
+use Rattle.cwr_report.specs.Json.{text_data, count_data, option_data, fields_data, refused_data, faults_data}
+use Rattle.cwr_report.specs.FileText.{counted, file_rule_text, file_wanted_text}
+use Rattle.cwr_report.specs.LongText.{name_text, stands_at, message_of, wanted_text}
+
+-- the byte does not stand for itself in a text
+abbrev pub is_changed : ℕ → Bool
+is_changed byte = nat_lt byte 32 || (byte == 34) || (byte == 92) || nat_lt 127 byte
+
+abbrev pub string_text : List ℕ → List ℕ
+string_text bytes = compact_text (text_data bytes)
+
+abbrev pub option_text : Option ℕ → List ℕ
+option_text number = compact_text (option_data number)
+
+-- a field that breaks a rule
+abbrev pub field_text : List ℕ → Spot → List ℕ
+field_text line spot =
+    codes "{\"bytes\":"
+    ++ string_text (stands_at line spot.column)
+    ++ codes ",\"length\":"
+    ++ decimal spot.column.width
+    ++ codes ",\"name\":"
+    ++ string_text (name_text spot.name)
+    ++ codes ",\"start\":"
+    ++ decimal spot.column.start
+    ++ codes "}"
+
+-- a byte that is wrong
+abbrev pub wrong_text : WrongByte → List ℕ
+wrong_text wrong =
+    codes "{\"byte\":"
+    ++ decimal wrong.byte
+    ++ codes ",\"in_file\":"
+    ++ decimal wrong.in_file
+    ++ codes ",\"in_line\":"
+    ++ decimal wrong.in_line
+    ++ codes "}"
+
+abbrev pub byte_text : Option WrongByte → List ℕ
+byte_text None = codes "null"
+byte_text (Some wrong) = wrong_text wrong
+
+-- a record type, or null
+abbrev pub type_data : Option (List ℕ) → Data
+type_data None = null
+type_data (Some rtype) = text_data rtype
+
+-- where a fault is
+abbrev pub where_text : Option ℕ → ℕ → Option (List ℕ) → List ℕ
+where_text group line rtype =
+    codes ",\"group\":"
+    ++ option_text group
+    ++ codes ",\"line\":"
+    ++ decimal line
+    ++ codes ",\"record\":"
+    ++ compact_text (type_data rtype)
+
+-- its rule
+abbrev pub rule_text : List ℕ → ℕ → List ℕ
+rule_text letter number = codes ",\"rule\":" ++ string_text (counted letter number)
+
+-- the rule's text, between the sequences of the record and of the transaction, and the closing brace
+abbrev pub tail_text : Option ℕ → List ℕ → Option ℕ → List ℕ
+tail_text detail text transaction =
+    codes ",\"sequence\":"
+    ++ option_text detail
+    ++ codes ",\"text\":"
+    ++ string_text text
+    ++ codes ",\"transaction\":"
+    ++ option_text transaction
+    ++ codes "}"
+
+-- a fault: what begins its object, what was expected, its fields, where it is, and its rule
+abbrev pub fault_text : List ℕ → List ℕ → List ℕ → List ℕ → List ℕ → List ℕ → List ℕ
+fault_text begin expected fields place rule tail = begin ++ expected ++ codes ",\"fields\":" ++ fields ++ place ++ rule ++ tail
+
+-- of a fault of a transaction, in this line
+abbrev pub told_text : List ℕ → Finding → List ℕ
+told_text line f =
+    fault_text
+    (codes "{\"byte\":null,\"expected\":")
+    (string_text (wanted_text f.fault.number f.expected))
+    (compact_text (fields_data line f.fields))
+    (where_text (Some f.group) f.line (Some f.fault.rtype))
+    (rule_text (codes "J") f.fault.number)
+    (tail_text (Some f.fault.sequence) (message_of f.fault.number) (Some f.transaction))
+
+-- of the fault of a file, in this line and in a record that stands there
+abbrev pub file_told_text : List ℕ → FileFinding → Place → List ℕ
+file_told_text line f place =
+    fault_text
+    (codes "{\"byte\":" ++ byte_text f.byte ++ codes ",\"expected\":")
+    (string_text (file_wanted_text f.expected))
+    (compact_text (fields_data line f.fields))
+    (where_text place.group f.line place.rtype)
+    (rule_text (codes "F") f.number)
+    (tail_text place.detail (file_rule_text f.number) place.transaction)
+
+-- a member whose value is this text
+abbrev pub member_text : Bool → List ℕ → List ℕ → List ℕ
+member_text later name text = comma_if later ++ (quoted name ++ 58 ∷ text)
+
+-- members with this text at a name, and the closing brace
+abbrev pub with_text : Bool → List ℕ → List ℕ → Members → List ℕ
+with_text later name text no_members = member_text later name text ++ 125 ∷ []
+with_text later name text (member l e ms) =
+    match_ordering (slice_cmp nat_cmp name l)
+    (member_text later name text ++ members_text true (member l e ms))
+    (member_text later l text ++ members_text true ms)
+    (member_text later l (compact_text e) ++ with_text true name text ms)
+
+-- members, with one more where there is one
+abbrev pub left_text : Bool → Option Member → Members → List ℕ
+left_text later None ms = members_text later ms
+left_text later (Some more) ms = with_text later more.name.now more.text.now ms
+
+-- the members of a report
+abbrev pub own_name : ReportMember → List ℕ
+own_name own.Faults = codes "faults"
+own_name own.Faulty = codes "faulty"
+own_name own.Refused = codes "refused"
+own_name own.Transactions = codes "transactions"
+
+abbrev pub own_data : List (List ℕ) → List Finding → ℕ → ℕ → Option FileFinding → ReportMember → Data
+own_data lines findings all faulty refused own.Faults = array (items_of (faults_data lines findings refused))
+own_data lines findings all faulty refused own.Faulty = count_data faulty
+own_data lines findings all faulty refused own.Refused = refused_data refused
+own_data lines findings all faulty refused own.Transactions = count_data all

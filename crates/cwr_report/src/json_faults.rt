@@ -1,0 +1,252 @@
+ghost use Rattle.std.specs.Prelude.{◌≡◌, ◌-◌, ◌++◌, ℕ, OnOk};
+ghost use Rattle.std.specs.Str.Lines.{lines};
+ghost use Rattle.serde_json.specs.Written.{compact_text};
+ghost use Rattle.cwr_report.specs.FileText.{file_wanted_text};
+ghost use Rattle.cwr_report.specs.LongText.{wanted_text};
+ghost use Rattle.cwr_report.specs.Json.{place_members, finding_data, file_place, file_data};
+ghost use Rattle.cwr_report.specs.JsonText.{string_text, type_data, wrong_text, byte_text, where_text, rule_text, tail_text, told_text, file_told_text};
+ghost use Rattle.cwr_report.specs.Walks.{IsWalk};
+
+use crate::file_finding::{FileExpected, FileFinding, RecordPlace, WrongByte};
+use crate::file_lines::put_file_wanted;
+use crate::file_words::file_rule_text;
+use crate::finding::{Expected, Finding};
+use crate::json_strings::put_json_text;
+use crate::json_values::{put_fields, put_option, put_rule_name, put_type};
+use crate::long_lines::{message_of, put_text, put_wanted};
+use crate::walk::Walk;
+use cwr_field::{Memory, put_decimal};
+
+/// Appends a fault of a transaction, where the walk has gone to its line. Texts are put together in a room for them.
+pub(crate) fn put_finding_at(
+    out: &mut Vec<u8>,
+    room: &mut Vec<u8>,
+    bytes: &[u8],
+    walk: &Walk,
+    finding: &Finding,
+) -> Result<(), Memory>
+    requires { IsWalk walk.now (lines bytes.now) (finding.now.line - 1) }
+    ensures { OnOk result (out.new.items ≡ out.old.items ++ compact_text (finding_data (lines bytes.now) finding.now)) }
+{
+    put_told(out, room, walk.line(), finding)?;
+    Ok(())
+}
+
+/// Appends a fault of a transaction, in this line.
+fn put_told(
+    out: &mut Vec<u8>,
+    room: &mut Vec<u8>,
+    line: &[u8],
+    finding: &Finding,
+) -> Result<(), Memory>
+    ensures { OnOk result (out.new.items ≡ out.old.items ++ told_text line.now finding.now) }
+{
+    out.extend_from_slice(b"{\"byte\":null,\"expected\":")?;
+    put_finding_wanted(out, room, finding.fault.number, &finding.expected)?;
+    out.extend_from_slice(b",\"fields\":")?;
+    put_fields(out, line, &finding.fields)?;
+    put_where(
+        out,
+        Some(finding.group as u64),
+        finding.line,
+        Some(finding.fault.rtype),
+    )?;
+    put_rule(out, room, b"J", finding.fault.number)?;
+    put_tail(
+        out,
+        Some(finding.fault.sequence as u64),
+        message_of(finding.fault.number),
+        Some(finding.transaction as u64),
+    )?;
+    Ok(())
+}
+
+/// Appends what the rule with this number asked for.
+fn put_finding_wanted(
+    out: &mut Vec<u8>,
+    room: &mut Vec<u8>,
+    number: u8,
+    expected: &Expected,
+) -> Result<(), Memory>
+    ensures { OnOk result (out.new.items ≡ out.old.items ++ string_text (wanted_text number expected.now)) }
+{
+    room.clear();
+    put_wanted(room, number, expected)?;
+    put_json_text(out, room)?;
+    Ok(())
+}
+
+/// Appends the group, the line and the record type of a fault.
+fn put_where(
+    out: &mut Vec<u8>,
+    group: Option<u64>,
+    line: u64,
+    rtype: Option<[u8; 3]>,
+) -> Result<(), Memory>
+    ensures { OnOk result (out.new.items ≡ out.old.items ++ where_text group line rtype) }
+{
+    out.extend_from_slice(b",\"group\":")?;
+    put_option(out, group)?;
+    out.extend_from_slice(b",\"line\":")?;
+    put_decimal(out, line)?;
+    out.extend_from_slice(b",\"record\":")?;
+    put_type(out, rtype)?;
+    Ok(())
+}
+
+/// Appends the rule of a fault, by its letter and its number.
+fn put_rule(out: &mut Vec<u8>, room: &mut Vec<u8>, letter: &[u8], number: u8) -> Result<(), Memory>
+    ensures { OnOk result (out.new.items ≡ out.old.items ++ rule_text letter.now number) }
+{
+    out.extend_from_slice(b",\"rule\":")?;
+    put_rule_name(out, room, letter, number)?;
+    Ok(())
+}
+
+/// Appends the rule's text, between the sequences of the record and of the transaction, and ends the object.
+fn put_tail(
+    out: &mut Vec<u8>,
+    detail: Option<u64>,
+    text: &[u8],
+    transaction: Option<u64>,
+) -> Result<(), Memory>
+    ensures { OnOk result (out.new.items ≡ out.old.items ++ tail_text detail text.now transaction) }
+{
+    out.extend_from_slice(b",\"sequence\":")?;
+    put_option(out, detail)?;
+    out.extend_from_slice(b",\"text\":")?;
+    put_json_text(out, text)?;
+    out.extend_from_slice(b",\"transaction\":")?;
+    put_option(out, transaction)?;
+    out.extend_from_slice(b"}")?;
+    Ok(())
+}
+
+/// Appends the fault of a file, where the walk has gone to its line. Texts are put together in a room for them.
+pub(crate) fn put_file_at(
+    out: &mut Vec<u8>,
+    room: &mut Vec<u8>,
+    bytes: &[u8],
+    walk: &Walk,
+    refused: &FileFinding,
+) -> Result<(), Memory>
+    requires { IsWalk walk.now (lines bytes.now) (refused.now.line - 1) }
+    ensures { OnOk result (out.new.items ≡ out.old.items ++ compact_text (file_data (lines bytes.now) refused.now)) }
+{
+    let place = Place::of(refused.rtype, &refused.place);
+    put_file_told(out, room, walk.line(), refused, place)?;
+    Ok(())
+}
+
+/// Appends the fault of a file, in this line and in a record that stands there.
+fn put_file_told(
+    out: &mut Vec<u8>,
+    room: &mut Vec<u8>,
+    line: &[u8],
+    refused: &FileFinding,
+    place: Place,
+) -> Result<(), Memory>
+    ensures { OnOk result (out.new.items ≡ out.old.items ++ file_told_text line.now refused.now place) }
+{
+    out.extend_from_slice(b"{\"byte\":")?;
+    put_byte(out, &refused.byte)?;
+    out.extend_from_slice(b",\"expected\":")?;
+    put_file_expected(out, room, &refused.expected)?;
+    out.extend_from_slice(b",\"fields\":")?;
+    put_fields(out, line, &refused.fields)?;
+    put_where(out, place.group, refused.line, place.rtype)?;
+    put_rule(out, room, b"F", refused.number)?;
+    put_tail(
+        out,
+        place.detail,
+        file_rule_text(refused.number),
+        place.transaction,
+    )?;
+    Ok(())
+}
+
+/// Appends what was expected in a file.
+fn put_file_expected(
+    out: &mut Vec<u8>,
+    room: &mut Vec<u8>,
+    expected: &FileExpected,
+) -> Result<(), Memory>
+    ensures { OnOk result (out.new.items ≡ out.old.items ++ string_text (file_wanted_text expected.now)) }
+{
+    room.clear();
+    put_file_wanted(room, expected)?;
+    put_json_text(out, room)?;
+    Ok(())
+}
+
+/// Appends the byte that is wrong, or null.
+fn put_byte(out: &mut Vec<u8>, wrong: &Option<WrongByte>) -> Result<(), Memory>
+    ensures { OnOk result (out.new.items ≡ out.old.items ++ byte_text wrong.now) }
+{
+    match wrong {
+        None => put_text(out, b"null"),
+        Some(wrong) => put_wrong(out, wrong),
+    }
+}
+
+fn put_wrong(out: &mut Vec<u8>, wrong: &WrongByte) -> Result<(), Memory>
+    ensures { OnOk result (out.new.items ≡ out.old.items ++ wrong_text wrong.now) }
+{
+    out.extend_from_slice(b"{\"byte\":")?;
+    put_decimal(out, wrong.byte as u64)?;
+    out.extend_from_slice(b",\"in_file\":")?;
+    put_decimal(out, wrong.in_file as u64)?;
+    out.extend_from_slice(b",\"in_line\":")?;
+    put_decimal(out, wrong.in_line as u64)?;
+    out.extend_from_slice(b"}")?;
+    Ok(())
+}
+
+/// The record in which the fault of a file is, as far as there is one.
+#[derive(Clone, Copy)]
+struct Place {
+    rtype: Option<[u8; 3]>,
+    group: Option<u64>,
+    transaction: Option<u64>,
+    detail: Option<u64>,
+}
+
+impl Place {
+    /// Of a record of this type.
+    fn of(rtype: [u8; 3], place: &RecordPlace) -> Place
+        ensures { (line : ℕ) → file_place line rtype place.now ≡ place_members line (type_data result.rtype) result.group result.transaction result.detail }
+    {
+        match *place {
+            RecordPlace::End | RecordPlace::AfterTrailer | RecordPlace::Nameless => {
+                Place {
+                    rtype: None,
+                    group: None,
+                    transaction: None,
+                    detail: None,
+                }
+            }
+            RecordPlace::File => Place {
+                rtype: Some(rtype),
+                group: None,
+                transaction: None,
+                detail: None,
+            },
+            RecordPlace::Group(group) => Place {
+                rtype: Some(rtype),
+                group: Some(group),
+                transaction: None,
+                detail: None,
+            },
+            RecordPlace::Transaction {
+                group,
+                transaction,
+                detail,
+            } => Place {
+                rtype: Some(rtype),
+                group: Some(group),
+                transaction: Some(transaction),
+                detail: Some(detail),
+            },
+        }
+    }
+}

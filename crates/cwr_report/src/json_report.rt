@@ -1,0 +1,296 @@
+ghost use Rattle.std.specs.Prelude.{◌≡◌, ◌-◌, ◌∷◌, ◌++◌, [], map, true, false, IfOk, OnOk};
+ghost use Rattle.std.specs.Str.Lines.{lines};
+ghost use Rattle.serde_json.specs.Data.{Data, Members, member, array, object, put as with_member};
+ghost use Rattle.serde_json.specs.View.{view, items_of};
+ghost use Rattle.serde_json.specs.Written.{compact_text, comma_if, items_text, has_float};
+ghost use Rattle.cwr_report.specs.Json.{json_line, finding_data, file_data, faults_data, report_members, report_json};
+ghost use Rattle.cwr_report.specs.JsonText.{member_text, left_text, own_name, own_data};
+ghost use Rattle.cwr_report.specs.Report.{IsJsonCheck};
+ghost use Rattle.cwr_report.specs.Walks.{IsWalk};
+
+use crate::file_finding::FileFinding;
+use crate::finding::Finding;
+use crate::json_faults::{put_file_at, put_finding_at};
+use crate::json_members::{Member, ReportMember, put_last, put_member, put_member_name};
+use crate::json_values::{put_bool, put_comma};
+use crate::reporting::{Report, report_on};
+use crate::walk::Walk;
+use cwr_check::Checked;
+use cwr_field::{Memory, put_decimal};
+use cwr_grammar::Lines;
+use serde_json::Value;
+use std::alloc::Global;
+use std::cmp::Ordering;
+
+/// Checks a file as `cwr_check::check_text` does, and tells what is wrong as one JSON object, on one line.
+///
+/// Each byte of the file that is told is the character with its number, so that a text has all of them whatever they
+/// are. The file is clean where `check_text` finds it so. Where memory is refused nothing is told.
+pub fn check_json(alloc: Global, bytes: &[u8]) -> Result<Checked<Global>, Memory>
+    ensures { IfOk result (λ checked. IsJsonCheck bytes.now checked.text.items checked.clean) }
+{
+    let report = report_on(alloc, bytes)?;
+    let text = json_text(alloc, bytes, &report)?;
+    Ok(Checked {
+        text,
+        clean: report.refused.is_none() && report.faulty == 0,
+    })
+}
+
+/// What is told of a report as JSON, with what stands in the file that it is a report on: one object, and LF.
+pub fn json_text(alloc: Global, bytes: &[u8], report: &Report) -> Result<Vec<u8>, Memory>
+    ensures { IfOk result (λ text. text.items ≡ report_json (lines bytes.now) report.now.findings.items report.now.transactions report.now.faulty report.now.refused) }
+{
+    let mut text = Vec::new(alloc);
+    put_line(alloc, &mut text, bytes, report, None)?;
+    Ok(text)
+}
+
+/// What is told of a report as JSON, with one member more: one object, and LF.
+///
+/// The member has this name, and a value without fractions; one of this name that a report has is replaced. The members
+/// stand in the order of their names.
+pub fn json_text_with(
+    alloc: Global,
+    bytes: &[u8],
+    report: &Report,
+    name: &str,
+    more: Value,
+) -> Result<Vec<u8>, Memory>
+    requires { has_float (view more) ≡ false }
+    ensures { IfOk result (λ text. text.items ≡ json_line (object (with_member name.now (view more) (report_members (lines bytes.now) report.now.findings.items report.now.transactions report.now.faulty report.now.refused)))) }
+{
+    let value = more.to_string(alloc)?;
+    json_text_with_text(alloc, bytes, report, name, value.as_bytes())
+}
+
+/// What is told of a report as JSON, with one member more, whose value is there as a text: one object, and LF.
+///
+/// Where the text is that of a value, as `to_string` gives it, this is what [`json_text_with`] tells with the value.
+pub fn json_text_with_text(
+    alloc: Global,
+    bytes: &[u8],
+    report: &Report,
+    name: &str,
+    more: &[u8],
+) -> Result<Vec<u8>, Memory>
+    ensures { (value : Data) → more.now ≡ compact_text value → IfOk result (λ text. text.items ≡ json_line (object (with_member name.now value (report_members (lines bytes.now) report.now.findings.items report.now.transactions report.now.faulty report.now.refused)))) }
+{
+    let mut text = Vec::new(alloc);
+    put_line(
+        alloc,
+        &mut text,
+        bytes,
+        report,
+        Some(Member { name, text: more }),
+    )?;
+    Ok(text)
+}
+
+/// Appends what is told of a report, with one member more where there is one: an object, and LF.
+fn put_line(
+    alloc: Global,
+    out: &mut Vec<u8>,
+    bytes: &[u8],
+    report: &Report,
+    more: Option<Member>,
+) -> Result<(), Memory>
+    ensures { OnOk result (out.new.items ≡ out.old.items ++ 123 ∷ (left_text false more.entry (report_members (lines bytes.now) report.now.findings.items report.now.transactions report.now.faulty report.now.refused) ++ 10 ∷ [])) }
+{
+    out.push(b'{')?;
+    put_members(alloc, out, bytes, report, more)?;
+    out.push(b'\n')?;
+    Ok(())
+}
+
+/// Appends the members, and ends the object.
+fn put_members(
+    alloc: Global,
+    out: &mut Vec<u8>,
+    bytes: &[u8],
+    report: &Report,
+    more: Option<Member>,
+) -> Result<(), Memory>
+    ensures { OnOk result (out.new.items ≡ out.old.items ++ left_text false more.entry (report_members (lines bytes.now) report.now.findings.items report.now.transactions report.now.faulty report.now.refused)) }
+{
+    let mut room = Vec::new(alloc);
+    let more = put_next(
+        out,
+        &mut room,
+        bytes,
+        report,
+        false,
+        more,
+        ReportMember::Faults,
+    )?;
+    let more = put_next(
+        out,
+        &mut room,
+        bytes,
+        report,
+        true,
+        more,
+        ReportMember::Faulty,
+    )?;
+    let more = put_next(
+        out,
+        &mut room,
+        bytes,
+        report,
+        true,
+        more,
+        ReportMember::Refused,
+    )?;
+    let more = put_next(
+        out,
+        &mut room,
+        bytes,
+        report,
+        true,
+        more,
+        ReportMember::Transactions,
+    )?;
+    put_last(out, more)
+}
+
+/// Appends a member of a report, and the one more where its place is before that, or in its stead. Gives what is left of
+/// the one more.
+fn put_next<'a>(
+    out: &mut Vec<u8>,
+    room: &mut Vec<u8>,
+    bytes: &[u8],
+    report: &Report,
+    later: bool,
+    more: Option<Member<'a>>,
+    own: ReportMember,
+) -> Result<Option<Member<'a>>, Memory>
+    ensures { (ms : Members) → IfOk result (λ left. out.new.items ++ left_text true left ms ≡ out.old.items ++ left_text later more.entry
+        (member (own_name own) (own_data (lines bytes.now) report.now.findings.items report.now.transactions report.now.faulty report.now.refused own) ms)) }
+{
+    let Some(member) = more else {
+        put_own(out, room, bytes, report, later, own)?;
+        return Ok(None);
+    };
+    match member.name.cmp(own.name()) {
+        Ordering::Less => {
+            put_member(out, later, member.name, member.text)?;
+            put_own(out, room, bytes, report, true, own)?;
+            Ok(None)
+        }
+        Ordering::Equal => {
+            put_member(out, later, own.name(), member.text)?;
+            Ok(None)
+        }
+        Ordering::Greater => {
+            put_own(out, room, bytes, report, later, own)?;
+            Ok(Some(member))
+        }
+    }
+}
+
+/// Appends a member of a report, with a comma where one stands before.
+fn put_own(
+    out: &mut Vec<u8>,
+    room: &mut Vec<u8>,
+    bytes: &[u8],
+    report: &Report,
+    later: bool,
+    own: ReportMember,
+) -> Result<(), Memory>
+    ensures { OnOk result (out.new.items ≡ out.old.items ++ member_text later (own_name own)
+        (compact_text (own_data (lines bytes.now) report.now.findings.items report.now.transactions report.now.faulty report.now.refused own))) }
+{
+    put_member_name(out, later, own.name())?;
+    put_value(out, room, bytes, report, own)?;
+    Ok(())
+}
+
+/// Appends the value of a member of a report.
+fn put_value(
+    out: &mut Vec<u8>,
+    room: &mut Vec<u8>,
+    bytes: &[u8],
+    report: &Report,
+    own: ReportMember,
+) -> Result<(), Memory>
+    ensures { OnOk result (out.new.items ≡ out.old.items
+        ++ compact_text (own_data (lines bytes.now) report.now.findings.items report.now.transactions report.now.faulty report.now.refused own)) }
+{
+    match own {
+        ReportMember::Faults => put_faults(out, room, bytes, &report.findings, &report.refused),
+        ReportMember::Faulty => put_decimal(out, report.faulty),
+        ReportMember::Refused => put_bool(out, report.refused.is_some()),
+        ReportMember::Transactions => put_decimal(out, report.transactions),
+    }
+}
+
+/// Appends the faults of the transactions, or the one of the file.
+fn put_faults(
+    out: &mut Vec<u8>,
+    room: &mut Vec<u8>,
+    bytes: &[u8],
+    findings: &[Finding],
+    refused: &Option<FileFinding>,
+) -> Result<(), Memory>
+    ensures { OnOk result (out.new.items ≡ out.old.items ++ compact_text (array (items_of (faults_data (lines bytes.now) findings.now refused.now)))) }
+{
+    match refused {
+        None => put_findings(out, room, bytes, findings),
+        Some(refused) => put_refused(out, room, bytes, refused),
+    }
+}
+
+/// Appends the faults of transactions. The lines of the file are gone over once where the faults are in their order.
+fn put_findings(
+    out: &mut Vec<u8>,
+    room: &mut Vec<u8>,
+    bytes: &[u8],
+    findings: &[Finding],
+) -> Result<(), Memory>
+    ensures { OnOk result (out.new.items ≡ out.old.items ++ 91 ∷ items_text false (items_of (map (finding_data (lines bytes.now)) findings.now))) }
+{
+    out.push(b'[')?;
+    let mut walk = Walk::new(Lines::of(bytes));
+    let mut later = false;
+    for finding in findings {
+        walk.go_to(Lines::of(bytes), finding.line.saturating_sub(1));
+        put_item(out, room, bytes, &walk, later, finding)?;
+        later = true;
+    }
+    out.push(b']')?;
+    Ok(())
+}
+
+/// Appends the next fault of a transaction, where the walk has gone to its line.
+fn put_item(
+    out: &mut Vec<u8>,
+    room: &mut Vec<u8>,
+    bytes: &[u8],
+    walk: &Walk,
+    later: bool,
+    finding: &Finding,
+) -> Result<(), Memory>
+    requires { IsWalk walk.now (lines bytes.now) (finding.now.line - 1) }
+    ensures { OnOk result (out.new.items ≡ out.old.items ++ (comma_if later ++ compact_text (finding_data (lines bytes.now) finding.now))) }
+{
+    put_comma(out, later)?;
+    put_finding_at(out, room, bytes, walk, finding)?;
+    Ok(())
+}
+
+/// Appends the fault of a file, alone.
+fn put_refused(
+    out: &mut Vec<u8>,
+    room: &mut Vec<u8>,
+    bytes: &[u8],
+    refused: &FileFinding,
+) -> Result<(), Memory>
+    ensures { OnOk result (out.new.items ≡ out.old.items ++ 91 ∷ (compact_text (file_data (lines bytes.now) refused.now) ++ 93 ∷ [])) }
+{
+    let mut walk = Walk::new(Lines::of(bytes));
+    walk.go_to(Lines::of(bytes), refused.line.saturating_sub(1));
+    out.push(b'[')?;
+    put_file_at(out, room, bytes, &walk, refused)?;
+    out.push(b']')?;
+    Ok(())
+}
