@@ -1,3 +1,3 @@
 pub mod Written
 pub mod Ended
-pub mod NoFloats
+pub mod JsonText

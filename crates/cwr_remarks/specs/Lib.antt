@@ -5,4 +5,5 @@ pub mod Territories
 pub mod Remarks
 pub mod Texts
 pub mod Json
+pub mod JsonText
 pub mod Checks

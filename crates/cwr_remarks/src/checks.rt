@@ -1,13 +1,16 @@
-ghost use Rattle.std.specs.Prelude.{◌≡◌, IfOk};
+ghost use Rattle.std.specs.Prelude.{◌≡◌, codes, IfOk};
 ghost use Rattle.std.specs.Str.Lines.{lines};
+ghost use Rattle.serde_json.specs.Data.{object, put as with_member};
+ghost use Rattle.cwr_report.specs.Json.{json_line, report_members};
+ghost use Rattle.cwr_remarks.specs.Json.{remarks_data};
 ghost use Rattle.cwr_remarks.specs.Checks.{told_remarks, IsRemarkedLong, IsRemarkedJson};
 
-use crate::json::remarks_value;
+use crate::json_list::put_list;
 use crate::remark::Remark;
 use crate::remarking::{remarks, remarks_before};
 use crate::texts::put_remarks;
 use cwr_field::Memory;
-use cwr_report::{Checked, FileFinding, json_text_with, long_text, report_on};
+use cwr_report::{Checked, FileFinding, Report, json_text_with_text, long_text, report_on};
 use std::alloc::{Allocator, Global};
 
 /// Checks a file as `cwr_report::check_long` does, and tells its remarks behind what that tells.
@@ -36,12 +39,26 @@ pub fn remarked_json(alloc: Global, bytes: &[u8]) -> Result<Checked<Global>, Mem
 {
     let report = report_on(alloc, bytes)?;
     let found = told_remarks(alloc, bytes, &report.refused)?;
-    let told = remarks_value(alloc, &found)?;
-    let text = json_text_with(alloc, bytes, &report, "remarks", told)?;
+    let text = told_json(alloc, bytes, &report, &found)?;
     Ok(Checked {
         text,
         clean: report.refused.is_none() && report.faulty == 0,
     })
+}
+
+/// What is told of a report as JSON, with these remarks.
+fn told_json(
+    alloc: Global,
+    bytes: &[u8],
+    report: &Report,
+    found: &[Remark],
+) -> Result<Vec<u8>, Memory>
+    ensures { IfOk result (λ text. text.items ≡ json_line (object (with_member (codes "remarks") (remarks_data found.now)
+        (report_members (lines bytes.now) report.now.findings.items report.now.transactions report.now.faulty report.now.refused)))) }
+{
+    let mut told = Vec::new(alloc);
+    put_list(alloc, &mut told, found)?;
+    json_text_with_text(alloc, bytes, report, "remarks", &told)
 }
 
 /// The remarks that are told of a file which is refused so, or is not.

@@ -7,7 +7,7 @@
 
 mod checks;
 mod high_bytes;
-mod json;
+mod json_list;
 mod layouts;
 mod remark;
 mod remarking;

@@ -76,7 +76,7 @@ pub(crate) fn put_what<A: Allocator>(out: &mut Vec<u8, A>, what: Remarked) -> Re
     }
 }
 
-fn put_words<A: Allocator>(out: &mut Vec<u8, A>, words: &[u8]) -> Result<(), Memory>
+pub(crate) fn put_words<A: Allocator>(out: &mut Vec<u8, A>, words: &[u8]) -> Result<(), Memory>
     ensures { OnOk result (out.new.items ≡ out.old.items ++ words.now) }
 {
     out.extend_from_slice(words)?;

@@ -1,0 +1,149 @@
+ghost use Rattle.std.specs.Prelude.{◌≡◌, ◌++◌, OnOk};
+ghost use Rattle.serde_json.specs.Written.{comma_if, compact_text};
+ghost use Rattle.cwr_remarks.specs.Json.{kind_text, first_in, count_in, length_in, layout_in, remark_data, remarks_data};
+ghost use Rattle.cwr_remarks.specs.JsonText.{number_text, string_text, amounts_text, remark_text};
+ghost use Rattle.cwr_remarks.specs.Texts.{what_text};
+
+use crate::remark::{Remark, Remarked};
+use crate::texts::{put_what, put_words};
+use cwr_field::{Memory, put_decimal};
+use cwr_report::put_json_text;
+use std::alloc::Global;
+
+/// Appends remarks as a list of objects of JSON.
+pub(crate) fn put_list(alloc: Global, out: &mut Vec<u8>, remarks: &[Remark]) -> Result<(), Memory>
+    ensures { OnOk result (out.new.items ≡ out.old.items ++ compact_text (remarks_data remarks.now)) }
+{
+    let mut room = Vec::new(alloc);
+    out.push(b'[')?;
+    let mut later = false;
+    for remark in remarks {
+        put_item(out, &mut room, later, remark)?;
+        later = true;
+    }
+    out.push(b']')?;
+    Ok(())
+}
+
+/// Appends the next remark, with a comma where one stands before.
+fn put_item(
+    out: &mut Vec<u8>,
+    room: &mut Vec<u8>,
+    later: bool,
+    remark: &Remark,
+) -> Result<(), Memory>
+    ensures { OnOk result (out.new.items ≡ out.old.items ++ (comma_if later ++ compact_text (remark_data remark.now))) }
+{
+    put_comma(out, later)?;
+    put_remark(out, room, remark)?;
+    Ok(())
+}
+
+fn put_comma(out: &mut Vec<u8>, later: bool) -> Result<(), Memory>
+    ensures { OnOk result (out.new.items ≡ out.old.items ++ comma_if later) }
+{
+    if later {
+        out.push(b',')?;
+    }
+    Ok(())
+}
+
+/// Appends a remark: its numbers, what it is, and where.
+fn put_remark(out: &mut Vec<u8>, room: &mut Vec<u8>, remark: &Remark) -> Result<(), Memory>
+    ensures { OnOk result (out.new.items ≡ out.old.items ++ remark_text remark.now) }
+{
+    put_amounts(out, remark.what)?;
+    out.extend_from_slice(b",\"line\":")?;
+    put_decimal(out, remark.line)?;
+    out.extend_from_slice(b",\"record\":")?;
+    put_json_text(out, &remark.rtype)?;
+    out.extend_from_slice(b",\"text\":")?;
+    put_told(out, room, remark.what)?;
+    out.extend_from_slice(b"}")?;
+    Ok(())
+}
+
+/// Appends the numbers of a remark, with null for each that it does not have, and between them what it is, in two words.
+fn put_amounts(out: &mut Vec<u8>, what: Remarked) -> Result<(), Memory>
+    ensures { OnOk result (out.new.items ≡ out.old.items ++ amounts_text what) }
+{
+    out.extend_from_slice(b"{\"count\":")?;
+    put_number(out, count_in(what))?;
+    out.extend_from_slice(b",\"first\":")?;
+    put_number(out, first_in(what))?;
+    out.extend_from_slice(b",\"kind\":")?;
+    put_json_text(out, kind_text(what))?;
+    out.extend_from_slice(b",\"layout\":")?;
+    put_number(out, layout_in(what))?;
+    out.extend_from_slice(b",\"length\":")?;
+    put_number(out, length_in(what))?;
+    Ok(())
+}
+
+/// Appends what is remarked, in words, which are put together in a room for texts.
+fn put_told(out: &mut Vec<u8>, room: &mut Vec<u8>, what: Remarked) -> Result<(), Memory>
+    ensures { OnOk result (out.new.items ≡ out.old.items ++ string_text (what_text what)) }
+{
+    room.clear();
+    put_what(room, what)?;
+    put_json_text(out, room)?;
+    Ok(())
+}
+
+/// Appends a number, or null.
+fn put_number(out: &mut Vec<u8>, number: Option<u64>) -> Result<(), Memory>
+    ensures { OnOk result (out.new.items ≡ out.old.items ++ number_text number) }
+{
+    match number {
+        None => put_words(out, b"null"),
+        Some(number) => put_decimal(out, number),
+    }
+}
+
+/// What is remarked, in two words.
+fn kind_text(what: Remarked) -> &'static [u8]
+    ensures { result.now ≡ kind_text what }
+{
+    match what {
+        Remarked::HighBytes { .. } => b"high bytes",
+        Remarked::PastLayout { .. } => b"past layout",
+        Remarked::UnknownType => b"unknown type",
+        Remarked::OnlyExcluded => b"only exclusions",
+    }
+}
+
+fn first_in(what: Remarked) -> Option<u64>
+    ensures { result ≡ first_in what }
+{
+    match what {
+        Remarked::HighBytes { first, .. } => Some(first),
+        _ => None,
+    }
+}
+
+fn count_in(what: Remarked) -> Option<u64>
+    ensures { result ≡ count_in what }
+{
+    match what {
+        Remarked::HighBytes { count, .. } => Some(count),
+        _ => None,
+    }
+}
+
+fn length_in(what: Remarked) -> Option<u64>
+    ensures { result ≡ length_in what }
+{
+    match what {
+        Remarked::PastLayout { length, .. } => Some(length),
+        _ => None,
+    }
+}
+
+fn layout_in(what: Remarked) -> Option<u64>
+    ensures { result ≡ layout_in what }
+{
+    match what {
+        Remarked::PastLayout { layout, .. } => Some(layout),
+        _ => None,
+    }
+}
