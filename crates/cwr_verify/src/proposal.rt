@@ -1,15 +1,14 @@
 //! Which file each entry answers, as the acknowledgements let one think. Nothing rests on it: it is checked.
-ghost use Rattle.std.specs.Prelude.{◌≡◌, length, IfOk, IsTrue};
-ghost use Rattle.cwr_call.specs.Lawful.{is_clean};
+ghost use Rattle.std.specs.Prelude.{◌≡◌, length, map, IfOk};
 ghost use Rattle.cwr_verify.specs.Wanting.{AreWaiting};
 
 use crate::sent::SentFile;
 use crate::told::told_in;
 use crate::waiting::Waiting;
 use crate::wanted::{Wanted, owner_of, waiting_of};
+use cwr_engine::{Judged, judge_file};
 use cwr_field::Memory;
-use cwr_grammar::{FileRefusal, Submission, parse_file};
-use cwr_rules::judge;
+use cwr_grammar::FileRefusal;
 use std::alloc::Allocator;
 use work_registry::{Call, Entry};
 
@@ -59,19 +58,23 @@ fn wanted_of<A: Allocator + Copy>(
 
 /// The calls of a file; none of one that is not well-formed.
 fn calls_in<A: Allocator + Copy>(alloc: A, text: &[u8]) -> Result<Vec<Call<A>, A>, Memory> {
-    match parse_file(alloc, text) {
-        Ok(file) => judged(alloc, &file),
+    match judge_file(alloc, text) {
+        Ok(file) => calls_of(alloc, file.transactions),
         Err(FileRefusal::Memory) => Err(Memory),
         Err(FileRefusal::Fault { number: _, line: _ }) => Ok(Vec::new(alloc)),
     }
 }
 
-fn judged<A: Allocator + Copy>(alloc: A, file: &Submission<A>) -> Result<Vec<Call<A>, A>, Memory>
-    requires { IsTrue (is_clean file.now.header.sender) }
+/// The calls of transactions.
+fn calls_of<A: Allocator + Copy>(
+    alloc: A,
+    transactions: Vec<Judged<A>, A>,
+) -> Result<Vec<Call<A>, A>, Memory>
+    ensures { IfOk result (λ calls. calls.items ≡ map (λ j. j.call) transactions.items) }
 {
-    let mut calls = Vec::with_capacity(alloc, file.transactions.len())?;
-    for transaction in &file.transactions {
-        calls.push(judge(alloc, &transaction, file.header.sender)?)?;
+    let mut calls = Vec::with_capacity(alloc, transactions.len())?;
+    for transaction in transactions {
+        calls.push(transaction.call)?;
     }
     Ok(calls)
 }
