@@ -69,10 +69,11 @@ fn hand_in_all<H: Window<Call<A>>, G: Gate, A: Allocator + Copy + Drop>(
     (window, Ok(()))
 }
 
-/// Hands the transactions of a well-formed file in at the window, and writes their acknowledgement.
+/// Hands the transactions of a well-formed file in at the window, and writes their acknowledgement, as [`work_file`] does
+/// once it has judged the file.
 ///
 /// A transaction that gets no reply ends the job. The list of replies is reserved before the first one is handed in.
-fn work_judged<H: Window<Call<A>>, G: Gate, W: Sink, A: Allocator + Copy + Drop>(
+pub fn work_judged<H: Window<Call<A>>, G: Gate, W: Sink, A: Allocator + Copy + Drop>(
     alloc: A,
     window: H,
     gate: &G,

@@ -2,8 +2,9 @@
 //!
 //! [`judge_source`] reads a file through a window of bytes and judges it on the way, [`judge_file`] one in memory. A
 //! [`Job`] is a reader and a writer; each ends in a [`FileOutcome`]. Calls are handed in at a [`Window`]: a book of one's
-//! own, or a place at one that others use too. [`work_file`] works one file at a window, [`acknowledge`] one into an empty
-//! book, [`work_alone`] one at a book of one's own, [`serve_in_turn`] many at one book, one after the other.
+//! own, or a place at one that others use too. [`work_file`] works one file at a window, [`work_judged`] one that was
+//! judged before, [`acknowledge`] one into an empty book, [`work_alone`] one at a book of one's own, [`serve_in_turn`]
+//! many at one book, one after the other.
 #![tactic(auto)]
 
 mod answered;
@@ -20,7 +21,7 @@ mod one_file;
 mod outcome;
 mod window;
 
-pub use engine::work_file;
+pub use engine::{work_file, work_judged};
 pub use gates::{Gate, OpenGate, Shut};
 pub use in_turn::{serve_in_turn, work_alone};
 pub use jobs::{Job, Run, ServeRefused};
