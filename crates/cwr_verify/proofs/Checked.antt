@@ -7,6 +7,7 @@ use Rattle.cwr_engine.specs.Handing.{Entries, IsWorked}
 use Rattle.cwr_engine.specs.declared.outcome.FileOutcome.{FileOutcome}
 use Rattle.cwr_engine.specs.declared.outcome.FileOutcome.TheVariants.{Acked}
 use Rattle.work_registry.specs.EntryValue.{EntryValue}
+use Rattle.cwr_verify.specs.Sent.{Sent}
 use Rattle.cwr_verify.specs.Verified.{IsAnsweredBy}
 
 -- its acknowledgement is what was written of them
@@ -29,3 +30,12 @@ answered session ends stamp outcome count before after text taken entries worked
           (subst (λ (w : List ℕ). IsAcked stamp text count w made) (sym kept)
           (subst (λ (i : List ℕ). IsAcked stamp i count written made) read acked)));
     }
+
+-- what was written is the acknowledgement that was sent
+pub answered_sent : (text taken written acknowledgement : List ℕ) (sent : Sent) (entries its : List EntryValue)
+    → IsAnsweredBy (record { text = text; acknowledgement = taken }) entries → written ≡ taken → written ≡ acknowledgement
+    → record { text = text; acknowledgement = acknowledgement } ≡ sent → entries ≡ its → IsAnsweredBy sent its
+answered_sent text taken written acknowledgement sent entries its answer all same is mine =
+    subst (λ (s : Sent). IsAnsweredBy s its) is
+    (subst (λ (a : List ℕ). IsAnsweredBy (record { text = text; acknowledgement = a }) its) (sym all ∙ same)
+    (subst (λ (l : List EntryValue). IsAnsweredBy (record { text = text; acknowledgement = taken }) l) mine answer))

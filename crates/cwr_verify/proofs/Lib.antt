@@ -2,5 +2,6 @@ pub mod Owning
 pub mod Chaining
 pub mod Checked
 pub mod Files
+pub mod Judging
 pub mod Telling
 pub mod Turns

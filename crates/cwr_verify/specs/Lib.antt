@@ -1,4 +1,5 @@
 pub mod Sent
+pub mod Reading
 pub mod Owned
 pub mod Chained
 pub mod Wanting

@@ -2,23 +2,25 @@
 ghost use Rattle.std.specs.Prelude.{◌≡◌, ◌<◌, ℕ, [], false, length, take, IfErr, IsTrue, OnOk};
 ghost use Rattle.cwr_verify.specs.Chained.{AreChained};
 ghost use Rattle.cwr_verify.specs.Owned.{owned};
+ghost use Rattle.cwr_verify.specs.Reading.{IsReadingOf};
 ghost use Rattle.cwr_verify.specs.Told.{IsSo, IsToldOf};
 ghost use Rattle.cwr_verify.specs.Verified.{IsAnsweredBy};
 
 use crate::chains::Chains;
 use crate::past::Past;
+use crate::reading::Reading;
 use crate::same_call::are_same_bytes;
 use crate::sent::SentFile;
 use crate::told::stamp_in;
 use crate::unverified::Unverified;
-use byte_streams::{Feed, Room};
-use cwr_engine::{FileOutcome, MOST_BYTES, OpenGate, Why, work_file};
-use cwr_grammar::parse_file;
+use byte_streams::Room;
+use cwr_engine::{FileOutcome, JudgedFile, MOST_BYTES, OpenGate, Why, work_judged};
+use cwr_grammar::{FileRefusal, parse_file};
 use cwr_record::Stamp;
 use std::alloc::Allocator;
 use work_registry::Book;
 
-/// Checks a file against the entries that it owns.
+/// Checks a file, so judged, against the entries that it owns.
 ///
 /// It is worked once more, where each call gets the reply of the next of these entries. What that writes is compared with
 /// the acknowledgement.
@@ -29,7 +31,9 @@ pub(crate) fn check_file<A: Allocator + Copy + Drop>(
     chains: &Chains<A>,
     number: usize,
     file: &SentFile,
+    reading: Reading<A>,
 ) -> Result<(), Unverified>
+    requires judged { IsReadingOf file.now.text reading }
     requires same { length owners.now ≡ length book.now.history }
     requires chained { AreChained owners.now chains.now.firsts.items chains.now.nexts.items }
     requires known { number < length chains.now.firsts.items }
@@ -46,7 +50,7 @@ pub(crate) fn check_file<A: Allocator + Copy + Drop>(
         return Err(Unverified::Memory);
     };
     let past = Past::of(book, owners, chains, number);
-    let (outcome, is_over) = work_again(alloc, past, file.text, &mut writer, &stamp);
+    let (outcome, is_over) = work_again(alloc, past, file.text, reading, &mut writer, &stamp);
     if let FileOutcome::Acked { transactions: _ } = outcome {
         if is_over && are_same_bytes(writer.bytes(), file.acknowledgement) {
             return Ok(());
@@ -80,14 +84,16 @@ fn unanswered<A: Allocator + Copy>(
     }
 }
 
-/// Works a file at the past, and answers how that ended, and whether all the entries of the past are seen.
+/// Works a file, so judged, at the past, and answers how that ended, and whether all the entries of the past are seen.
 fn work_again<A: Allocator + Copy + Drop>(
     alloc: A,
     past: Past<A>,
     text: &[u8],
+    reading: Reading<A>,
     writer: &mut Room<A>,
     stamp: &Stamp,
 ) -> (FileOutcome, bool)
+    requires judged { IsReadingOf text.now reading }
     requires begins { owned past.file (take past.at past.owners.now) (take past.at past.book.now.history) ≡ [] }
     requires empty { writer.old.taken ≡ [] }
     requires works { writer.old.has_failed ≡ false }
@@ -95,9 +101,32 @@ fn work_again<A: Allocator + Copy + Drop>(
     ensures answered { (count : ℕ) → result.0 ≡ FileOutcome.Acked count → IsTrue result.1
         → IsAnsweredBy (record { text = text.now; acknowledgement = writer.new.taken }) (owned past.entry.file past.entry.owners.now past.entry.book.now.history) }
 {
-    let mut reader = Feed::new(text, MOST_BYTES, None);
-    let (past, outcome) = work_file(alloc, past, &OpenGate, 1, &mut reader, writer, stamp);
-    (outcome, past.is_over())
+    if text.len() > MOST_BYTES {
+        return (not_worked(Why::TooLong), false);
+    }
+    let Reading {
+        header,
+        transactions,
+    } = reading;
+    match header {
+        Ok(header) => {
+            let file = JudgedFile {
+                header,
+                transactions,
+            };
+            let (past, outcome) = work_judged(alloc, past, &OpenGate, 1, file, writer, stamp);
+            (outcome, past.is_over())
+        }
+        Err(FileRefusal::Fault { number, line }) => (FileOutcome::Refused { number, line }, false),
+        Err(FileRefusal::Memory) => (not_worked(Why::Memory), false),
+    }
+}
+
+/// How a file's work ends that has not begun.
+fn not_worked(why: Why) -> FileOutcome
+    ensures { result ≡ FileOutcome.Stopped 0 why }
+{
+    FileOutcome::Stopped { handed: 0, why }
 }
 
 /// Why a file is not verified whose work stopped after so many transactions.

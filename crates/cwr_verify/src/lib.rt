@@ -8,6 +8,7 @@ mod chains;
 mod file_check;
 mod past;
 mod proposal;
+mod reading;
 mod same_call;
 mod sent;
 mod told;

@@ -5,9 +5,9 @@ ghost use Rattle.cwr_verify.specs.Verified.{AreAnswered};
 use crate::chains::Chains;
 use crate::file_check::check_file;
 use crate::proposal::proposed;
+use crate::reading::readings_of;
 use crate::sent::SentFile;
 use crate::unverified::Unverified;
-use cwr_field::Memory;
 use std::alloc::Allocator;
 use work_registry::Book;
 
@@ -29,16 +29,18 @@ pub fn verify<A: Allocator + Copy + Drop>(
     ensures answered { IfOk result (λ owners. AreAnswered owners.items book.now.history files.now) }
     ensures told { IfErr result (λ told. IsTold files.now told) }
 {
-    let owners = match proposed(alloc, book.history(), files) {
-        Ok(owners) => owners,
-        Err(Memory) => return Err(Unverified::Memory),
+    let Ok(readings) = readings_of(alloc, files) else {
+        return Err(Unverified::Memory);
+    };
+    let Ok(owners) = proposed(alloc, book.history(), files, &readings) else {
+        return Err(Unverified::Memory);
     };
     let each = owners.as_slice();
     let Ok(chains) = Chains::of(alloc, each, files.len()) else {
         return Err(Unverified::Memory);
     };
-    for (number, file) in files.iter().enumerate() {
-        check_file(alloc, book, each, &chains, number, file)?;
+    for (number, reading) in readings.into_iter().enumerate() {
+        check_file(alloc, book, each, &chains, number, &files[number], reading)?;
     }
     Ok(owners)
 }

@@ -1,40 +1,43 @@
 //! What files want of a history.
 ghost use Rattle.std.specs.Prelude.{◌≡◌, ◌↔◌, ◌<◌, IsTrue, IfOk, OnOk, length, slice_get, MatchOption};
+ghost use Rattle.cwr_verify.specs.Reading.{asked_in};
 ghost use Rattle.cwr_verify.specs.Wanting.{CanHaveMade, IsFirst, HasMovedOn, AreWaiting, found_next, key_of};
 ghost use Rattle.cwr_call.specs.CallValue.{CallValue};
 
 use crate::same_call::is_same_call;
 use crate::told::Told;
 use crate::waiting::{Key, Waiting};
+use cwr_engine::Judged;
 use std::alloc::{AllocError, Allocator};
 use std::collections::BTreeSet;
 use std::marker::Model;
 use work_registry::{Call, Entry};
 
-/// The calls of a file that are not found yet, with what its acknowledgement tells of them.
+/// The transactions of a file whose calls are to be found, with what its acknowledgement tells of them.
 #[derive(Drop)]
-pub(crate) struct Wanted<A: Allocator> {
-    calls: Vec<Call<A>, A>,
+pub(crate) struct Wanted<'r, A: Allocator> {
+    transactions: &'r [Judged<A>],
     told: Vec<Told, A>,
     /// So many of them are found.
     found: usize,
 }
 
-impl<A: Allocator> Model for Wanted<A> {
+impl<'r, A: Allocator> Model for Wanted<'r, A> {
+    ghost use Rattle.cwr_verify.specs.Reading.{asked_in};
     ghost use Rattle.cwr_verify.specs.Wanting.{Wanting};
 
     ghost Value = { Wanting };
 
-    ghost view = { λ w. record { calls = w.calls.items; told = w.told.items; found = w.found } };
+    ghost view = { λ w. record { calls = asked_in w.transactions.now; told = w.told.items; found = w.found } };
 }
 
-impl<A: Allocator> Wanted<A> {
-    /// These calls, none of which is found, with what is told of them.
-    pub(crate) fn of(calls: Vec<Call<A>, A>, told: Vec<Told, A>) -> Wanted<A>
-        ensures { result ≡ record { calls = calls.items; told = told.items; found = 0 } }
+impl<'r, A: Allocator> Wanted<'r, A> {
+    /// The calls of these transactions, none of which is found, with what is told of them.
+    pub(crate) fn of(transactions: &'r [Judged<A>], told: Vec<Told, A>) -> Wanted<'r, A>
+        ensures { result ≡ record { calls = asked_in transactions.now; told = told.items; found = 0 } }
     {
         Wanted {
-            calls,
+            transactions,
             told,
             found: 0,
         }
@@ -44,18 +47,27 @@ impl<A: Allocator> Wanted<A> {
     fn can_have_made(&self, entry: &Entry<A>) -> bool
         ensures { IsTrue result ↔ CanHaveMade self.now entry.now }
     {
-        let (Some(call), Some(told)) = (self.calls.get(self.found), self.told.get(self.found))
-        else {
+        let (Some(call), Some(told)) = (self.next_call(), self.told.get(self.found)) else {
             return false;
         };
         *told == Told::of(entry.reply()) && is_same_call(call, entry.call())
+    }
+
+    /// The next transaction's call, where there is one.
+    fn next_call(&self) -> Option<&Call<A>>
+        ensures { MatchOption result (slice_get self.now.calls self.now.found ≡ None) (λ call. slice_get self.now.calls self.now.found ≡ Some call.now) }
+    {
+        match self.transactions.get(self.found) {
+            Some(transaction) => Some(&transaction.call),
+            None => None,
+        }
     }
 
     /// What the next transaction's call is looked up by, where there is one.
     fn next_key(&self) -> Option<Key>
         ensures { MatchOption result (slice_get self.now.calls self.now.found ≡ None) (λ key. (call : CallValue) → slice_get self.now.calls self.now.found ≡ Some call → key ≡ key_of call) }
     {
-        self.calls.get(self.found).map(|call| Key::of(call))
+        self.next_call().map(|call| Key::of(call))
     }
 
     /// The next transaction is found.
