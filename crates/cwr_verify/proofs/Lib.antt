@@ -1,5 +1,6 @@
 pub mod Owning
 pub mod Chaining
+pub mod Acknowledging
 pub mod Checked
 pub mod Files
 pub mod Judging

@@ -2,6 +2,7 @@ pub mod Sent
 pub mod Reading
 pub mod Owned
 pub mod Chained
+pub mod Acknowledged
 pub mod Wanting
 pub mod Verified
 pub mod Told

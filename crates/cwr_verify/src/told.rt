@@ -1,10 +1,18 @@
 //! What an acknowledgement tells, as far as it can be read. Nothing rests on it: what is found by it is checked.
-ghost use Rattle.std.specs.Prelude.{◌≡◌};
+ghost use Rattle.std.specs.Prelude.{◌≡◌, ◌≤◌, codes, is_some, IsTrue};
+ghost use Rattle.std.specs.Str.{bytes_eq};
+ghost use Rattle.cwr_field.specs.Calendar.{day_of, time_of};
+ghost use Rattle.cwr_field.specs.Layout.{field};
+ghost use Rattle.cwr_field.specs.Number.{number_of};
+ghost use Rattle.cwr_record.specs.Columns.{field_at, every_record_type, ack_recipient_number, ack_status};
+ghost use Rattle.cwr_record.specs.Kinds.{status_named};
+ghost use Rattle.cwr_record.specs.Ranges.{is_in_line};
+ghost use Rattle.cwr_verify.specs.Acknowledged.{can_be_read, is_ack, told_by};
 ghost use Rattle.cwr_verify.specs.Wanting.{told_of};
 
-use cwr_field::{cut, digits};
+use cwr_field::{cut, date, digits, time};
 use cwr_grammar::Lines;
-use cwr_record::{Ack, Stamp, read_ack, read_header};
+use cwr_record::{Ack, Column, Prefix, RecordType, Stamp, digits_at, field_at, read_header};
 use std::alloc::{AllocError, Allocator};
 use work_registry::{Reply, Status};
 
@@ -34,23 +42,99 @@ pub(crate) fn told_in<A: Allocator>(
 ) -> Result<Vec<Told, A>, AllocError> {
     let mut all = Vec::new(alloc);
     for line in Lines::of(acknowledgement) {
-        if let Ok(record) = read_ack(line) {
-            if let Some(told) = told_by(&record) {
-                all.push(told)?;
-            }
+        if let Some(told) = told_by(line) {
+            all.push(told)?;
         }
     }
     Ok(all)
 }
 
-/// What a record tells of its transaction.
-fn told_by(record: &Ack) -> Option<Told> {
-    let status = Status::named(&record.status)?;
-    let work = digits(cut(&record.recipient_number, 1, 8));
+/// What a line tells of a transaction, where it is its acknowledgement and has a status. Nothing else is read of it.
+fn told_by(line: &[u8]) -> Option<Told>
+    ensures { result ≡ told_by line.now }
+{
+    if !is_ack(line) {
+        return None;
+    }
+    let status = status_at(line)?;
     Some(Told {
         status,
-        work: work.map(|work| work as u32),
+        work: work_at(line),
     })
+}
+
+/// Whether a line is the acknowledgement of a transaction: each of its fields that can have a fault has none.
+fn is_ack(line: &[u8]) -> bool
+    ensures { result ≡ is_ack line.now }
+{
+    can_be_read(line)
+}
+
+/// Whether a line has the type of an acknowledgement, and each number, each date and the time of it can be read.
+#[inline(always)]
+fn can_be_read(line: &[u8]) -> bool
+    ensures { result ≡ can_be_read line.now }
+{
+    is_of_type(line)
+        && is_number(line, Prefix::TRANSACTION)
+        && is_number(line, Prefix::DETAIL)
+        && is_day(line, Ack::CREATION_DATE)
+        && is_time(line, Ack::CREATION_TIME)
+        && is_number(line, Ack::ORIGINAL_GROUP)
+        && is_number(line, Ack::ORIGINAL_TRANSACTION)
+        && is_day(line, Ack::PROCESSING_DATE)
+}
+
+/// Whether a line has the type of an acknowledgement.
+fn is_of_type(line: &[u8]) -> bool
+    ensures { result ≡ bytes_eq (field_at line.now every_record_type) (codes "ACK") }
+{
+    field_at(line, RecordType::COLUMN).bytes() == *b"ACK"
+}
+
+/// Whether a column holds a number.
+fn is_number(line: &[u8], column: Column) -> bool
+    requires column { IsTrue (is_in_line column) }
+    requires width { column.width ≤ 8 }
+    ensures { result ≡ is_some (number_of (field_at line.now column)) }
+{
+    digits_at(line, column).is_some()
+}
+
+/// Whether a column holds a date.
+fn is_day(line: &[u8], column: Column) -> bool
+    requires column { IsTrue (is_in_line column) }
+    requires width { column.width ≡ 8 }
+    ensures { result ≡ is_some (day_of (field_at line.now column)) }
+{
+    date(field_at(line, column)).is_some()
+}
+
+/// Whether a column holds a time.
+fn is_time(line: &[u8], column: Column) -> bool
+    requires column { IsTrue (is_in_line column) }
+    requires width { column.width ≡ 6 }
+    ensures { result ≡ is_some (time_of (field_at line.now column)) }
+{
+    time(field_at(line, column)).is_some()
+}
+
+/// The status that an acknowledgement has.
+fn status_at(line: &[u8]) -> Option<Status>
+    ensures { result ≡ status_named (field_at line.now ack_status) }
+{
+    Status::named(&field_at(line, Ack::STATUS).bytes())
+}
+
+/// The registry's number of the work in an acknowledgement, where it has eight digits in front of its column.
+fn work_at(line: &[u8]) -> Option<u32>
+    ensures { result ≡ number_of (field (field_at line.now ack_recipient_number) 1 8) }
+{
+    let number: [u8; 20] = field_at(line, Ack::RECIPIENT_NUMBER).bytes();
+    match digits(cut(&number, 1, 8)) {
+        Some(work) => Some(work as u32),
+        None => None,
+    }
 }
 
 /// Who acknowledges, and when, as the acknowledgement's first line tells it.

@@ -1,0 +1,38 @@
+-- What a line of an acknowledgement tells of a transaction.
+use Rattle.std.specs.Prelude.{ℕ, Bool, ◌&&◌, List, Option, None, codes, is_some, option_map, if◌then◌else◌}
+use Rattle.std.specs.List.{list_all}
+use Rattle.std.specs.Str.{bytes_eq}
+use Rattle.cwr_field.specs.Calendar.{day_of, time_of}
+use Rattle.cwr_field.specs.Layout.{field}
+use Rattle.cwr_field.specs.Number.{number_of}
+use Rattle.cwr_record.specs.Acknowledgement as table
+use Rattle.cwr_record.specs.Columns as column
+use Rattle.cwr_record.specs.Columns.{field_at}
+use Rattle.cwr_record.specs.Faults.{checked}
+use Rattle.cwr_record.specs.Kinds.{status_named}
+use Rattle.cwr_record.specs.Layout.{reading}
+use Rattle.cwr_verify.specs.declared.told.Told.{Told}
+
+-- it is the acknowledgement of a transaction: no field that can have a fault has one
+abbrev pub is_ack : List ℕ → Bool
+is_ack line = list_all (λ s. is_some (reading line s)) (checked table.ack)
+
+-- the same, field by field: the type is that of one, and each number, date and time can be read
+abbrev pub can_be_read : List ℕ → Bool
+can_be_read line =
+    bytes_eq (field_at line column.every_record_type) (codes "ACK")
+    && (is_some (number_of (field_at line column.prefix_transaction))
+    && (is_some (number_of (field_at line column.prefix_detail))
+    && (is_some (day_of (field_at line column.ack_creation_date))
+    && (is_some (time_of (field_at line column.ack_creation_time))
+    && (is_some (number_of (field_at line column.ack_original_group))
+    && (is_some (number_of (field_at line column.ack_original_transaction))
+    && is_some (day_of (field_at line column.ack_processing_date))))))))
+
+-- its status, and the registry's number of the work in front of the recipient's number; none where it is no acknowledgement
+-- of a transaction, or has a status that is none
+abbrev pub told_by : List ℕ → Option Told
+told_by line =
+    if is_ack line
+    then option_map (λ status. record { status = status; work = number_of (field (field_at line column.ack_recipient_number) 1 8) }) (status_named (field_at line column.ack_status))
+    else None
