@@ -12,7 +12,7 @@ use Rattle.std.specs.declared.ops.Bound.TheVariants.{Included, Excluded}
 use Rattle.std.proofs.lemmas.Bool.{cases_eq, cases_lt}
 use Rattle.std.proofs.lemmas.List.{length-set, get_or-set_same, get_or-set_other}
 use Rattle.std.proofs.lemmas.Option.{slice_get_read, get_or_from_slice_get}
-use Rattle.std.proofs.lemmas.Cmp.{ranked, tied_itself, alike_right, nat_cmp_total, nat_list_cmp_total, on_total, then_total}
+use Rattle.std.proofs.lemmas.Cmp.{ranked, tied_itself, alike_right, nat_cmp_total, on_total, then_total}
 use Rattle.std.proofs.lemmas.Map.Keys.{Less-from_sorted}
 use Rattle.std.proofs.lemmas.Map.Views.{any-filter_same, range_contains-from_IsInRange, by_place}
 use Rattle.cwr_call.specs.CallValue.{CallValue}
@@ -23,7 +23,10 @@ use Rattle.cwr_verify.specs.Wanting.{Wanting, CanHaveMade, IsFirst, HasMovedOn, 
 -- ---- the order of turns
 
 pub key_total : IsTotalOrder key_cmp
-key_total = then_total (on_total (λ (k : Key). k.submitter) nat_list_cmp_total) (on_total (λ (k : Key). k.number) nat_list_cmp_total)
+key_total =
+    then_total (on_total (λ (k : Key). k.number_end) nat_cmp_total)
+    (then_total (on_total (λ (k : Key). k.number_front) nat_cmp_total)
+    (then_total (on_total (λ (k : Key). k.submitter_end) nat_cmp_total) (on_total (λ (k : Key). k.submitter_front) nat_cmp_total)))
 
 pub turn_total : IsTotalOrder turn_cmp
 turn_total = then_total (on_total (λ (t : Key × ℕ). t.0) key_total) (on_total (λ (t : Key × ℕ). t.1) nat_cmp_total)

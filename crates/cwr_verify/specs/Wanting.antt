@@ -1,7 +1,7 @@
 -- What files want of a history, and which of them an entry is for.
-use Rattle.std.specs.Prelude.{◌≡◌, ℕ, ◌+◌, ◌<◌, ◌≤◌, true, List, Some, length, slice_get, slice_index_or}
+use Rattle.std.specs.Prelude.{◌≡◌, ℕ, ◌+◌, ◌<◌, ◌≤◌, true, List, Some, drop, length, take, slice_get, slice_index_or}
 use Rattle.std.specs.BTreeSet.{BTreeSet, contains}
-use Rattle.std.specs.Cmp.Lexicographic.{slice_cmp}
+use Rattle.std.specs.Int.{w64, from_be_bytes}
 use Rattle.std.specs.Ordering.{nat_cmp, ordering_then}
 use Rattle.std.specs.declared.cmp.Ordering.{Ordering}
 use Rattle.cwr_call.specs.CallValue.{CallValue}
@@ -42,12 +42,20 @@ pub record HasMovedOn (before after : List Wanting) (file : ℕ) : Type 0 where
   pub others : (other : ℕ) (d : Wanting) → (other ≡ file → ⊥) → slice_index_or after other d ≡ slice_index_or before other d
   pub its : (d : Wanting) → file < length before → slice_index_or after file d ≡ found_next (slice_index_or before file d)
 
--- what a call is looked up by
+-- what a call is looked up by: the first eight and the last eight bytes of its submitter and of the submitter's number
 abbrev pub key_of : CallValue → Key
-key_of call = record { submitter = call.submitter; number = call.number }
+key_of call = record {
+  number_end = from_be_bytes w64 (drop 6 call.number);
+  number_front = from_be_bytes w64 (take 8 call.number);
+  submitter_end = from_be_bytes w64 (drop 3 call.submitter);
+  submitter_front = from_be_bytes w64 (take 8 call.submitter);
+}
 
 abbrev pub key_cmp : Key → Key → Ordering
-key_cmp one other = ordering_then (slice_cmp nat_cmp one.submitter other.submitter) (slice_cmp nat_cmp one.number other.number)
+key_cmp one other =
+    ordering_then (nat_cmp one.number_end other.number_end)
+    (ordering_then (nat_cmp one.number_front other.number_front)
+    (ordering_then (nat_cmp one.submitter_end other.submitter_end) (nat_cmp one.submitter_front other.submitter_front)))
 
 -- by key, and then by file
 abbrev pub turn_cmp : Key × ℕ → Key × ℕ → Ordering

@@ -67,7 +67,10 @@ impl<'r, A: Allocator> Wanted<'r, A> {
     fn next_key(&self) -> Option<Key>
         ensures { MatchOption result (slice_get self.now.calls self.now.found ≡ None) (λ key. (call : CallValue) → slice_get self.now.calls self.now.found ≡ Some call → key ≡ key_of call) }
     {
-        self.next_call().map(|call| Key::of(call))
+        match self.next_call() {
+            Some(call) => Some(Key::of(call)),
+            None => None,
+        }
     }
 
     /// The next transaction is found.

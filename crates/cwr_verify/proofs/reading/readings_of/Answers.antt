@@ -1,4 +1,4 @@
-use Rattle.std.proofs.Common.{◌≡◌, ◌∙◌, ℕ, ◌+◌, ap, subst, length}
+use Rattle.std.proofs.Common.{◌∙◌, ℕ, ◌+◌, ap, subst, length}
 use Rattle.std.proofs.lemmas.List.{length_push}
 use Rattle.cwr_verify.specs.Reading.{IsReadingOf}
 use Rattle.cwr_verify.specs.Sent.{Sent}

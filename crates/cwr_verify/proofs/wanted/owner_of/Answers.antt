@@ -1,9 +1,25 @@
 use Rattle.std.proofs.Common.{◌≡◌, ◌∙◌, List, ◌<◌, length, set, Some, None, sym, ap, subst, arith}
 use Rattle.std.specs.Prelude.{slice_get}
 use Rattle.std.proofs.lemmas.List.{get_or_default, length-set}
+use Rattle.std.proofs.lemmas.Option.{slice_get_within}
 use Rattle.cwr_verify.proofs.Turns.{moved_on, stops_waiting, waits_on}
 use Rattle.cwr_verify.specs.Wanting.{Wanting, found_next}
 use Rattle.cwr_verify.proofs.wanted.owner_of.Goals as goal
+
+pub pass-requires : goal.pass-requires
+pass-requires g c =
+    let made = c.in-Some.ensures.0.made c.index-wanted-file.result c.in-Some.ensures.1 in
+    slice_get_within _ _ _ made.call
+
+pub returns-in_ok-insert-clause-moved : goal.returns-in_ok-insert-clause-moved
+returns-in_ok-insert-clause-moved g c =
+    moved_on c.args.wanted.now c.in-Some.file c.index-wanted-file.result c.pass.new.self c.in-Some.ensures.1 c.index-wanted-file.is
+    (c.pass.ensures ∙ ap found_next (sym c.index-wanted-file.is))
+
+pub returns-in_default-next_key-clause-moved : goal.returns-in_default-next_key-clause-moved
+returns-in_default-next_key-clause-moved g c =
+    moved_on c.args.wanted.now c.in-Some.file c.index-wanted-file.result c.pass.new.self c.in-Some.ensures.1 c.index-wanted-file.is
+    (c.pass.ensures ∙ ap found_next (sym c.index-wanted-file.is))
 
 pub returns-in_ok-insert-clause-waiting : goal.returns-in_ok-insert-clause-waiting
 returns-in_ok-insert-clause-waiting g c =
