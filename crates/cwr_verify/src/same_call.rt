@@ -8,13 +8,21 @@ use work_registry::{Call, Fault};
 pub(crate) fn is_same_call<A: Allocator>(one: &Call<A>, other: &Call<A>) -> bool
     ensures { IsTrue result ↔ (one.now ≡ other.now) }
 {
-    are_same_bytes(&one.number(), &other.number())
-        && are_same_bytes(&one.submitter(), &other.submitter())
-        && are_same_bytes(&one.title(), &other.title())
+    are_same_texts(one.number(), other.number())
+        && are_same_texts(one.submitter(), other.submitter())
+        && are_same_texts(one.title(), other.title())
         && is_same_kind(one.kind(), other.kind())
         && is_same_code(one.iswc(), other.iswc())
         && are_same_shares(&one.control(), &other.control())
         && are_same_faults(one.faults(), other.faults())
+}
+
+/// Whether two texts of one length are the same. That the length is known spares a call.
+#[inline(always)]
+fn are_same_texts<const N: usize>(one: [u8; N], other: [u8; N]) -> bool
+    ensures { IsTrue result ↔ (one ≡ other) }
+{
+    one == other
 }
 
 /// Whether two texts are the same.
@@ -61,5 +69,5 @@ fn is_same_fault(one: &Fault, other: &Fault) -> bool
 {
     one.sequence == other.sequence
         && one.number == other.number
-        && are_same_bytes(&one.rtype, &other.rtype)
+        && are_same_texts(one.rtype, other.rtype)
 }
