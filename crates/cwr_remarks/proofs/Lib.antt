@@ -1,3 +1,4 @@
 pub mod Written
 pub mod Ended
 pub mod JsonText
+pub mod LowBytes

@@ -2,12 +2,16 @@ ghost use Rattle.std.specs.Prelude.{◌≡◌, ◌<◌, length, IfSome};
 ghost use Rattle.std.specs.List.{position, count_by};
 ghost use Rattle.cwr_remarks.specs.HighBytes.{is_high, high_bytes};
 
+use crate::low_bytes::is_low;
 use crate::remark::Remarked;
 
-/// The first byte of a line that is above 126, and how many such it has.
+/// The first byte of a line that is above 126, and how many such it has. Most lines have none, which is seen at once.
 pub(crate) fn high_bytes(line: &[u8]) -> Option<Remarked>
     ensures { result ≡ high_bytes line.now }
 {
+    if is_low(line) {
+        return None;
+    }
     let first = first_high(line)?;
     Some(Remarked::HighBytes {
         first: first as u64 + 1,

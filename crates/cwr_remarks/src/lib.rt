@@ -9,6 +9,7 @@ mod checks;
 mod high_bytes;
 mod json_list;
 mod layouts;
+mod low_bytes;
 mod remark;
 mod remarking;
 mod territories;
