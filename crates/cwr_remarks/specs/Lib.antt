@@ -1,7 +1,9 @@
 pub mod HighBytes
 pub mod Layouts
 pub mod Types
+pub mod Typed
 pub mod Territories
+pub mod Told
 pub mod Remarks
 pub mod Texts
 pub mod Json

@@ -14,6 +14,7 @@ mod remark;
 mod remarking;
 mod territories;
 mod texts;
+mod typed;
 mod types;
 
 pub use checks::{remarked_json, remarked_long};

@@ -1,15 +1,18 @@
-ghost use Rattle.std.specs.Prelude.{◌≡◌, ◌++◌, IfOk, OnOk};
+ghost use Rattle.std.specs.Prelude.{◌≡◌, ◌++◌, IfOk, OnOk, Some};
 ghost use Rattle.std.specs.Str.Lines.{lines};
+ghost use Rattle.cwr_record.specs.RecordTypes.{type_of};
 ghost use Rattle.cwr_remarks.specs.Remarks.{remark_on, remarks_on, remarks_from, remarks_to};
+ghost use Rattle.cwr_remarks.specs.Typed.{left, IsTyped};
 
 use crate::high_bytes::high_bytes;
 use crate::layouts::past_layout;
 use crate::remark::{Remark, Remarked};
 use crate::territories::only_excluded;
+use crate::typed::{Typed, next_typed};
 use crate::types::unknown_type;
 use cwr_field::Memory;
 use cwr_grammar::Lines;
-use cwr_record::{RecordType, field_at, type_of};
+use cwr_record::{RecordType, field_at};
 use std::alloc::Allocator;
 
 /// The remarks on the lines of a text, in the order of the lines, each once.
@@ -36,37 +39,50 @@ pub fn remarks_before<A: Allocator>(
     ensures { IfOk result (λ found. found.items ≡ remarks_to end 1 (lines text.now)) }
 {
     let mut found = Vec::new(alloc);
+    if end <= 1 {
+        return Ok(found);
+    }
     let mut rest = Lines::of(text);
+    let mut next = next_typed(&mut rest);
     let mut number: u64 = 1;
     while number < end {
-        let Some(line) = rest.next() else {
+        let Some(line) = next else {
             return Ok(found);
         };
-        push_remarks_on(&mut found, number, line, &rest)?;
+        next = next_typed(&mut rest);
+        push_remarks_on(&mut found, number, line, next, &rest)?;
         number += 1;
     }
     Ok(found)
 }
 
-/// Appends the remarks on a line with this number, before these lines.
+/// Appends the remarks on a line with this number, before one that was taken and these lines.
 fn push_remarks_on<A: Allocator>(
     found: &mut Vec<Remark, A>,
     number: u64,
-    line: &[u8],
+    taken: Typed,
+    next: Option<Typed>,
     after: &Lines,
 ) -> Result<(), Memory>
-    ensures { OnOk result (found.new.items ≡ found.old.items ++ remarks_on number line.now after.now) }
+    requires taken { taken.record_type ≡ type_of taken.line.now }
+    requires next { IsTyped next }
+    ensures { OnOk result (found.new.items ≡ found.old.items ++ remarks_on number taken.entry.line.now (left next.entry after.now)) }
 {
-    let record_type = type_of(line);
-    let name = field_at(line, RecordType::COLUMN).bytes();
+    let Typed { line, record_type } = taken;
     push_remark(found, number, line, high_bytes(line))?;
     push_remark(found, number, line, past_layout(line.len(), record_type))?;
-    push_remark(found, number, line, unknown_type(record_type, name))?;
-    push_remark(found, number, line, only_excluded(record_type, after)?)?;
+    push_remark(found, number, line, unknown_type(record_type, line))?;
+    push_remark(
+        found,
+        number,
+        line,
+        only_excluded(record_type, next, after)?,
+    )?;
     Ok(())
 }
 
 /// Appends a remark on a line with this number, where there is something to remark.
+#[inline(always)]
 fn push_remark<A: Allocator>(
     found: &mut Vec<Remark, A>,
     number: u64,
@@ -75,9 +91,21 @@ fn push_remark<A: Allocator>(
 ) -> Result<(), Memory>
     ensures { OnOk result (found.new.items ≡ found.old.items ++ remark_on number line.now what) }
 {
-    let Some(what) = what else {
-        return Ok(());
-    };
+    match what {
+        None => Ok(()),
+        Some(what) => push_remarked(found, number, line, what),
+    }
+}
+
+/// Appends what is remarked of a line with this number.
+fn push_remarked<A: Allocator>(
+    found: &mut Vec<Remark, A>,
+    number: u64,
+    line: &[u8],
+    what: Remarked,
+) -> Result<(), Memory>
+    ensures { OnOk result (found.new.items ≡ found.old.items ++ remark_on number line.now (Some what)) }
+{
     found.push(Remark {
         line: number,
         rtype: field_at(line, RecordType::COLUMN).bytes(),

@@ -1,20 +1,39 @@
-ghost use Rattle.std.specs.Prelude.{◌≡◌, IsTrue, IfOk, false};
+ghost use Rattle.std.specs.Prelude.{◌≡◌, ◌∷◌, ℕ, List, IsTrue, IfOk, false};
+ghost use Rattle.cwr_record.specs.RecordTypes.{type_of};
 ghost use Rattle.cwr_record.specs.Parties.{has_collection};
 ghost use Rattle.cwr_remarks.specs.Territories.{has_territories, is_territory_of, is_outside, is_end, is_exclusion, are_excluded, only_excluded};
+ghost use Rattle.cwr_remarks.specs.Told.{told_with};
+ghost use Rattle.cwr_remarks.specs.Typed.{left, IsTyped};
 
 use crate::remark::Remarked;
+use crate::typed::Typed;
 use cwr_field::Memory;
 use cwr_grammar::Lines;
 use cwr_record::{RecordType, indicator_of, type_of};
 
-/// A record of this type, before these lines, whose territories are exclusions alone.
-pub(crate) fn only_excluded(leading: RecordType, after: &Lines) -> Result<Option<Remarked>, Memory>
-    ensures { IfOk result (λ what. what ≡ only_excluded leading after.now) }
+/// A record of this type, before a line that was taken and these lines, whose territories are exclusions alone. That line
+/// mostly tells it.
+pub(crate) fn only_excluded(
+    leading: RecordType,
+    next: Option<Typed>,
+    after: &Lines,
+) -> Result<Option<Remarked>, Memory>
+    requires { IsTyped next }
+    ensures { IfOk result (λ what. what ≡ only_excluded leading (left next.entry after.now)) }
 {
-    if has_territories(leading) && are_excluded(leading, after.clone()?) {
+    if has_territories(leading) && are_excluded_after(leading, next, after)? {
         return Ok(Some(Remarked::OnlyExcluded));
     }
     Ok(None)
+}
+
+/// What is known of the territories of a record at one of the lines after it.
+#[derive(Clone, Copy)]
+pub(crate) enum Told {
+    /// Whether all of them are exclusions, and there are some.
+    All(bool),
+    /// All so far are exclusions; whether there are some.
+    SoFar(bool),
 }
 
 fn has_territories(leading: RecordType) -> bool
@@ -23,25 +42,58 @@ fn has_territories(leading: RecordType) -> bool
     matches!(leading, RecordType::Spu | RecordType::Swr)
 }
 
-/// Whether the territories of a record, among the lines after it, are told to their end, and all of them are exclusions.
-fn are_excluded(leading: RecordType, after: Lines) -> bool
-    ensures { result ≡ are_excluded leading false after.entry }
+/// Whether the territories of a record, among a line that was taken and these lines, are told to their end, and all of
+/// them are exclusions.
+fn are_excluded_after(
+    leading: RecordType,
+    next: Option<Typed>,
+    after: &Lines,
+) -> Result<bool, Memory>
+    requires { IsTyped next }
+    ensures { IfOk result (λ excluded. excluded ≡ are_excluded leading false (left next.entry after.now)) }
 {
-    let mut some = false;
+    let Some(next) = next else {
+        return Ok(false);
+    };
+    match told_by(leading, false, next.line, next.record_type) {
+        Told::All(excluded) => Ok(excluded),
+        Told::SoFar(some) => Ok(are_excluded(leading, some, after.clone()?)),
+    }
+}
+
+/// The same among these lines, where there are some territories before them, or none.
+fn are_excluded(leading: RecordType, some: bool, after: Lines) -> bool
+    ensures { result ≡ are_excluded leading some after.entry }
+{
+    let mut so_far = some;
     for line in after {
-        let record_type = type_of(line);
-        if is_territory_of(leading, record_type) {
-            if !is_exclusion(record_type, line) {
-                return false;
-            }
-            some = true;
-        } else if is_end(leading, record_type) {
-            return some;
-        } else if record_type == RecordType::Bad {
-            return false;
+        match told_by(leading, so_far, line, type_of(line)) {
+            Told::All(excluded) => return excluded,
+            Told::SoFar(some) => so_far = some,
         }
     }
     false
+}
+
+/// What a line of this type tells of the territories of an earlier record, after some of them, or none.
+#[inline(always)]
+fn told_by(leading: RecordType, some: bool, line: &[u8], record_type: RecordType) -> Told
+    requires { record_type ≡ type_of line.now }
+    ensures { (after : List (List ℕ)) → are_excluded leading some (line.now ∷ after) ≡ told_with leading after result }
+{
+    if is_territory_of(leading, record_type) {
+        if is_exclusion(record_type, line) {
+            Told::SoFar(true)
+        } else {
+            Told::All(false)
+        }
+    } else if is_end(leading, record_type) {
+        Told::All(some)
+    } else if record_type == RecordType::Bad {
+        Told::All(false)
+    } else {
+        Told::SoFar(some)
+    }
 }
 
 /// Whether a record of a type is a territory of an earlier one.

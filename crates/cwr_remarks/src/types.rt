@@ -1,14 +1,17 @@
 ghost use Rattle.std.specs.Prelude.{◌≡◌};
+ghost use Rattle.cwr_record.specs.Columns.{field_at, every_record_type};
 ghost use Rattle.cwr_remarks.specs.Types.{is_of_agreement, is_of_other_alphabet, is_of_work, is_standard, unknown_type};
 
 use crate::remark::Remarked;
-use cwr_record::RecordType;
+use cwr_record::{RecordType, field_at};
 
-/// A record of a type with this name, where CWR 2.2 has no such record.
-pub(crate) fn unknown_type(record_type: RecordType, name: [u8; 3]) -> Option<Remarked>
-    ensures { result ≡ unknown_type record_type name }
+/// A line whose record is of this type, where CWR 2.2 has no record of its name.
+pub(crate) fn unknown_type(record_type: RecordType, line: &[u8]) -> Option<Remarked>
+    ensures { result ≡ unknown_type record_type (field_at line.now every_record_type) }
 {
-    if record_type != RecordType::Carried || is_standard(name) {
+    if record_type != RecordType::Carried
+        || is_standard(field_at(line, RecordType::COLUMN).bytes())
+    {
         return None;
     }
     Some(Remarked::UnknownType)

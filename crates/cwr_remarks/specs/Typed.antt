@@ -1,0 +1,14 @@
+-- A line that was taken with its type, before the lines that are left.
+use Rattle.std.specs.Prelude.{ℕ, ◌≡◌, List, [], ◌∷◌, Option, Some, None}
+use Rattle.cwr_record.specs.RecordTypes.{type_of}
+use Rattle.cwr_remarks.specs.declared.typed.Typed.{Typed}
+
+-- the line that was taken, where there was one, and the lines that are left
+abbrev pub left : Option Typed → List (List ℕ) → List (List ℕ)
+left None rest = []
+left (Some taken) rest = taken.line.now ∷ rest
+
+-- its type is that of its record
+abbrev pub IsTyped : Option Typed → Type 0
+IsTyped None = Unit {0}
+IsTyped (Some taken) = taken.record_type ≡ type_of taken.line.now
