@@ -4,6 +4,7 @@ pub mod Reported
 pub mod Written
 pub mod Counting
 pub mod JsonStrings
+pub mod JsonRuns
 pub mod JsonText
 pub mod Located
 pub mod Inside

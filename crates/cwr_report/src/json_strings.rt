@@ -6,6 +6,7 @@ ghost use Rattle.json.specs.Print.{escape_letter, escape_byte, escape, quoted};
 ghost use Rattle.cwr_report.specs.Json.{latin, text_data};
 ghost use Rattle.cwr_report.specs.JsonText.{is_changed};
 
+use crate::json_runs::are_kept;
 use cwr_field::{LEAST_PRINTABLE, Memory};
 
 /// Appends bytes as a text of JSON: each byte is the character with its number, so that a text has all of them whatever
@@ -21,8 +22,20 @@ pub fn put_json_text(out: &mut Vec<u8>, bytes: &[u8]) -> Result<(), Memory>
     Ok(())
 }
 
-/// Appends what stands for bytes in a text. Those up to the next that is changed are appended at once.
+/// Appends what stands for bytes in a text. Where it is seen soon that each of them stands for itself, all are appended
+/// at once.
 fn put_characters(out: &mut Vec<u8>, bytes: &[u8]) -> Result<(), Memory>
+    ensures { OnOk result (out.new.items ≡ out.old.items ++ escape (latin bytes.now)) }
+{
+    if are_kept(bytes) {
+        out.extend_from_slice(bytes)?;
+        return Ok(());
+    }
+    put_each(out, bytes)
+}
+
+/// Appends what stands for bytes in a text. Those up to the next that is changed are appended at once.
+fn put_each(out: &mut Vec<u8>, bytes: &[u8]) -> Result<(), Memory>
     ensures { OnOk result (out.new.items ≡ out.old.items ++ escape (latin bytes.now)) }
 {
     let mut rest = bytes;

@@ -14,6 +14,7 @@ mod findings;
 mod json_faults;
 mod json_members;
 mod json_report;
+mod json_runs;
 mod json_strings;
 mod json_values;
 mod latest;

@@ -1,7 +1,7 @@
 use Rattle.std.proofs.Common.{◌≡◌, ◌++◌, length}
 use Rattle.json.specs.Print.{escape}
 use Rattle.cwr_report.specs.Json.{latin}
-use Rattle.cwr_report.proofs.json_strings.put_characters.Given as goal
+use Rattle.cwr_report.proofs.json_strings.put_each.Given as goal
 
 -- what is written and what is left make the whole
 abbrev pub invariant-loop-kept : goal.invariant-loop-kept
