@@ -5,7 +5,7 @@ ghost use Rattle.cwr_report.specs.FileText.{file_wanted_text};
 ghost use Rattle.cwr_report.specs.LongText.{wanted_text};
 ghost use Rattle.cwr_report.specs.Json.{place_members, finding_data, file_place, file_data};
 ghost use Rattle.cwr_report.specs.JsonText.{string_text, type_data, wrong_text, byte_text, where_text, rule_text, tail_text, told_text, file_told_text};
-ghost use Rattle.cwr_report.specs.Walks.{IsWalk};
+ghost use Rattle.cwr_report.specs.Walks.{IsLineWalk};
 
 use crate::file_finding::{FileExpected, FileFinding, RecordPlace, WrongByte};
 use crate::file_lines::put_file_wanted;
@@ -13,8 +13,8 @@ use crate::file_words::file_rule_text;
 use crate::finding::{Expected, Finding};
 use crate::json_strings::put_json_text;
 use crate::json_values::{put_fields, put_option, put_rule_name, put_type};
+use crate::line_walk::LineWalk;
 use crate::long_lines::{message_of, put_text, put_wanted};
-use crate::walk::Walk;
 use cwr_field::{Memory, put_decimal};
 
 /// Appends a fault of a transaction, where the walk has gone to its line. Texts are put together in a room for them.
@@ -22,10 +22,10 @@ pub(crate) fn put_finding_at(
     out: &mut Vec<u8>,
     room: &mut Vec<u8>,
     bytes: &[u8],
-    walk: &Walk,
+    walk: &LineWalk,
     finding: &Finding,
 ) -> Result<(), Memory>
-    requires { IsWalk walk.now (lines bytes.now) (finding.now.line - 1) }
+    requires { IsLineWalk walk.now (lines bytes.now) (finding.now.line - 1) }
     ensures { OnOk result (out.new.items ≡ out.old.items ++ compact_text (finding_data (lines bytes.now) finding.now)) }
 {
     put_told(out, room, walk.line(), finding)?;
@@ -127,10 +127,10 @@ pub(crate) fn put_file_at(
     out: &mut Vec<u8>,
     room: &mut Vec<u8>,
     bytes: &[u8],
-    walk: &Walk,
+    walk: &LineWalk,
     refused: &FileFinding,
 ) -> Result<(), Memory>
-    requires { IsWalk walk.now (lines bytes.now) (refused.now.line - 1) }
+    requires { IsLineWalk walk.now (lines bytes.now) (refused.now.line - 1) }
     ensures { OnOk result (out.new.items ≡ out.old.items ++ compact_text (file_data (lines bytes.now) refused.now)) }
 {
     let place = Place::of(refused.rtype, &refused.place);

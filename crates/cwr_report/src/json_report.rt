@@ -6,15 +6,15 @@ ghost use Rattle.serde_json.specs.Written.{compact_text, comma_if, items_text, h
 ghost use Rattle.cwr_report.specs.Json.{json_line, finding_data, file_data, faults_data, report_members, report_json};
 ghost use Rattle.cwr_report.specs.JsonText.{member_text, left_text, own_name, own_data};
 ghost use Rattle.cwr_report.specs.Report.{IsJsonCheck};
-ghost use Rattle.cwr_report.specs.Walks.{IsWalk};
+ghost use Rattle.cwr_report.specs.Walks.{IsLineWalk};
 
 use crate::file_finding::FileFinding;
 use crate::finding::Finding;
 use crate::json_faults::{put_file_at, put_finding_at};
 use crate::json_members::{Member, ReportMember, put_last, put_member, put_member_name};
 use crate::json_values::{put_bool, put_comma};
+use crate::line_walk::LineWalk;
 use crate::reporting::{Report, report_on};
-use crate::walk::Walk;
 use cwr_check::Checked;
 use cwr_field::{Memory, put_decimal};
 use cwr_grammar::Lines;
@@ -250,7 +250,7 @@ fn put_findings(
     ensures { OnOk result (out.new.items ≡ out.old.items ++ 91 ∷ items_text false (items_of (map (finding_data (lines bytes.now)) findings.now))) }
 {
     out.push(b'[')?;
-    let mut walk = Walk::new(Lines::of(bytes));
+    let mut walk = LineWalk::new(Lines::of(bytes));
     let mut later = false;
     for finding in findings {
         walk.go_to(Lines::of(bytes), finding.line.saturating_sub(1));
@@ -266,11 +266,11 @@ fn put_item(
     out: &mut Vec<u8>,
     room: &mut Vec<u8>,
     bytes: &[u8],
-    walk: &Walk,
+    walk: &LineWalk,
     later: bool,
     finding: &Finding,
 ) -> Result<(), Memory>
-    requires { IsWalk walk.now (lines bytes.now) (finding.now.line - 1) }
+    requires { IsLineWalk walk.now (lines bytes.now) (finding.now.line - 1) }
     ensures { OnOk result (out.new.items ≡ out.old.items ++ (comma_if later ++ compact_text (finding_data (lines bytes.now) finding.now))) }
 {
     put_comma(out, later)?;
@@ -287,7 +287,7 @@ fn put_refused(
 ) -> Result<(), Memory>
     ensures { OnOk result (out.new.items ≡ out.old.items ++ 91 ∷ (compact_text (file_data (lines bytes.now) refused.now) ++ 93 ∷ [])) }
 {
-    let mut walk = Walk::new(Lines::of(bytes));
+    let mut walk = LineWalk::new(Lines::of(bytes));
     walk.go_to(Lines::of(bytes), refused.line.saturating_sub(1));
     out.push(b'[')?;
     put_file_at(out, room, bytes, &walk, refused)?;

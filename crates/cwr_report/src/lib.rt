@@ -19,6 +19,7 @@ mod json_strings;
 mod json_values;
 mod latest;
 pub mod laws;
+mod line_walk;
 mod long_lines;
 mod reporting;
 mod telling;

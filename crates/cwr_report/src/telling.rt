@@ -5,14 +5,14 @@ ghost use Rattle.cwr_check.specs.CheckText.{total_line};
 ghost use Rattle.cwr_report.specs.FileText.{file_text};
 ghost use Rattle.cwr_report.specs.LongText.{finding_text, long_text};
 ghost use Rattle.cwr_report.specs.Report.{report_text, IsLongCheck};
-ghost use Rattle.cwr_report.specs.Walks.{IsWalk};
+ghost use Rattle.cwr_report.specs.Walks.{IsLineWalk};
 
 use crate::file_finding::FileFinding;
 use crate::file_lines::put_file_finding;
 use crate::finding::Finding;
+use crate::line_walk::LineWalk;
 use crate::long_lines::put_finding;
 use crate::reporting::{Report, report_on};
-use crate::walk::Walk;
 use cwr_check::{Checked, put_total};
 use cwr_field::Memory;
 use cwr_grammar::Lines;
@@ -60,7 +60,7 @@ fn put_refused<A: Allocator>(
 ) -> Result<(), Memory>
     ensures { OnOk result (out.new.items ≡ out.old.items ++ file_text (lines bytes.now) refused.now) }
 {
-    let mut walk = Walk::new(Lines::of(bytes));
+    let mut walk = LineWalk::new(Lines::of(bytes));
     walk.go_to(Lines::of(bytes), refused.line.saturating_sub(1));
     put_refused_at(out, bytes, &walk, refused)
 }
@@ -69,10 +69,10 @@ fn put_refused<A: Allocator>(
 fn put_refused_at<A: Allocator>(
     out: &mut Vec<u8, A>,
     bytes: &[u8],
-    walk: &Walk,
+    walk: &LineWalk,
     refused: &FileFinding,
 ) -> Result<(), Memory>
-    requires { IsWalk walk.now (lines bytes.now) (refused.now.line - 1) }
+    requires { IsLineWalk walk.now (lines bytes.now) (refused.now.line - 1) }
     ensures { OnOk result (out.new.items ≡ out.old.items ++ file_text (lines bytes.now) refused.now) }
 {
     put_file_finding(out, walk.line(), refused)?;
@@ -100,7 +100,7 @@ fn put_findings<A: Allocator>(
 ) -> Result<(), Memory>
     ensures { OnOk result (out.new.items ≡ out.old.items ++ flat_map (finding_text (lines bytes.now)) findings.now) }
 {
-    let mut walk = Walk::new(Lines::of(bytes));
+    let mut walk = LineWalk::new(Lines::of(bytes));
     for finding in findings {
         walk.go_to(Lines::of(bytes), finding.line.saturating_sub(1));
         put_finding_at(out, bytes, &walk, finding)?;
@@ -112,10 +112,10 @@ fn put_findings<A: Allocator>(
 fn put_finding_at<A: Allocator>(
     out: &mut Vec<u8, A>,
     bytes: &[u8],
-    walk: &Walk,
+    walk: &LineWalk,
     finding: &Finding,
 ) -> Result<(), Memory>
-    requires { IsWalk walk.now (lines bytes.now) (finding.now.line - 1) }
+    requires { IsLineWalk walk.now (lines bytes.now) (finding.now.line - 1) }
     ensures { OnOk result (out.new.items ≡ out.old.items ++ finding_text (lines bytes.now) finding.now) }
 {
     put_finding(out, walk.line(), finding)?;
