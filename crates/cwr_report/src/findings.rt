@@ -1,29 +1,31 @@
-ghost use Rattle.std.specs.Prelude.{◌≡◌, ◌+◌, ◌*◌, ◌<◌, ◌^◌, ◌++◌, length, map, IsTrue, IfOk, OnOk};
+ghost use Rattle.std.specs.Prelude.{◌≡◌, ◌+◌, ◌*◌, ◌<◌, ◌^◌, ◌++◌, map, not, IfOk, OnOk};
 ghost use Rattle.std.specs.List.{AllByRecursion};
-ghost use Rattle.cwr_call.specs.Lawful.{is_clean};
+ghost use Rattle.cwr_call.specs.Lawful.{is_none_found};
 ghost use Rattle.cwr_grammar.specs.RawParts.{IsPlaced, lines_in};
-ghost use Rattle.cwr_check.specs.CheckText.{has_faults, faulty_count};
-ghost use Rattle.cwr_report.specs.Findings.{added_in, findings_in, findings_after, first_line, finding_of};
+ghost use Rattle.cwr_check.specs.CheckText.{faulty_count};
+ghost use Rattle.cwr_report.specs.Findings.{added_in, findings_after, first_line, finding_of};
 ghost use Rattle.cwr_report.specs.Walks.{IsWalk};
 
 use crate::expected::expected_of;
 use crate::fields::fields_of;
 use crate::finding::Finding;
+use crate::judged::judge_and_count;
 use crate::walk::Walk;
 use cwr_call::Fault;
 use cwr_field::Memory;
-use cwr_grammar::{Lines, RawTransaction, Transactions};
-use cwr_rules::{AddedShares, added_shares, judge};
+use cwr_grammar::{RawTransaction, Transactions};
+use cwr_rules::{AddedShares, added_shares};
 use std::alloc::Allocator;
 
 /// Appends the findings of the transactions of a file, in order. Answers how many of the transactions have faults.
+///
+/// The submitter is named for contracts: the findings are those of its calls, and no fault of them depends on it.
 pub(crate) fn push_findings<A: Allocator + Copy>(
     alloc: A,
     findings: &mut Vec<Finding, A>,
     submitter: [u8; 11],
     transactions: &Transactions<A>,
 ) -> Result<u64, Memory>
-    requires clean { IsTrue (is_clean submitter) }
     requires placed { AllByRecursion IsPlaced transactions.now }
     requires few { lines_in transactions.now < 2 ^ 62 }
     ensures findings { OnOk result (findings.new.items ≡ findings.old.items ++ findings_after submitter 0 transactions.now) }
@@ -32,44 +34,36 @@ pub(crate) fn push_findings<A: Allocator + Copy>(
     let mut faulty = 0;
     let mut lines = 0;
     for transaction in transactions {
-        if push_findings_in(alloc, findings, submitter, &transaction, lines)? {
+        let judged = judge_and_count(alloc, &transaction)?;
+        let faults = judged.faults.as_slice();
+        if push_findings_in(alloc, findings, faults, &transaction, lines)? {
             faulty += 1;
         }
-        lines += line_count(transaction.lines());
+        lines += judged.lines;
     }
     Ok(faulty)
 }
 
-/// How many lines there are.
-fn line_count(lines: Lines) -> u64
-    requires { length lines < 2 ^ 62 }
-    ensures { result ≡ length lines.entry }
-{
-    lines.count() as u64
-}
-
-/// Appends the findings of a transaction, in order, and answers whether it has any. So many lines of transactions stand
-/// before it.
+/// Appends the findings of a transaction that has these faults, in order, and answers whether it has any. So many lines of
+/// transactions stand before it.
 fn push_findings_in<A: Allocator + Copy>(
     alloc: A,
     findings: &mut Vec<Finding, A>,
-    submitter: [u8; 11],
+    faults: &[Fault],
     transaction: &RawTransaction,
     lines: u64,
 ) -> Result<bool, Memory>
-    requires clean { IsTrue (is_clean submitter) }
     requires placed { IsPlaced transaction.now }
     requires few { lines < 2 ^ 62 }
-    ensures findings { OnOk result (findings.new.items ≡ findings.old.items ++ findings_in submitter (first_line lines transaction.now) transaction.now) }
-    ensures faulty { IfOk result (λ faulty. faulty ≡ has_faults submitter transaction.now) }
+    ensures findings { OnOk result (findings.new.items ≡ findings.old.items ++ map (finding_of (first_line lines transaction.now) transaction.now) faults.now) }
+    ensures faulty { IfOk result (λ faulty. faulty ≡ not (is_none_found faults.now)) }
 {
-    let call = judge(alloc, transaction, submitter)?;
-    if call.faults().is_empty() {
+    if faults.is_empty() {
         return Ok(false);
     }
     let first = 2 * transaction.group() as u64 + lines + 1;
     let added = added_shares(alloc, transaction)?;
-    push_findings_of(findings, call.faults(), transaction, first, &added)?;
+    push_findings_of(findings, faults, transaction, first, &added)?;
     Ok(true)
 }
 

@@ -17,6 +17,7 @@ mod json_report;
 mod json_runs;
 mod json_strings;
 mod json_values;
+mod judged;
 mod latest;
 pub mod laws;
 mod line_walk;

@@ -8,8 +8,8 @@ use Rattle.cwr_report.proofs.findings.push_findings.Given as goal
 -- what is found and what is left make the whole, and so do the faulty transactions and the lines; each one left is placed
 abbrev pub invariant-loop-transaction : goal.invariant-loop-transaction
 invariant-loop-transaction g l = record {
-  found : l.findings.items ++ findings_after l.submitter l.lines l.transaction-iterator ≡ l.fn.findings.items ++ findings_after l.submitter 0 l.transactions;
-  counted : l.faulty + faulty_count l.submitter l.transaction-iterator ≡ faulty_count l.submitter l.transactions;
+  found : l.findings.items ++ findings_after l.fn.submitter l.lines l.transaction-iterator ≡ l.fn.findings.items ++ findings_after l.fn.submitter 0 l.transactions;
+  counted : l.faulty + faulty_count l.fn.submitter l.transaction-iterator ≡ faulty_count l.fn.submitter l.transactions;
   passed : l.lines + lines_in l.transaction-iterator ≡ lines_in l.transactions;
   placed : AllByRecursion IsPlaced l.transaction-iterator;
 }

@@ -1,9 +1,6 @@
 use Rattle.cwr_report.proofs.Reported.{file_reported}
 use Rattle.cwr_report.proofs.reporting.report_of_file.Goals as goal
 
-pub push_findings-requires-clause-clean : goal.push_findings-requires-clause-clean
-push_findings-requires-clause-clean g c = c.requires.bounds.printable
-
 pub returns : goal.returns
 returns g c =
     let sub = c.requires.file.2 in
