@@ -11,3 +11,4 @@ pub mod Inside
 pub mod Told
 pub mod Naming
 pub mod Steps
+pub mod Sums

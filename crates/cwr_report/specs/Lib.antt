@@ -2,6 +2,7 @@ pub mod Fields
 pub mod Latest
 pub mod Walks
 pub mod Findings
+pub mod Added
 pub mod LongText
 pub mod Before
 pub mod BytesBefore

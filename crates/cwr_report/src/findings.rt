@@ -1,9 +1,10 @@
-ghost use Rattle.std.specs.Prelude.{◌≡◌, ◌+◌, ◌*◌, ◌<◌, ◌^◌, ◌++◌, map, not, IfOk, OnOk};
-ghost use Rattle.std.specs.List.{AllByRecursion};
+ghost use Rattle.std.specs.Prelude.{◌≡◌, ◌+◌, ◌*◌, ◌<◌, ◌^◌, ◌++◌, ℕ, map, not, IfOk, OnOk};
+ghost use Rattle.std.specs.List.{AllByRecursion, list_any};
 ghost use Rattle.cwr_call.specs.Lawful.{is_none_found};
 ghost use Rattle.cwr_grammar.specs.RawParts.{IsPlaced, lines_in};
 ghost use Rattle.cwr_check.specs.CheckText.{faulty_count};
-ghost use Rattle.cwr_report.specs.Findings.{added_in, findings_after, first_line, finding_of};
+ghost use Rattle.cwr_report.specs.Added.{is_of_sums, finding_with};
+ghost use Rattle.cwr_report.specs.Findings.{findings_after, first_line, finding_of};
 ghost use Rattle.cwr_report.specs.Walks.{IsWalk};
 
 use crate::expected::expected_of;
@@ -14,7 +15,7 @@ use crate::walk::Walk;
 use cwr_call::Fault;
 use cwr_field::Memory;
 use cwr_grammar::{RawTransaction, Transactions};
-use cwr_rules::{AddedShares, added_shares};
+use cwr_rules::{AddedShares, Totals, added_shares};
 use std::alloc::Allocator;
 
 /// Appends the findings of the transactions of a file, in order. Answers how many of the transactions have faults.
@@ -62,12 +63,47 @@ fn push_findings_in<A: Allocator + Copy>(
         return Ok(false);
     }
     let first = 2 * transaction.group() as u64 + lines + 1;
-    let added = added_shares(alloc, transaction)?;
+    let added = added_for(alloc, faults, transaction)?;
     push_findings_of(findings, faults, transaction, first, &added)?;
     Ok(true)
 }
 
-/// Appends the findings of faults of a transaction.
+/// What the shares of a transaction add up to, where one of these faults is of a rule that looks at it. The findings of
+/// others tell nothing of it.
+fn added_for<A: Allocator + Copy>(
+    alloc: A,
+    faults: &[Fault],
+    transaction: &RawTransaction,
+) -> Result<AddedShares, Memory>
+    ensures { IfOk result (λ added. (first : ℕ) → map (finding_with first transaction.now added) faults.now ≡ map (finding_of first transaction.now) faults.now) }
+{
+    if has_fault_of_sums(faults) {
+        let added = added_shares(alloc, transaction)?;
+        return Ok(added);
+    }
+    Ok(AddedShares {
+        ownership: Totals {
+            performing: 0,
+            mechanical: 0,
+            synchronization: 0,
+        },
+        over: None,
+    })
+}
+
+/// Whether a fault is of a rule that looks at what shares add up to.
+fn has_fault_of_sums(faults: &[Fault]) -> bool
+    ensures { result ≡ list_any is_of_sums faults.now }
+{
+    for found in faults {
+        if matches!(found.number, 11 | 12 | 13 | 15) {
+            return true;
+        }
+    }
+    false
+}
+
+/// Appends the findings of faults of a transaction, if its shares add up to this.
 fn push_findings_of<A: Allocator>(
     findings: &mut Vec<Finding, A>,
     faults: &[Fault],
@@ -75,9 +111,8 @@ fn push_findings_of<A: Allocator>(
     first: u64,
     added: &AddedShares,
 ) -> Result<(), Memory>
-    requires added { added.now ≡ added_in transaction.now }
     requires few { first < 2 ^ 63 }
-    ensures { OnOk result (findings.new.items ≡ findings.old.items ++ map (finding_of first transaction.now) faults.now) }
+    ensures { OnOk result (findings.new.items ≡ findings.old.items ++ map (finding_with first transaction.now added.now) faults.now) }
 {
     let mut walk = Walk::new(transaction.lines());
     for fault in faults {
@@ -96,9 +131,8 @@ fn finding_at(
     added: &AddedShares,
 ) -> Finding
     requires walk { IsWalk walk.now transaction.now.lines fault.now.sequence }
-    requires added { added.now ≡ added_in transaction.now }
     requires few { first < 2 ^ 63 }
-    ensures { result ≡ finding_of first transaction.now fault.now }
+    ensures { result ≡ finding_with first transaction.now added.now fault.now }
 {
     let line = walk.line();
     Finding {
