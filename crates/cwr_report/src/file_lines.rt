@@ -4,6 +4,7 @@ ghost use Rattle.cwr_report.specs.FileText.{counted, place_text, detail_text, by
 use crate::file_finding::{FileExpected, FileFinding, RecordPlace, WrongByte};
 use crate::file_words::{file_rule_text, kind_text};
 use crate::long_lines::{put_shown, put_spots, put_text};
+use crate::numbers::put_number;
 use cwr_field::{Memory, put_decimal};
 use cwr_record::WorkKind;
 use std::alloc::Allocator;
@@ -184,7 +185,7 @@ pub(crate) fn put_counted<A: Allocator>(
     ensures { OnOk result (out.new.items ≡ out.old.items ++ counted words.now number) }
 {
     out.extend_from_slice(words)?;
-    put_decimal(out, number)?;
+    put_number(out, number)?;
     Ok(())
 }
 

@@ -10,6 +10,7 @@ use crate::file_lines::put_counted;
 use crate::finding::Spot;
 use crate::json_strings::put_json_text;
 use crate::long_lines::{put_text, stands_at};
+use crate::numbers::put_number;
 use crate::words::name_text;
 use cwr_field::{Memory, put_decimal};
 use serde_json::Value;
@@ -50,7 +51,7 @@ pub(crate) fn put_option(out: &mut Vec<u8>, number: Option<u64>) -> Result<(), M
 {
     match number {
         None => put_text(out, b"null"),
-        Some(number) => put_decimal(out, number),
+        Some(number) => put_number(out, number),
     }
 }
 
@@ -97,7 +98,7 @@ fn put_field(out: &mut Vec<u8>, line: &[u8], spot: &Spot) -> Result<(), Memory>
     out.extend_from_slice(b"{\"bytes\":")?;
     put_json_text(out, stands_at(line, spot.column))?;
     out.extend_from_slice(b",\"length\":")?;
-    put_decimal(out, spot.column.width as u64)?;
+    put_number(out, spot.column.width as u64)?;
     out.extend_from_slice(b",\"name\":")?;
     put_json_text(out, name_text(spot.name))?;
     out.extend_from_slice(b",\"start\":")?;

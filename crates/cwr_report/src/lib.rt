@@ -22,6 +22,7 @@ mod latest;
 pub mod laws;
 mod line_walk;
 mod long_lines;
+mod numbers;
 mod reporting;
 mod telling;
 mod walk;

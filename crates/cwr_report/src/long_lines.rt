@@ -2,6 +2,7 @@ ghost use Rattle.std.specs.Prelude.{◌≡◌, ◌++◌, map, OnOk};
 ghost use Rattle.cwr_report.specs.LongText.{shown, stands_at, spot_text, spots_text, percent_text, after_text, digit_text, party_text, ownership_text, collection_text, collected_text, wanted_text, expected_text, record_text, transaction_text, message_of, broken_text, told_of};
 
 use crate::finding::{Expected, Finding, Spot};
+use crate::numbers::put_number;
 use crate::words::{followers_text, name_text, rule_text};
 use cwr_acknowledgement::message_text;
 use cwr_field::{LEAST_PRINTABLE, Memory, put_decimal, put_digits};
@@ -43,9 +44,9 @@ fn put_transaction<A: Allocator>(out: &mut Vec<u8, A>, finding: &Finding) -> Res
     ensures { OnOk result (out.new.items ≡ out.old.items ++ transaction_text finding.now) }
 {
     out.extend_from_slice(b" of transaction ")?;
-    put_decimal(out, finding.transaction as u64)?;
+    put_number(out, finding.transaction as u64)?;
     out.extend_from_slice(b" in group ")?;
-    put_decimal(out, finding.group as u64)?;
+    put_number(out, finding.group as u64)?;
     Ok(())
 }
 
@@ -54,7 +55,7 @@ fn put_broken<A: Allocator>(out: &mut Vec<u8, A>, number: u8) -> Result<(), Memo
     ensures { OnOk result (out.new.items ≡ out.old.items ++ broken_text number) }
 {
     out.extend_from_slice(b": J")?;
-    put_decimal(out, number as u64)?;
+    put_number(out, number as u64)?;
     out.extend_from_slice(b" ")?;
     out.extend_from_slice(message_of(number))?;
     out.extend_from_slice(b"\n")?;
@@ -100,7 +101,7 @@ fn put_spot<A: Allocator>(
     out.extend_from_slice(b", start ")?;
     put_decimal(out, spot.column.start as u64)?;
     out.extend_from_slice(b", length ")?;
-    put_decimal(out, spot.column.width as u64)?;
+    put_number(out, spot.column.width as u64)?;
     out.extend_from_slice(b": \"")?;
     put_shown(out, stands_at(line, spot.column))?;
     out.extend_from_slice(b"\"\n")?;
