@@ -12,3 +12,4 @@ pub mod Told
 pub mod Naming
 pub mod Steps
 pub mod Sums
+pub mod Shown
