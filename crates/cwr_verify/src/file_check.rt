@@ -118,6 +118,7 @@ fn work_again<A: Allocator + Copy + Drop>(
             (outcome, past.is_over())
         }
         Err(FileRefusal::Fault { number, line }) => (FileOutcome::Refused { number, line }, false),
+        // No file was judged that was refused so.
         Err(FileRefusal::Memory) => (not_worked(Why::Memory), false),
     }
 }

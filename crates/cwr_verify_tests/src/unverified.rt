@@ -102,3 +102,34 @@ fn missing(sequence: u32) -> Unverified {
 fn tells_what_does_not_fit(rt: HostRuntime) -> Result<(), Fail> {
     expect_told(rt.alloc())
 }
+
+/// What is told of a file with a fault, and blanks behind it up to so many bytes.
+fn expect_padded(alloc: Global, size: usize, why: Unverified) -> Result<(), Fail> {
+    let rivals = rival_claims(alloc)?;
+    let first = rivals[0].as_slice();
+    let mut answers = Vec::new(alloc);
+    let book = work(alloc, Book::new(alloc, 10), first, &mut answers)?.reopened();
+    if answers.is_empty() {
+        return Err(Fail::from("an answer"));
+    }
+    let mut refused = miscounted(alloc)?;
+    refused.resize(size, b' ')?;
+    let acknowledgements = [answers[0].as_slice(), answers[0].as_slice()];
+    let told = verified(alloc, &book, [first, &refused], acknowledgements).err();
+    same("why", &told, &Some(why))
+}
+
+#[test]
+fn tells_a_fault_of_a_file_as_long_as_may_be(rt: HostRuntime) -> Result<(), Fail> {
+    let why = Unverified::Refused {
+        file: 1,
+        number: 9,
+        line: 5,
+    };
+    expect_padded(rt.alloc(), 16_777_216, why)
+}
+
+#[test]
+fn tells_a_file_that_is_too_long_before_its_fault(rt: HostRuntime) -> Result<(), Fail> {
+    expect_padded(rt.alloc(), 16_777_217, Unverified::TooLong { file: 1 })
+}
