@@ -69,10 +69,13 @@ fn hand_in_all<H: Window<Call<A>>, G: Gate, A: Allocator + Copy + Drop>(
     (window, Ok(()))
 }
 
-/// Hands the transactions of a well-formed file in at the window, and writes their acknowledgement, as [`work_file`] does
-/// once it has judged the file.
+/// Hands the transactions of a well-formed file in at the window, in file order, and writes their acknowledgement, as
+/// [`work_file`] does once it has judged the file.
 ///
-/// A transaction that gets no reply ends the job. The list of replies is reserved before the first one is handed in.
+/// The file is what [`judge_file`](crate::judge_file) or [`judge_source`] answers for one of at most 16,777,216 bytes.
+/// `worker`, from 1, is told to the gate alone. A transaction that gets no reply ends the job, and the entries made before
+/// it stay; nothing is written then. The list of replies is reserved before the first one is handed in. The window comes
+/// back with the outcome, marked where the book was full for the job and else as it was.
 pub fn work_judged<H: Window<Call<A>>, G: Gate, W: Sink, A: Allocator + Copy + Drop>(
     alloc: A,
     window: H,
