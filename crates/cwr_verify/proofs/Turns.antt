@@ -1,6 +1,6 @@
 -- Who waits under a key, by turns: by key, and then by file.
-use Rattle.std.proofs.Common.{◌≡◌, ◌≢◌, ◌∙◌, ℕ, zero, suc, ◌+◌, ◌<◌, ◌≤◌, Bool, true, false, List, [], ◌∷◌, length, get_or, set, Some, None, refl, sym, ap, subst, ⊎_elim, arith}
-use Rattle.std.specs.Prelude.{◌||◌, slice_get}
+use Rattle.std.proofs.Common.{◌≡◌, ◌≢◌, ◌∙◌, ◌⊎◌, inl, inr, ℕ, zero, suc, ◌+◌, ◌<◌, ◌≤◌, Bool, true, false, List, [], ◌∷◌, length, get_or, set, Some, None, refl, sym, ap, subst, ⊎_elim, arith}
+use Rattle.std.specs.Prelude.{◌||◌, Option, slice_get}
 use Rattle.std.specs.BTreeSet.{BTreeSet, contains, keys_between, IsKeyInRange, IsOrdered, Updates}
 use Rattle.std.specs.BTreeMap.Range.{range_contains, Places}
 use Rattle.std.specs.Cmp.{IsTotalOrder, nat_cmp_is}
@@ -14,11 +14,12 @@ use Rattle.std.proofs.lemmas.List.{length-set, get_or-set_same, get_or-set_other
 use Rattle.std.proofs.lemmas.Option.{slice_get_read, get_or_from_slice_get}
 use Rattle.std.proofs.lemmas.Cmp.{ranked, tied_itself, alike_right, nat_cmp_total, on_total, then_total}
 use Rattle.std.proofs.lemmas.Map.Keys.{Less-from_sorted}
+use Rattle.std.proofs.lemmas.Map.Lookups.{CmpEqualImpliesEq, exact_unsigned, exact_pairs}
 use Rattle.std.proofs.lemmas.Map.Views.{any-filter_same, range_contains-from_IsInRange, by_place}
 use Rattle.cwr_call.specs.CallValue.{CallValue}
 use Rattle.work_registry.specs.EntryValue.{EntryValue}
 use Rattle.cwr_verify.specs.declared.waiting.Key.{Key}
-use Rattle.cwr_verify.specs.Wanting.{Wanting, CanHaveMade, IsFirst, HasMovedOn, AreWaiting, found_next, key_of, key_cmp, turn_cmp}
+use Rattle.cwr_verify.specs.Wanting.{Wanting, CanHaveMade, IsFirst, HasMovedOn, AreWaiting, NoOthersWait, IsTurnOf, WantsUnder, found_next, key_of, key_cmp, turn_cmp}
 
 -- ---- the order of turns
 
@@ -262,3 +263,113 @@ waits_on all now file before between after gone key moved waits removed put its 
     ∙ (removed.2 (key_of call, other) (apart (gone, file) (key_of call, other) (λ same. differs (sym same)))
     ∙ waits other d call (omega (arith, lt, moved.files)) (subst (λ (w : Wanting). slice_get w.calls w.found ≡ Some call) (moved.others other d differs) is)))
     (cases_eq other file)
+
+-- ---- nobody else waits
+
+exact_two : CmpEqualImpliesEq (λ (x y : ℕ × ℕ). ordering_then (nat_cmp x.0 y.0) (nat_cmp x.1 y.1))
+exact_two = exact_pairs nat_cmp nat_cmp exact_unsigned exact_unsigned
+
+exact_three : CmpEqualImpliesEq (λ (x y : ℕ × (ℕ × ℕ)). ordering_then (nat_cmp x.0 y.0) (ordering_then (nat_cmp x.1.0 y.1.0) (nat_cmp x.1.1 y.1.1)))
+exact_three = exact_pairs nat_cmp (λ (x y : ℕ × ℕ). ordering_then (nat_cmp x.0 y.0) (nat_cmp x.1 y.1)) exact_unsigned exact_two
+
+exact_four : CmpEqualImpliesEq (λ (x y : ℕ × (ℕ × (ℕ × ℕ))).
+    ordering_then (nat_cmp x.0 y.0) (ordering_then (nat_cmp x.1.0 y.1.0) (ordering_then (nat_cmp x.1.1.0 y.1.1.0) (nat_cmp x.1.1.1 y.1.1.1))))
+exact_four =
+    exact_pairs nat_cmp (λ (x y : ℕ × (ℕ × ℕ)). ordering_then (nat_cmp x.0 y.0) (ordering_then (nat_cmp x.1.0 y.1.0) (nat_cmp x.1.1 y.1.1))) exact_unsigned exact_three
+
+abbrev key_with : ℕ × (ℕ × (ℕ × ℕ)) → Key
+key_with t = record { number_end = t.0; number_front = t.1.0; submitter_end = t.1.1.0; submitter_front = t.1.1.1 }
+
+exact_key : CmpEqualImpliesEq key_cmp
+exact_key x y same =
+    ap key_with
+    (exact_four (x.number_end, (x.number_front, (x.submitter_end, x.submitter_front))) (y.number_end, (y.number_front, (y.submitter_end, y.submitter_front))) same)
+
+exact_turn : CmpEqualImpliesEq turn_cmp
+exact_turn = exact_pairs key_cmp nat_cmp exact_key exact_unsigned
+
+-- two turns are one, or are told apart
+told_apart : (o : Ordering) → (o ≡ Equal) ⊎ (is_eq o ≡ false)
+told_apart Less = inr refl
+told_apart Equal = inl refl
+told_apart Greater = inr refl
+
+-- who waits after one has left waited before, and is another
+pub stayed : (before after : BTreeSet (Key × ℕ)) (gone t : Key × ℕ) → Updates turn_cmp before after gone false → contains turn_cmp after t ≡ true
+    → (contains turn_cmp before t ≡ true) × (gone ≡ t → ⊥)
+stayed before after gone t removed has =
+    ⊎_elim
+    (λ (same : turn_cmp gone t ≡ Equal).
+    absurd (let bad : true ≡ false = sym has ∙ (ap (contains turn_cmp after) (sym (exact_turn gone t same)) ∙ removed.1) in cc))
+    (λ (other : is_eq (turn_cmp gone t) ≡ false). (
+      sym (removed.2 t other) ∙ has,
+      λ is. let bad : true ≡ false = sym (ap is_eq (ap (turn_cmp gone) (sym is) ∙ tied_itself turn_total gone)) ∙ other in cc,
+    ))
+    (told_apart (turn_cmp gone t))
+
+-- who waits after one has come is that one, or waited before
+pub came : (before after : BTreeSet (Key × ℕ)) (new t : Key × ℕ) → Updates turn_cmp before after new true → contains turn_cmp after t ≡ true
+    → (new ≡ t) ⊎ (contains turn_cmp before t ≡ true)
+came before after new t put has =
+    ⊎_elim
+    (λ (same : turn_cmp new t ≡ Equal). inl (exact_turn new t same))
+    (λ (other : is_eq (turn_cmp new t) ≡ false). inr (sym (put.2 t other) ∙ has))
+    (told_apart (turn_cmp new t))
+
+-- the same of the files below this one
+abbrev pub NoOthersWaitBelow : ℕ → List Wanting → BTreeSet (Key × ℕ) → Type 0
+NoOthersWaitBelow files all waiting = (key : Key) (file : ℕ) → contains turn_cmp waiting (key, file) ≡ true
+    → (file < files) × ((d : Wanting) → WantsUnder key (get_or all file d))
+
+pub none_more : (files : ℕ) (all : List Wanting) (waiting : BTreeSet (Key × ℕ)) → NoOthersWaitBelow files all waiting → NoOthersWaitBelow (files + 1) all waiting
+none_more files all waiting only key file has = let old = only key file has in (omega (arith, old.0), old.1)
+
+pub one_more : (files : ℕ) (all : List Wanting) (before after : BTreeSet (Key × ℕ)) (key : Key) → ((d : Wanting) → WantsUnder key (get_or all files d))
+    → Updates turn_cmp before after (key, files) true → NoOthersWaitBelow files all before → NoOthersWaitBelow (files + 1) all after
+one_more files all before after key its put only k f has =
+    ⊎_elim
+    (λ (same : (key, files) ≡ (k, f)).
+    let file_is : files ≡ f = ap (λ (t : Key × ℕ). t.1) same in
+    (omega (arith, file_is), λ d. subst (λ (t : Key × ℕ). WantsUnder t.0 (get_or all t.1 d)) same (its d)))
+    (λ (was : contains turn_cmp before (k, f) ≡ true). let old = only k f was in (omega (arith, old.0), old.1))
+    (came before after (key, files) (k, f) put has)
+
+pub one_call : (next : Option CallValue) (x y : CallValue) → next ≡ Some x → next ≡ Some y → x ≡ y
+one_call next x y a b = let same : Some x ≡ Some y = sym a ∙ b in cc
+
+-- who waits under a key, and whose next call is that of an entry, waits under the key of the entry's call
+turn_key : (all : List Wanting) (file : ℕ) (e : EntryValue) (key : Key) → ((d : Wanting) → CanHaveMade (get_or all file d) e)
+    → ((d : Wanting) → WantsUnder key (get_or all file d)) → key_of e.call ≡ key
+turn_key all file e key made wants =
+    let d : Wanting = record { calls = []; told = []; found = 0 } in
+    let w : WantsUnder key (get_or all file d) = wants d in
+    ap key_of (one_call (slice_get (get_or all file d).calls (get_or all file d).found) e.call w.call (made d).call w.next) ∙ sym w.its
+
+pub nobody : (waiting : BTreeSet (Key × ℕ)) (t : Key × ℕ) → waiting.keys ≡ [] → contains turn_cmp waiting t ≡ false
+nobody waiting t none = ap (list_any (λ (x : Key × ℕ). is_eq (turn_cmp t x))) none
+
+-- a file that has moved on has left its place: who still waits is another, and waits for the same call
+pub others_stay : (all now : List Wanting) (file : ℕ) (before after : BTreeSet (Key × ℕ)) (e : EntryValue)
+    → HasMovedOn all now file → ((d : Wanting) → CanHaveMade (get_or all file d) e) → NoOthersWait all before
+    → Updates turn_cmp before after (key_of e.call, file) false → NoOthersWait now after
+others_stay all now file before after e moved made only removed k f has =
+    let kept = stayed before after (key_of e.call, file) (k, f) removed has in
+    let old : IsTurnOf all k f = only k f kept.0 in
+    let differs : f ≡ file → ⊥ = λ same.
+    kept.1 (λ i. (turn_key all file e k made (subst (λ (g : ℕ). (d : Wanting) → WantsUnder k (get_or all g d)) same old.wants) i, sym same i)) in
+    record {
+      known = let far : f < length all = old.known in omega (arith, far, moved.files);
+      wants = λ d. subst (WantsUnder k) (sym (moved.others f d differs)) (old.wants d);
+    }
+
+-- a file that waits again, for its next call
+pub one_waits_again : (now : List Wanting) (file : ℕ) (before after : BTreeSet (Key × ℕ)) (key : Key) → file < length now → ((d : Wanting) → WantsUnder key (get_or now file d))
+    → Updates turn_cmp before after (key, file) true → NoOthersWait now before → NoOthersWait now after
+one_waits_again now file before after key known its put only k f has =
+    ⊎_elim
+    (λ (same : (key, file) ≡ (k, f)). record {
+      known = subst (λ (t : Key × ℕ). t.1 < length now) same known;
+      wants = λ d. subst (λ (t : Key × ℕ). WantsUnder t.0 (get_or now t.1 d)) same (its d);
+    })
+    (λ (was : contains turn_cmp before (k, f) ≡ true). only k f was)
+    (came before after (key, file) (k, f) put has)

@@ -65,3 +65,18 @@ turn_cmp one other = ordering_then (key_cmp one.0 other.0) (nat_cmp one.1 other.
 abbrev pub AreWaiting : List Wanting → BTreeSet (Key × ℕ) → Type 0
 AreWaiting all waiting = (file : ℕ) (d : Wanting) (call : CallValue) → file < length all
     → slice_get (slice_index_or all file d).calls (slice_index_or all file d).found ≡ Some call → contains turn_cmp waiting (key_of call, file) ≡ true
+
+-- a file's next call is looked up by the key
+pub record WantsUnder (key : Key) (wanting : Wanting) : Type 0 where
+  pub call : CallValue
+  pub next : slice_get wanting.calls wanting.found ≡ Some call
+  pub its : key ≡ key_of call
+
+-- there is the file, and its next call is looked up by the key
+pub record IsTurnOf (all : List Wanting) (key : Key) (file : ℕ) : Type 0 where
+  pub known : file < length all
+  pub wants : (d : Wanting) → WantsUnder key (slice_index_or all file d)
+
+-- no file waits under another key than that of its next call, and none that wants no call
+abbrev pub NoOthersWait : List Wanting → BTreeSet (Key × ℕ) → Type 0
+NoOthersWait all waiting = (key : Key) (file : ℕ) → contains turn_cmp waiting (key, file) ≡ true → IsTurnOf all key file

@@ -1,7 +1,7 @@
 //! Which file each entry answers, as the acknowledgements let one think. Nothing rests on it: it is checked.
 ghost use Rattle.std.specs.Prelude.{◌≡◌, length, map, IfOk};
 ghost use Rattle.cwr_verify.specs.Reading.{asked_in};
-ghost use Rattle.cwr_verify.specs.Wanting.{AreWaiting};
+ghost use Rattle.cwr_verify.specs.Wanting.{AreWaiting, NoOthersWait};
 
 use crate::reading::Reading;
 use crate::sent::SentFile;
@@ -34,7 +34,8 @@ fn owners_of<A: Allocator + Copy>(
     waiting: &mut Waiting<A>,
     history: &[Entry<A>],
 ) -> Result<Vec<usize, A>, AllocError>
-    requires { AreWaiting wanted.old waiting.old }
+    requires waiting { AreWaiting wanted.old waiting.old }
+    requires no_others { NoOthersWait wanted.old waiting.old }
     ensures { IfOk result (λ owners. length owners.items ≡ length history.now) }
 {
     let mut owners = Vec::new(alloc);

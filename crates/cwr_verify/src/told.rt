@@ -49,7 +49,7 @@ pub(crate) fn told_in<A: Allocator>(
     Ok(all)
 }
 
-/// What a line tells of a transaction, where it is its acknowledgement and has a status. Nothing else is read of it.
+/// What a line tells of a transaction, where it is its acknowledgement and has a status. Its other fields are only tested.
 fn told_by(line: &[u8]) -> Option<Told>
     ensures { result ≡ told_by line.now }
 {

@@ -1,8 +1,7 @@
 //! What files want of a history.
 ghost use Rattle.std.specs.Prelude.{◌≡◌, ◌↔◌, ◌<◌, IsTrue, IfOk, OnOk, length, slice_get, MatchOption};
 ghost use Rattle.cwr_verify.specs.Reading.{asked_in};
-ghost use Rattle.cwr_verify.specs.Wanting.{CanHaveMade, IsFirst, HasMovedOn, AreWaiting, found_next, key_of};
-ghost use Rattle.cwr_call.specs.CallValue.{CallValue};
+ghost use Rattle.cwr_verify.specs.Wanting.{CanHaveMade, IsFirst, HasMovedOn, AreWaiting, NoOthersWait, WantsUnder, found_next};
 
 use crate::same_call::is_same_call;
 use crate::told::Told;
@@ -65,7 +64,7 @@ impl<'r, A: Allocator> Wanted<'r, A> {
 
     /// What the next transaction's call is looked up by, where there is one.
     fn next_key(&self) -> Option<Key>
-        ensures { MatchOption result (slice_get self.now.calls self.now.found ≡ None) (λ key. (call : CallValue) → slice_get self.now.calls self.now.found ≡ Some call → key ≡ key_of call) }
+        ensures { MatchOption result (slice_get self.now.calls self.now.found ≡ None) (λ key. WantsUnder key self.now) }
     {
         match self.next_call() {
             Some(call) => Some(Key::of(call)),
@@ -87,7 +86,8 @@ pub(crate) fn waiting_of<A: Allocator + Copy>(
     alloc: A,
     wanted: &[Wanted<A>],
 ) -> Result<Waiting<A>, AllocError>
-    ensures { IfOk result (AreWaiting wanted.now) }
+    ensures waiting { IfOk result (AreWaiting wanted.now) }
+    ensures no_others { IfOk result (NoOthersWait wanted.now) }
 {
     let mut waiting = BTreeSet::new(alloc);
     for (file, wanted) in wanted.iter().enumerate() {
@@ -124,10 +124,12 @@ pub(crate) fn owner_of<A: Allocator + Copy>(
     waiting: &mut Waiting<A>,
     entry: &Entry<A>,
 ) -> Result<usize, AllocError>
-    requires { AreWaiting wanted.old waiting.old }
+    requires waiting { AreWaiting wanted.old waiting.old }
+    requires no_others { NoOthersWait wanted.old waiting.old }
     ensures first { IfOk result (IsFirst wanted.old entry.now) }
     ensures moved { IfOk result (HasMovedOn wanted.old wanted.new) }
     ensures waiting { OnOk result (AreWaiting wanted.new waiting.new) }
+    ensures no_others { OnOk result (NoOthersWait wanted.new waiting.new) }
 {
     let Some(file) = first_of(wanted, waiting, entry) else {
         return Ok(wanted.len());

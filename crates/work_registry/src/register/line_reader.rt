@@ -79,8 +79,8 @@ impl<A: Allocator + Copy + Drop> LineReader<A> {
         Ok(Some(count))
     }
 
-    /// Reads a line, which has no LF at its end here, and keeps its entry as the last of the history, where there is room
-    /// for it: the first line has none. With a refusal nothing is changed.
+    /// Reads a line, which has no LF at its end here, and keeps its entry, which the first line has not, as the last of the
+    /// history, which has room for one more. With a refusal nothing is changed.
     pub(super) fn take_line(
         &mut self,
         line: &[u8],

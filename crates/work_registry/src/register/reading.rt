@@ -109,7 +109,7 @@ fn enter_told<A: Allocator + Copy + Drop>(
 }
 
 /// Reads the next line, without the LF at its end, as an entry, on which the ledger decides anew, and keeps it as the last
-/// of the history, where there is room for it.
+/// of the history, which has room for it.
 ///
 /// With a refusal both are as they were.
 #[inline(always)]

@@ -1,9 +1,11 @@
-use Rattle.std.proofs.Common.{◌≡◌, ◌∙◌, List, ◌<◌, length, set, Some, None, sym, ap, subst, arith}
+use Rattle.std.proofs.Common.{◌≡◌, ◌∙◌, ℕ, List, ◌<◌, length, get_or, set, false, None, sym, ap, subst, arith}
 use Rattle.std.specs.Prelude.{slice_get}
 use Rattle.std.proofs.lemmas.List.{get_or_default, length-set}
 use Rattle.std.proofs.lemmas.Option.{slice_get_within}
-use Rattle.cwr_verify.proofs.Turns.{moved_on, stops_waiting, waits_on}
-use Rattle.cwr_verify.specs.Wanting.{Wanting, found_next}
+use Rattle.std.specs.BTreeSet.{Updates}
+use Rattle.cwr_verify.proofs.Turns.{moved_on, one_call, one_waits_again, others_stay, stops_waiting, waits_on}
+use Rattle.cwr_verify.specs.Wanting.{Wanting, HasMovedOn, WantsUnder, found_next, key_of, turn_cmp}
+use Rattle.cwr_verify.specs.declared.waiting.Key.{Key}
 use Rattle.cwr_verify.proofs.wanted.owner_of.Goals as goal
 
 pub pass-requires : goal.pass-requires
@@ -26,12 +28,14 @@ returns-in_ok-insert-clause-waiting g c =
     let known : c.in-Some.file < length c.args.wanted.now = c.in-Some.ensures.1 in
     let now : List Wanting = set c.args.wanted.now c.in-Some.file c.pass.new.self in
     let still : c.in-Some.file < length now = omega (arith, known, length-set c.args.wanted.now c.in-Some.file c.pass.new.self) in
-    waits_on c.args.wanted.now now c.in-Some.file c.args.waiting.now c.remove.new.self c.insert.new.self c.of.result c.in-Some-next_key.key
+    let key : Key = c.in-Some-next_key.key in
+    let wants : (d : Wanting) → WantsUnder key (get_or now c.in-Some.file d) =
+    λ d. subst (WantsUnder key) (get_or_default now c.in-Some.file c.index-wanted-file-2.result d still) c.in-Some-next_key.ensures in
+    waits_on c.args.wanted.now now c.in-Some.file c.args.waiting.now c.remove.new.self c.insert.new.self c.of.result key
     (moved_on c.args.wanted.now c.in-Some.file c.index-wanted-file.result c.pass.new.self known c.index-wanted-file.is
     (c.pass.ensures ∙ ap found_next (sym c.index-wanted-file.is)))
-    c.requires c.remove.ensures.updates c.in_ok-insert.ensures.updates
-    (λ d call is. c.in-Some-next_key.ensures call
-    (subst (λ (w : Wanting). slice_get w.calls w.found ≡ Some call) (get_or_default now c.in-Some.file d c.index-wanted-file-2.result still) is))
+    c.requires.waiting c.remove.ensures.updates c.in_ok-insert.ensures.updates
+    (λ d call is. (wants d).its ∙ ap key_of (one_call _ (wants d).call call (wants d).next is))
 
 pub returns-in_default-next_key-clause-waiting : goal.returns-in_default-next_key-clause-waiting
 returns-in_default-next_key-clause-waiting g c =
@@ -41,5 +45,32 @@ returns-in_default-next_key-clause-waiting g c =
     stops_waiting c.args.wanted.now now c.in-Some.file c.args.waiting.now c.remove.new.self c.of.result
     (moved_on c.args.wanted.now c.in-Some.file c.index-wanted-file.result c.pass.new.self known c.index-wanted-file.is
     (c.pass.ensures ∙ ap found_next (sym c.index-wanted-file.is)))
-    c.requires c.remove.ensures.updates
+    c.requires.waiting c.remove.ensures.updates
     (λ d. subst (λ (w : Wanting). slice_get w.calls w.found ≡ None) (get_or_default now c.in-Some.file c.index-wanted-file-2.result d still) c.in_default-next_key.ensures)
+
+pub returns-in_ok-insert-clause-no_others : goal.returns-in_ok-insert-clause-no_others
+returns-in_ok-insert-clause-no_others g c =
+    let known : c.in-Some.file < length c.args.wanted.now = c.in-Some.ensures.1 in
+    let now : List Wanting = set c.args.wanted.now c.in-Some.file c.pass.new.self in
+    let still : c.in-Some.file < length now = omega (arith, known, length-set c.args.wanted.now c.in-Some.file c.pass.new.self) in
+    let key : Key = c.in-Some-next_key.key in
+    let key_is : c.of.result ≡ key_of c.args.entry.now.call = c.of.ensures ∙ ap key_of c.call.ensures in
+    one_waits_again now c.in-Some.file c.remove.new.self c.insert.new.self key still
+    (λ d. subst (WantsUnder key) (get_or_default now c.in-Some.file c.index-wanted-file-2.result d still) c.in-Some-next_key.ensures)
+    c.in_ok-insert.ensures.updates
+    (others_stay c.args.wanted.now now c.in-Some.file c.args.waiting.now c.remove.new.self c.args.entry.now
+    (moved_on c.args.wanted.now c.in-Some.file c.index-wanted-file.result c.pass.new.self known c.index-wanted-file.is
+    (c.pass.ensures ∙ ap found_next (sym c.index-wanted-file.is)))
+    (λ d. c.in-Some.ensures.0.made d known) c.requires.no_others
+    (subst (λ (k : Key). Updates turn_cmp c.args.waiting.now c.remove.new.self (k, c.in-Some.file) false) key_is c.remove.ensures.updates))
+
+pub returns-in_default-next_key-clause-no_others : goal.returns-in_default-next_key-clause-no_others
+returns-in_default-next_key-clause-no_others g c =
+    let known : c.in-Some.file < length c.args.wanted.now = c.in-Some.ensures.1 in
+    let now : List Wanting = set c.args.wanted.now c.in-Some.file c.pass.new.self in
+    let key_is : c.of.result ≡ key_of c.args.entry.now.call = c.of.ensures ∙ ap key_of c.call.ensures in
+    others_stay c.args.wanted.now now c.in-Some.file c.args.waiting.now c.remove.new.self c.args.entry.now
+    (moved_on c.args.wanted.now c.in-Some.file c.index-wanted-file.result c.pass.new.self known c.index-wanted-file.is
+    (c.pass.ensures ∙ ap found_next (sym c.index-wanted-file.is)))
+    (λ d. c.in-Some.ensures.0.made d known) c.requires.no_others
+    (subst (λ (k : Key). Updates turn_cmp c.args.waiting.now c.remove.new.self (k, c.in-Some.file) false) key_is c.remove.ensures.updates)
