@@ -12,4 +12,3 @@ pub mod Told
 pub mod Naming
 pub mod Steps
 pub mod Sums
-pub mod Shown

@@ -1,5 +1,4 @@
-ghost use Rattle.std.specs.Prelude.{◌≡◌, ◌==◌, ◌++◌, map, OnOk};
-ghost use Rattle.std.specs.List.{list_all};
+ghost use Rattle.std.specs.Prelude.{◌≡◌, ◌++◌, map, OnOk};
 ghost use Rattle.cwr_report.specs.LongText.{shown, stands_at, spot_text, spots_text, percent_text, after_text, digit_text, party_text, ownership_text, collection_text, collected_text, wanted_text, expected_text, record_text, transaction_text, message_of, broken_text, told_of};
 
 use crate::finding::{Expected, Finding, Spot};
@@ -117,25 +116,14 @@ pub(crate) fn stands_at(line: &[u8], column: Column) -> &[u8]
     rest.get(..column.width).unwrap_or(rest)
 }
 
-/// Appends bytes, with a question mark for each below 32 and each 127. Most have none of these, and are appended at once.
+/// Appends bytes, with a question mark for each below 32 and each 127.
 pub(crate) fn put_shown<A: Allocator>(out: &mut Vec<u8, A>, bytes: &[u8]) -> Result<(), Memory>
     ensures { OnOk result (out.new.items ≡ out.old.items ++ map shown bytes.now) }
 {
-    if are_shown(bytes) {
-        out.extend_from_slice(bytes)?;
-        return Ok(());
-    }
     for byte in bytes {
         out.push(shown(*byte))?;
     }
     Ok(())
-}
-
-/// Whether each byte is shown as it is.
-fn are_shown(bytes: &[u8]) -> bool
-    ensures { result ≡ list_all (λ byte. shown byte == byte) bytes.now }
-{
-    bytes.iter().all(|byte| shown(*byte) == *byte)
 }
 
 fn shown(byte: u8) -> u8
