@@ -1,10 +1,10 @@
-use Rattle.std.proofs.Common.{◌≡◌, ◌∙◌, ℕ, List, ◌<◌, length, get_or, set, false, None, sym, ap, subst, arith}
+use Rattle.std.proofs.Common.{◌≡◌, ◌∙◌, List, ◌<◌, length, get_or, set, false, None, sym, ap, subst, arith}
 use Rattle.std.specs.Prelude.{slice_get}
 use Rattle.std.proofs.lemmas.List.{get_or_default, length-set}
 use Rattle.std.proofs.lemmas.Option.{slice_get_within}
 use Rattle.std.specs.BTreeSet.{Updates}
 use Rattle.cwr_verify.proofs.Turns.{moved_on, one_call, one_waits_again, others_stay, stops_waiting, waits_on}
-use Rattle.cwr_verify.specs.Wanting.{Wanting, HasMovedOn, WantsUnder, found_next, key_of, turn_cmp}
+use Rattle.cwr_verify.specs.Wanting.{Wanting, WantsUnder, found_next, key_of, turn_cmp}
 use Rattle.cwr_verify.specs.declared.waiting.Key.{Key}
 use Rattle.cwr_verify.proofs.wanted.owner_of.Goals as goal
 
