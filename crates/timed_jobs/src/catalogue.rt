@@ -34,11 +34,11 @@ pub(crate) struct Order {
 }
 
 /// The forms of the works of a file.
-fn forms_of(alloc: Global, chance: &mut Chance, order: &Order) -> Result<Vec<Form>, Memory> {
+fn forms_of(alloc: Global, order: &Order) -> Result<Vec<Form>, Memory> {
     let Order { kind, line_end, .. } = *order;
     match order.style {
         Style::Thin => Ok(vec![in alloc; thin(alloc, kind, line_end)?]?),
-        Style::Mixed => many_mixed(alloc, chance, kind, line_end),
+        Style::Mixed => many_mixed(alloc, kind, line_end),
         Style::Shared => {
             let small = part(alloc, kind, line_end, 1_000)?;
             let large = part(alloc, kind, line_end, 4_000)?;
@@ -87,7 +87,7 @@ pub(crate) fn file_with_places(
     chance: &mut Chance,
     order: &Order,
 ) -> Result<(Vec<u8>, Vec<usize>), Memory> {
-    let forms = forms_of(alloc, chance, order)?;
+    let forms = forms_of(alloc, order)?;
     let mut sheet = Sheet::begin(alloc, order.submitter, order.kind, order.line_end)?;
     let mut places = Vec::new(alloc);
     let mut number = order.first;

@@ -1,6 +1,5 @@
 //! Transactions to be filled in.
 
-use crate::chance::Chance;
 use crate::digits::{eight, five, nine, put};
 use cwr_field::Memory;
 use std::alloc::Global;
@@ -211,19 +210,21 @@ pub(crate) fn part(
     Ok(form)
 }
 
-/// A work of 3 to 20 records: publishers, writers, where they collect, other titles and cross-references.
+/// A work of 3 to 20 records: publishers, writers, where they collect, other titles and cross-references. How many of each
+/// follows from a number: each sixteen numbers one after the other give each count of publishers, none to three, with each
+/// count of writers, one to four.
 pub(crate) fn mixed(
     alloc: Global,
-    chance: &mut Chance,
+    number: u32,
     kind: &[u8],
     line_end: LineEnd,
 ) -> Result<Form, Memory> {
     let mut form = Form::new(alloc, kind, line_end)?;
-    let publishers = chance.below(4);
+    let publishers = number % 4;
     for publisher in 0..publishers {
         form.push_publisher(100 + publisher, 5_000 / publishers.max(1))?;
     }
-    let writers = 1 + chance.below(4);
+    let writers = 1 + number / 4 % 4;
     let half = if publishers == 0 { 10_000 } else { 5_000 };
     for writer in 0..writers {
         let share = half / writers.max(1);
@@ -232,25 +233,24 @@ pub(crate) fn mixed(
             form.push_collection(writer + 1, share, 100)?;
         }
     }
-    for _ in 0..1 + chance.below(2) {
+    for _ in 0..1 + number % 5 % 2 {
         form.push(b"ALT", 83, &[(20, b"ANOTHER TITLE"), (80, b"AT")])?;
     }
-    if chance.is_one_in(2) {
+    if number % 3 == 1 {
         form.push(b"XRF", 38, &[(20, b"052ID12345"), (37, b"WY")])?;
     }
     Ok(form)
 }
 
-/// So many works of 3 to 20 records.
+/// Sixteen works of 3 to 20 records, the same ones with every seed: so every catalogue is of nearly the same size.
 pub(crate) fn many_mixed(
     alloc: Global,
-    chance: &mut Chance,
     kind: &[u8],
     line_end: LineEnd,
 ) -> Result<Vec<Form>, Memory> {
     let mut forms = Vec::new(alloc);
-    for _ in 0..16 {
-        forms.push(mixed(alloc, chance, kind, line_end)?)?;
+    for number in 0..16 {
+        forms.push(mixed(alloc, number, kind, line_end)?)?;
     }
     Ok(forms)
 }
