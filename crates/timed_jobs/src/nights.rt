@@ -7,7 +7,9 @@ use crate::catalogue::{Order, Style, file, new_works};
 use crate::chance::Chance;
 use crate::digest::Digest;
 use byte_streams::Feed;
-use cwr_desk::{Book, FileOutcome, Job, Run, Stamp, cut, date, serve_in_turn, time, work_alone};
+use cwr_desk::{
+    Book, FileOutcome, Job, Run, Stamp, Why, cut, date, serve_in_turn, time, work_alone,
+};
 use cwr_field::Memory;
 use kept_register::{new_book, read_book};
 use std::alloc::Global;
@@ -32,7 +34,7 @@ pub(crate) fn stamp() -> Result<Stamp, Memory> {
 
 /// Two nights, one after the other, each from the register of the night before, and then small files one at a time.
 ///
-/// The first night has sixteen large files of new works. The second has sixty-three smaller ones: new works, revisions,
+/// The first night has eighteen large files of new works. The second has sixty-three smaller ones: new works, revisions,
 /// and works that other submitters have claimed.
 pub(crate) fn nights(alloc: Global, size: u32, chance: &mut Chance) -> Result<Digest, Memory> {
     let mut digest = Digest::new();
@@ -49,19 +51,27 @@ pub(crate) fn nights(alloc: Global, size: u32, chance: &mut Chance) -> Result<Di
     Ok(digest)
 }
 
-/// Sixteen files of new works, an eighth of them of many records each.
+/// The new works of sixteen submitters, a file each. Two submitters' works have many records each, and come in two files of
+/// half the works: all in one would be longer than a file may be.
 fn large_files(alloc: Global, size: u32, chance: &mut Chance) -> Result<Vec<Vec<u8>>, Memory> {
     let mut files = Vec::new(alloc);
     for number in 0..16u32 {
-        let style = if number % 8 == 7 {
-            Style::Mixed
-        } else if number % 8 == 3 {
-            Style::Shared
+        let first = number.saturating_mul(size);
+        if number % 8 == 7 {
+            let half = size / 2;
+            let order = new_works(Style::Mixed, number, first, half);
+            files.push(file(alloc, chance, &order)?)?;
+            let order = new_works(Style::Mixed, number, first.saturating_add(half), half);
+            files.push(file(alloc, chance, &order)?)?;
         } else {
-            Style::Thin
-        };
-        let order = new_works(style, number, number.saturating_mul(size), size);
-        files.push(file(alloc, chance, &order)?)?;
+            let style = if number % 8 == 3 {
+                Style::Shared
+            } else {
+                Style::Thin
+            };
+            let order = new_works(style, number, first, size);
+            files.push(file(alloc, chance, &order)?)?;
+        }
     }
     Ok(files)
 }
@@ -178,9 +188,25 @@ pub(crate) fn take_outcome(outcome: &FileOutcome, digest: &mut Digest) {
             digest.number(*number as u64);
             digest.number(*line);
         }
-        FileOutcome::Stopped { handed, why: _ } => {
+        FileOutcome::Stopped { handed, why } => {
             digest.text(b"stopped");
             digest.number(*handed as u64);
+            take_why(why, digest);
+        }
+    }
+}
+
+/// Takes why a job was stopped.
+fn take_why(why: &Why, digest: &mut Digest) {
+    match why {
+        Why::Memory => digest.text(b"memory"),
+        Why::Full => digest.text(b"full"),
+        Why::Read => digest.text(b"read"),
+        Why::TooLong => digest.text(b"too long"),
+        Why::Gate => digest.text(b"gate"),
+        Why::Write { sent } => {
+            digest.text(b"write");
+            digest.number(*sent);
         }
     }
 }
