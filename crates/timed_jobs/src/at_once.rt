@@ -1,19 +1,20 @@
 //! Runs of many files at once, each on a thread of its own.
 
-ghost use Rattle.std.specs.Prelude.{◌≡◌, true};
+ghost use Rattle.std.specs.Prelude.{◌≡◌, ◌<◌, All, IfOk, false, true, vec_len};
 ghost use Rattle.work_registry.specs.Replay.{is_opening};
 
+use crate::answers::AnswerDigest;
 use crate::catalogue::{Style, file, new_works};
 use crate::chance::Chance;
 use crate::digest::Digest;
-use crate::nights::{jobs_of, stamp, take_outcome};
-use cwr_desk::{Book, OpenGate, serve};
+use crate::nights::{MOST_FILES, PIECE, stamp, take_outcome};
+use byte_streams::Feed;
+use cwr_desk::{Book, Entry, Fault, Job, OpenGate, serve};
 use cwr_field::Memory;
 use kept_register::new_book;
 use std::alloc::Global;
 use std::sync::Wait;
 use std::thread::Threads;
-use work_registry::Entry;
 
 /// Some runs, each of sixty-three files at an empty book, of as many works as a size says, and of four times as many in
 /// one run of eight. Each file has works of its own, so that what becomes of them is the same in every order.
@@ -65,28 +66,77 @@ fn run<R: Threads + Wait + Sync>(
     let Ok(run) = serve(rt, alloc, jobs, book, &stamp()?, &OpenGate) else {
         return Err(Memory);
     };
-    for outcome in &run.outcomes {
+    for (job, outcome) in run.jobs.iter().zip(&run.outcomes) {
+        digest.number(job.writer.sum());
         take_outcome(outcome, digest);
     }
-    take_entries(run.book.history(), digest);
+    take_entries(alloc, run.book.history(), digest)
+}
+
+/// A job for each of these files, at most as many as a run takes.
+fn jobs_of<'a>(
+    alloc: Global,
+    files: &'a [Vec<u8>],
+) -> Result<Vec<Job<Feed<'a>, AnswerDigest>>, Memory>
+    ensures few { IfOk result (λ jobs. vec_len jobs < 64) }
+    ensures works { IfOk result (λ jobs. All (λ j. (j.reader.has_failed ≡ false) × (j.writer.digest.failed ≡ false)) jobs.items) }
+{
+    let files = &files[..files.len().min(MOST_FILES)];
+    let mut jobs = Vec::new(alloc);
+    for file in files {
+        jobs.push(job_of(file))?;
+    }
+    Ok(jobs)
+}
+
+/// The job of a file, whose acknowledgement goes into a digest.
+fn job_of<'a>(text: &'a [u8]) -> Job<Feed<'a>, AnswerDigest>
+    ensures { (result.reader.has_failed ≡ false) × (result.writer.digest.failed ≡ false) }
+{
+    Job {
+        reader: Feed::new(text, PIECE, None),
+        writer: AnswerDigest::new(),
+    }
+}
+
+/// Takes the entries of each file in the order of the file, and of each all that holds in every order of the files.
+fn take_entries(alloc: Global, entries: &[Entry], digest: &mut Digest) -> Result<(), Memory> {
+    let mut files = vec![in alloc; Digest::new(); MOST_FILES + 1]?;
+    for entry in entries {
+        if let Some(file) = files.get_mut(entry.session() as usize) {
+            take_entry(entry, file);
+        }
+    }
+    for file in &files {
+        digest.number(file.sum());
+    }
+    digest.number(entries.len() as u64);
     Ok(())
 }
 
-/// Takes the entries of a history as a sum, in which their order does not count: key, kind, status and version.
-fn take_entries(entries: &[Entry], digest: &mut Digest) {
-    let mut sum: u64 = 0;
-    for entry in entries {
-        sum = sum.wrapping_add(digest_of(entry));
+/// Takes an entry without the registry's number of its work.
+fn take_entry(entry: &Entry, digest: &mut Digest) {
+    let call = entry.call();
+    digest.text(&call.submitter());
+    digest.text(call.kind().code());
+    digest.text(&call.title());
+    digest.text(&call.number());
+    digest.number(match call.iswc() {
+        Some(iswc) => iswc,
+        None => u64::MAX,
+    });
+    for share in call.control() {
+        digest.number(share);
     }
-    digest.number(entries.len() as u64);
-    digest.number(sum);
-}
-
-fn digest_of(entry: &Entry) -> u64 {
-    let mut digest = Digest::new();
-    digest.text(&entry.call().submitter());
-    digest.text(&entry.call().number());
+    for fault in call.faults() {
+        take_fault(fault, digest);
+    }
     digest.text(entry.reply().status().code());
     digest.number(entry.reply().version().unwrap_or(0) as u64);
-    digest.sum()
+}
+
+fn take_fault(fault: &Fault, digest: &mut Digest) {
+    digest.number(fault.sequence as u64);
+    digest.number(fault.number as u64);
+    digest.text(&fault.rtype);
 }

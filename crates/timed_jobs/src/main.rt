@@ -2,6 +2,7 @@
 //! the calls of the libraries, and prints a digest of all that it leaves. `bench/` times them.
 #![tactic(auto)]
 
+mod answers;
 mod at_once;
 mod catalogue;
 mod chance;

@@ -18,7 +18,7 @@ use std::alloc::Global;
 pub(crate) const PIECE: usize = 65_536;
 
 /// The most files of a run.
-const MOST_FILES: usize = 63;
+pub(crate) const MOST_FILES: usize = 63;
 
 type DigestJob<'a> = Job<Feed<'a>, Digest>;
 
@@ -144,7 +144,7 @@ fn run(alloc: Global, book: Book, files: &[Vec<u8>], digest: &mut Digest) -> Res
 }
 
 /// A job for each of these files, at most as many as a run takes.
-pub(crate) fn jobs_of<'a>(alloc: Global, files: &'a [Vec<u8>]) -> Result<Vec<DigestJob<'a>>, Memory>
+fn jobs_of<'a>(alloc: Global, files: &'a [Vec<u8>]) -> Result<Vec<DigestJob<'a>>, Memory>
     ensures few { IfOk result (λ jobs. vec_len jobs < 64) }
     ensures works { IfOk result (λ jobs. All (λ j. (j.reader.has_failed ≡ false) × (j.writer.failed ≡ false)) jobs.items) }
 {

@@ -1,0 +1,123 @@
+//! A digest of acknowledgements that is the same in every order of the files.
+
+ghost use Rattle.std.specs.Prelude.{◌≡◌, false};
+
+use crate::digest::Digest;
+use byte_streams::{Failed, Sink};
+use memchr::memchr;
+
+/// The record type of an acknowledged transaction, its three bytes as one number.
+const ACK: u32 = 0x41_43_4b;
+
+/// How many bytes stand before the registry's number of the work in an ACK record, and behind its last digit.
+const BEFORE_WORK: usize = 129;
+
+const BEHIND_WORK: usize = 137;
+
+/// A digest of the lines of an acknowledgement, without the registry's number of the work in each ACK record, which hangs
+/// on which file was decided first. In whatever pieces they come, the same lines give the same digest.
+#[derive(Clone, Copy, Debug)]
+pub(crate) struct AnswerDigest {
+    digest: Digest,
+    /// The first three bytes of the line, or as many as there were, as one number.
+    kind: u32,
+    /// How many bytes of the line there were.
+    column: usize,
+}
+
+impl AnswerDigest {
+    pub(crate) fn new() -> AnswerDigest
+        ensures { result.digest.failed ≡ false }
+    {
+        AnswerDigest {
+            digest: Digest::new(),
+            kind: 0,
+            column: 0,
+        }
+    }
+
+    /// What all that was taken comes to.
+    pub(crate) fn sum(&self) -> u64 {
+        self.digest.sum()
+    }
+
+    /// Takes bytes, behind those before.
+    fn text(&mut self, text: &[u8])
+        ensures { self.new.digest.failed ≡ self.old.digest.failed }
+    {
+        let mut rest = text;
+        while let Some(end) = memchr(b'\n', rest) {
+            let (line, more) = rest.split_at(end);
+            self.part(line);
+            let Some((last, more)) = more.split_first() else {
+                break;
+            };
+            self.digest.text(&[*last]);
+            self.kind = 0;
+            self.column = 0;
+            rest = more;
+        }
+        self.part(rest);
+    }
+
+    /// Takes bytes of one line, behind those before of it.
+    fn part(&mut self, part: &[u8])
+        ensures { self.new.digest.failed ≡ self.old.digest.failed }
+    {
+        let rest = self.typed(part);
+        if self.kind == ACK {
+            let rest = self.front(rest, BEFORE_WORK, true);
+            let rest = self.front(rest, BEHIND_WORK, false);
+            self.digest.text(rest);
+        } else {
+            self.digest.text(rest);
+        }
+    }
+
+    /// Takes what lacks of the record type, and answers what is behind it.
+    fn typed<'a>(&mut self, part: &'a [u8]) -> &'a [u8]
+        ensures { self.new.digest.failed ≡ self.old.digest.failed }
+    {
+        let mut rest = part;
+        while let Some((first, more)) = rest.split_first() {
+            if self.column >= 3 {
+                break;
+            }
+            self.kind = self.kind.wrapping_mul(256).wrapping_add(*first as u32);
+            self.digest.text(&[*first]);
+            self.column = self.column.saturating_add(1);
+            rest = more;
+        }
+        rest
+    }
+
+    /// Passes the bytes before this column, which count or do not, and answers what is behind them.
+    fn front<'a>(&mut self, part: &'a [u8], column: usize, counts: bool) -> &'a [u8]
+        ensures { self.new.digest.failed ≡ self.old.digest.failed }
+    {
+        let lacking = column.saturating_sub(self.column);
+        let (front, rest) = part.split_at(lacking.min(part.len()));
+        if counts {
+            self.digest.text(front);
+        }
+        self.column = self.column.saturating_add(front.len());
+        rest
+    }
+}
+
+impl Sink for AnswerDigest {
+    ghost use Rattle.std.specs.Prelude.{None};
+
+    ghost taken = { λ _. None };
+
+    ghost has_failed = { λ d. d.digest.failed };
+
+    fn failed(&self) -> bool {
+        self.digest.failed()
+    }
+
+    fn write_some(&mut self, bytes: &[u8]) -> Result<usize, Failed> {
+        self.text(bytes);
+        Ok(bytes.len())
+    }
+}
