@@ -15,13 +15,13 @@ pub(crate) fn reports(alloc: Global, size: u32, chance: &mut Chance) -> Result<D
     let mut digest = Digest::new();
     let order = new_works(Style::Mixed, 1, 1, size);
     let (mut text, places) = file_with_places(alloc, chance, &order)?;
-    for _ in 0..10 {
+    for _ in 0..30 {
         change(&mut text, &places, chance);
         take(remarked_json(alloc, &text)?, &mut digest);
         change(&mut text, &places, chance);
         take(remarked_long(alloc, &text)?, &mut digest);
     }
-    for _ in 0..2 {
+    for _ in 0..6 {
         let text = crowd_without_parties(alloc, size.saturating_mul(16), chance)?;
         take(remarked_json(alloc, &text)?, &mut digest);
         let text = crowd_without_parties(alloc, size.saturating_mul(32), chance)?;
