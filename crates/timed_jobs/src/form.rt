@@ -30,13 +30,24 @@ pub(crate) struct Form {
 impl Form {
     /// The header of a work, of this record type, whose title, number and ISWC are not filled in.
     pub(crate) fn new(alloc: Global, kind: &[u8], line_end: LineEnd) -> Result<Form, Memory> {
+        Form::dated(alloc, kind, line_end, b"20010203", b"000330")
+    }
+
+    /// The same, with this copyright date and duration.
+    pub(crate) fn dated<'f>(
+        alloc: Global,
+        kind: &[u8],
+        line_end: LineEnd,
+        date: &'f [u8],
+        duration: &'f [u8],
+    ) -> Result<Form, Memory> {
         let mut form = Form {
             text: Vec::new(alloc),
             starts: Vec::new(alloc),
             records: 0,
             line_end,
         };
-        form.push(kind, 194, &[(107, b"20010203"), (130, b"000330U")])?;
+        form.push(kind, 194, &[(107, date), (130, duration), (136, b"U")])?;
         Ok(form)
     }
 

@@ -4,18 +4,22 @@
 
 mod answers;
 mod at_once;
+mod awkward;
 mod catalogue;
 mod chance;
 mod checks;
 mod crowds;
 mod digest;
 mod digits;
+mod faulty;
 mod form;
 mod nights;
+mod refused;
 mod reports;
 mod sheet;
 mod tables;
 mod titles;
+mod verified;
 mod verifying;
 
 use crate::chance::Chance;
@@ -49,13 +53,14 @@ fn words_of<R: Env + AllocGlobal>(rt: &R) -> Option<(String, u32, u64)> {
 }
 
 /// The jobs.
-const JOBS: [&str; 6] = [
+const JOBS: [&str; 7] = [
     "nights",
     "at-once",
     "checks",
     "reports",
     "verifying",
     "tables",
+    "awkward",
 ];
 
 /// Does a job, or each of them for `all`, and tells the digest.
@@ -111,6 +116,7 @@ fn done<R: AllocGlobal + Threads + Wait + Sync>(
         "checks" => checks::checks(alloc, size, chance),
         "reports" => reports::reports(alloc, size, chance),
         "verifying" => verifying::verifying(alloc, size, chance),
-        _ => tables::tables(alloc, size, chance),
+        "tables" => tables::tables(alloc, size, chance),
+        _ => awkward::awkward(alloc, size, chance),
     }
 }

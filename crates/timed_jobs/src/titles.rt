@@ -30,6 +30,13 @@ pub(crate) fn quoted_title(chance: &mut Chance) -> [u8; 60] {
     title
 }
 
+/// A title with an accented letter, which has two bytes in UTF-8.
+pub(crate) fn accented_title(chance: &mut Chance) -> [u8; 60] {
+    let mut title = title(chance);
+    put(&mut title, 3, "É".as_bytes());
+    title
+}
+
 fn word(chance: &mut Chance) -> &'static [u8] {
     let place = chance.below(WORDS.len() as u32) as usize;
     match WORDS.get(place) {

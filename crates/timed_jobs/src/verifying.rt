@@ -15,7 +15,7 @@ use std::alloc::Global;
 
 /// A file that was sent, and its acknowledgement.
 #[derive(Drop)]
-struct Sent {
+pub(crate) struct Sent {
     text: Vec<u8>,
     acknowledgement: Vec<u8>,
 }
@@ -53,14 +53,24 @@ fn year(
         let first = chance.below(20).saturating_mul(50_000);
         let order = new_works(style, number % 300, first.saturating_add(number), 100);
         let text = file(alloc, chance, &order)?;
-        let (worked, acknowledgement) = worked_alone(alloc, book, &text)?;
-        sent.push(Sent {
-            text,
-            acknowledgement,
-        })?;
-        book = worked;
+        book = worked(alloc, book, text, sent)?;
     }
     Ok(book.reopened())
+}
+
+/// Works a file at a book, and puts it with its acknowledgement behind those that were sent.
+pub(crate) fn worked(
+    alloc: Global,
+    book: Book,
+    text: Vec<u8>,
+    sent: &mut Vec<Sent>,
+) -> Result<Book, Memory> {
+    let (book, acknowledgement) = worked_alone(alloc, book, &text)?;
+    sent.push(Sent {
+        text,
+        acknowledgement,
+    })?;
+    Ok(book)
 }
 
 /// Works a file at a book, and answers that with the acknowledgement.
@@ -80,7 +90,7 @@ fn spool_job<'a>(alloc: Global, text: &'a [u8]) -> Job<Feed<'a>, Spool>
 }
 
 /// Changes a byte of one of the last acknowledgements.
-fn spoil(sent: &mut Vec<Sent>, chance: &mut Chance) {
+pub(crate) fn spoil(sent: &mut Vec<Sent>, chance: &mut Chance) {
     let count = sent.len();
     let back = 1 + chance.below(5) as usize;
     if back <= count {
@@ -93,7 +103,7 @@ fn spoil(sent: &mut Vec<Sent>, chance: &mut Chance) {
 }
 
 /// Verifies all files, and takes which entries answer them, or what does not fit.
-fn verify_all(
+pub(crate) fn verify_all(
     alloc: Global,
     book: &Book,
     sent: &[Sent],

@@ -1,0 +1,54 @@
+//! What occurs seldom: every rule broken, files that are refused, and files of all sizes verified.
+
+use crate::chance::Chance;
+use crate::digest::Digest;
+use crate::refused::refused_file;
+use crate::verified::verified;
+use cwr_check::Checked;
+use cwr_field::Memory;
+use cwr_remarks::{remarked_json, remarked_long};
+use cwr_report::{json_text_with, report_on, text_value};
+use std::alloc::Global;
+
+/// A text with what JSON escapes, and with a letter of two bytes.
+const SAID: &str = "\"CAFÉ SONG\" \\ AND MORE OF THIS KIND\t";
+
+/// Reports of works of which each breaks a rule or is remarked on, of files that are refused, and files of all sizes
+/// against a register.
+pub(crate) fn awkward(alloc: Global, size: u32, chance: &mut Chance) -> Result<Digest, Memory> {
+    let mut digest = Digest::new();
+    for _ in 0..8 {
+        let text = refused_file(alloc, size, 0, chance)?;
+        tell(alloc, &text, &mut digest)?;
+        tell_with(alloc, &text, &mut digest)?;
+    }
+    for fault in 1..=12u32 {
+        let text = refused_file(alloc, size / 4, fault, chance)?;
+        tell(alloc, &text, &mut digest)?;
+        tell_with(alloc, &text, &mut digest)?;
+    }
+    verified(alloc, size, chance, &mut digest)?;
+    Ok(digest)
+}
+
+/// The report on a file, for a program and for a person.
+fn tell(alloc: Global, text: &[u8], digest: &mut Digest) -> Result<(), Memory> {
+    take(remarked_json(alloc, text)?, digest);
+    take(remarked_long(alloc, text)?, digest);
+    Ok(())
+}
+
+/// The report on a file, with a member of its own before, between, in place of and behind those that it has.
+fn tell_with(alloc: Global, text: &[u8], digest: &mut Digest) -> Result<(), Memory> {
+    let report = report_on(alloc, text)?;
+    for name in ["a", "found", "refused", "z"] {
+        let value = text_value(alloc, SAID.as_bytes())?;
+        digest.text(&json_text_with(alloc, text, &report, name, value)?);
+    }
+    Ok(())
+}
+
+fn take(checked: Checked, digest: &mut Digest) {
+    digest.text(&checked.text);
+    digest.number(checked.clean as u64);
+}
