@@ -1,6 +1,6 @@
 -- Who waits under a key, by turns: by key, and then by file.
 use Rattle.std.proofs.Common.{◌≡◌, ◌≢◌, ◌∙◌, ◌⊎◌, inl, inr, ℕ, zero, suc, ◌+◌, ◌<◌, ◌≤◌, Bool, true, false, List, [], ◌∷◌, length, get_or, set, Some, None, refl, sym, ap, subst, ⊎_elim, arith}
-use Rattle.std.specs.Prelude.{◌||◌, Option, slice_get}
+use Rattle.std.specs.Prelude.{◌||◌, Option, option_and_then, option_map, slice_get}
 use Rattle.std.specs.BTreeSet.{BTreeSet, contains, keys_between, IsKeyInRange, IsOrdered, Updates}
 use Rattle.std.specs.BTreeMap.Range.{range_contains, Places}
 use Rattle.std.specs.Cmp.{IsTotalOrder, nat_cmp_is}
@@ -19,15 +19,14 @@ use Rattle.std.proofs.lemmas.Map.Views.{any-filter_same, range_contains-from_IsI
 use Rattle.cwr_call.specs.CallValue.{CallValue}
 use Rattle.work_registry.specs.EntryValue.{EntryValue}
 use Rattle.cwr_verify.specs.declared.waiting.Key.{Key}
-use Rattle.cwr_verify.specs.Wanting.{Wanting, CanHaveMade, IsFirst, HasMovedOn, AreWaiting, NoOthersWait, IsTurnOf, WantsUnder, found_next, key_of, key_cmp, turn_cmp}
+use Rattle.cwr_verify.specs.declared.told.Told.{Told}
+use Rattle.cwr_verify.specs.Wanting.{Wanting, CanHaveMade, IsFirst, HasMovedOn, AreWaiting, NoOthersWait, IsTurnOf, found_next, key_of, key_of_entry, next_key, key_cmp, turn_cmp}
 
 -- ---- the order of turns
 
 pub key_total : IsTotalOrder key_cmp
 key_total =
-    then_total (on_total (λ (k : Key). k.number_end) nat_cmp_total)
-    (then_total (on_total (λ (k : Key). k.number_front) nat_cmp_total)
-    (then_total (on_total (λ (k : Key). k.submitter_end) nat_cmp_total) (on_total (λ (k : Key). k.submitter_front) nat_cmp_total)))
+    then_total (on_total (λ (k : Key). k.number_end) nat_cmp_total) (on_total (λ (k : Key). k.digest) nat_cmp_total)
 
 pub turn_total : IsTotalOrder turn_cmp
 turn_total = then_total (on_total (λ (t : Key × ℕ). t.0) key_total) (on_total (λ (t : Key × ℕ). t.1) nat_cmp_total)
@@ -108,24 +107,31 @@ place_of test (x ∷ xs) h = place_step test x xs (test x) refl h (place_of test
 
 -- ---- the first file that can have made an entry
 
+-- its next transaction is looked up as the entry is
+pub made_key : (w : Wanting) (e : EntryValue) → CanHaveMade w e → next_key w ≡ Some (key_of_entry e)
+unfolding next_key
+made_key w e made =
+    ap (λ (o : Option CallValue). option_and_then (λ call. option_map (λ told. key_of told call) (slice_get w.told w.found)) o) made.call
+    ∙ ap (λ (o : Option Told). option_map (λ told. key_of told e.call) o) made.told
+
 abbrev pub Refuses : List Wanting → EntryValue → ℕ → Type 0
 Refuses all e file = (d : Wanting) → file < length all → CanHaveMade (get_or all file d) e → ⊥
 
 -- these are the turns of the key of an entry
 abbrev pub AreTurns : List Wanting → BTreeSet (Key × ℕ) → EntryValue → List (Key × ℕ) → Type 0
-AreTurns all waiting e turns = turns ≡ keys_between turn_cmp (Included (key_of e.call, 0)) (Excluded (key_of e.call, length all)) waiting
+AreTurns all waiting e turns = turns ≡ keys_between turn_cmp (Included (key_of_entry e, 0)) (Excluded (key_of_entry e, length all)) waiting
 
 -- a file that can have made the entry has its turn there
 pub has_turn : (all : List Wanting) (waiting : BTreeSet (Key × ℕ)) (e : EntryValue) (turns : List (Key × ℕ)) (file : ℕ) (d : Wanting)
     → AreWaiting all waiting → AreTurns all waiting e turns → file < length all → CanHaveMade (get_or all file d) e
-    → Place (λ (t : Key × ℕ). is_eq (turn_cmp (key_of e.call, file) t)) turns
+    → Place (λ (t : Key × ℕ). is_eq (turn_cmp (key_of_entry e, file) t)) turns
 has_turn all waiting e turns file d waits are lt made =
-    let test : Key × ℕ → Bool = λ (t : Key × ℕ). is_eq (turn_cmp (key_of e.call, file) t) in
+    let test : Key × ℕ → Bool = λ (t : Key × ℕ). is_eq (turn_cmp (key_of_entry e, file) t) in
     place_of test turns
     (ap (list_any test) are
-    ∙ (any-filter_same test (range_contains turn_cmp (Included (key_of e.call, 0)) (Excluded (key_of e.call, length all))) true
-    (λ t same. among (key_of e.call) (length all) file t lt (equal_from (turn_cmp (key_of e.call, file) t) same)) waiting.keys
-    ∙ waits file d e.call lt made.call))
+    ∙ (any-filter_same test (range_contains turn_cmp (Included (key_of_entry e, 0)) (Excluded (key_of_entry e, length all))) true
+    (λ t same. among (key_of_entry e) (length all) file t lt (equal_from (turn_cmp (key_of_entry e, file) t) same)) waiting.keys
+    ∙ waits file d (key_of_entry e) lt (made_key (get_or all file d) e made)))
 
 pub none_made : (all : List Wanting) (waiting : BTreeSet (Key × ℕ)) (e : EntryValue) (turns : List (Key × ℕ))
     → AreWaiting all waiting → AreTurns all waiting e turns
@@ -135,22 +141,22 @@ none_made all waiting e turns waits are refuse = record {
   within = omega arith;
   passed = λ file d lt made.
       let place = has_turn all waiting e turns file d waits are lt made in
-      let turn : Key × ℕ = get_or turns place.0 (key_of e.call, file) in
-      let same : file ≡ turn.1 = one_file (key_of e.call, file) turn (equal_from (turn_cmp (key_of e.call, file) turn) (place.2 (key_of e.call, file))) in
-      refuse place.0 (key_of e.call, file) place.1 d (subst (λ (f : ℕ). f < length all) same lt) (subst (λ (f : ℕ). CanHaveMade (get_or all f d) e) same made);
+      let turn : Key × ℕ = get_or turns place.0 (key_of_entry e, file) in
+      let same : file ≡ turn.1 = one_file (key_of_entry e, file) turn (equal_from (turn_cmp (key_of_entry e, file) turn) (place.2 (key_of_entry e, file))) in
+      refuse place.0 (key_of_entry e, file) place.1 d (subst (λ (f : ℕ). f < length all) same lt) (subst (λ (f : ℕ). CanHaveMade (get_or all f d) e) same made);
   made = λ d lt. absurd (omega arith);
 }
 
 pub first_made : (all : List Wanting) (waiting : BTreeSet (Key × ℕ)) (e : EntryValue) (turns : List (Key × ℕ)) (i : ℕ) (t : Key × ℕ)
     → AreWaiting all waiting → AreTurns all waiting e turns
-    → IsOrdered turn_cmp waiting → Places waiting.keys turns → All (IsKeyInRange turn_cmp (Included (key_of e.call, 0)) (Excluded (key_of e.call, length all)) waiting) turns
+    → IsOrdered turn_cmp waiting → Places waiting.keys turns → All (IsKeyInRange turn_cmp (Included (key_of_entry e, 0)) (Excluded (key_of_entry e, length all)) waiting) turns
     → ((k : ℕ) (d : Key × ℕ) → k < i → Refuses all e (get_or turns k d).1)
     → i < length turns → ((d : Key × ℕ) → get_or turns i d ≡ t) → t.1 < length all → ((d : Wanting) → CanHaveMade (get_or all t.1 d) e)
     → IsFirst all e t.1
 first_made all waiting e turns i t waits are ordered places within refuse lt at known made = record {
   within = omega (arith, known);
   passed = λ file d before its.
-      let key : Key = key_of e.call in
+      let key : Key = key_of_entry e in
       let all_of : file < length all = omega (arith, before, known) in
       let place = has_turn all waiting e turns file d waits are all_of its in
       let k : ℕ = place.0 in
@@ -206,62 +212,65 @@ moved_on all file w next lt is on = record {
   its = λ d _. get_or-set_same all file next d lt ∙ (on ∙ ap found_next (sym (read_at all file w lt is d)));
 }
 
--- ---- files that wait for their next calls
+-- ---- files that wait
+
+pub one_key : (next : Option Key) (x y : Key) → next ≡ Some x → next ≡ Some y → x ≡ y
+one_key next x y a b = let same : Some x ≡ Some y = sym a ∙ b in cc
 
 -- the same of the files below this one
 abbrev pub AreWaitingBelow : ℕ → List Wanting → BTreeSet (Key × ℕ) → Type 0
-AreWaitingBelow files all waiting = (file : ℕ) (d : Wanting) (call : CallValue) → file < files
-    → slice_get (get_or all file d).calls (get_or all file d).found ≡ Some call → contains turn_cmp waiting (key_of call, file) ≡ true
+AreWaitingBelow files all waiting = (file : ℕ) (d : Wanting) (key : Key) → file < files
+    → next_key (get_or all file d) ≡ Some key → contains turn_cmp waiting (key, file) ≡ true
 
--- one file more, which waits for no call
-pub none_waits : (files : ℕ) (all : List Wanting) (waiting : BTreeSet (Key × ℕ)) → ((d : Wanting) → slice_get (get_or all files d).calls (get_or all files d).found ≡ None)
+-- one file more, which has no key
+pub none_waits : (files : ℕ) (all : List Wanting) (waiting : BTreeSet (Key × ℕ)) → ((d : Wanting) → next_key (get_or all files d) ≡ None)
     → AreWaitingBelow files all waiting → AreWaitingBelow (files + 1) all waiting
-none_waits files all waiting none before file d call lt is =
+none_waits files all waiting none before file d key lt is =
     ⊎_elim
-    (λ (same : file ≡ files). absurd (let bad : None ≡ Some call = sym (subst (λ (f : ℕ). slice_get (get_or all f d).calls (get_or all f d).found ≡ None) (sym same) (none d)) ∙ is in cc))
-    (λ (other : file ≢ files). before file d call (omega (arith, lt, other)) is)
+    (λ (same : file ≡ files). absurd (let bad : None ≡ Some key = sym (subst (λ (f : ℕ). next_key (get_or all f d) ≡ None) (sym same) (none d)) ∙ is in cc))
+    (λ (other : file ≢ files). before file d key (omega (arith, lt, other)) is)
     (cases_eq file files)
 
 -- one file more, which waits under this key
 pub one_waits : (files : ℕ) (all : List Wanting) (before after : BTreeSet (Key × ℕ)) (key : Key)
-    → ((d : Wanting) (call : CallValue) → slice_get (get_or all files d).calls (get_or all files d).found ≡ Some call → key ≡ key_of call)
+    → ((d : Wanting) → next_key (get_or all files d) ≡ Some key)
     → Updates turn_cmp before after (key, files) true → AreWaitingBelow files all before → AreWaitingBelow (files + 1) all after
-one_waits files all before after key its put waits file d call lt is =
+one_waits files all before after key its put waits file d k lt is =
     ⊎_elim
     (λ (same : file ≡ files).
-    let key_is : key ≡ key_of call = its d call (subst (λ (f : ℕ). slice_get (get_or all f d).calls (get_or all f d).found ≡ Some call) same is) in
+    let key_is : key ≡ k = one_key (next_key (get_or all files d)) key k (its d) (subst (λ (f : ℕ). next_key (get_or all f d) ≡ Some k) same is) in
     subst (λ (t : Key × ℕ). contains turn_cmp after t ≡ true) (λ i. (key_is i, sym same i)) put.1)
     (λ (other : file ≢ files).
-    put.2 (key_of call, file) (apart (key, files) (key_of call, file) (λ same. other (sym same))) ∙ waits file d call (omega (arith, lt, other)) is)
+    put.2 (k, file) (apart (key, files) (k, file) (λ same. other (sym same))) ∙ waits file d k (omega (arith, lt, other)) is)
     (cases_eq file files)
 
--- a file that has moved on waits for no call
+-- a file that has moved on waits no more
 pub stops_waiting : (all now : List Wanting) (file : ℕ) (before after : BTreeSet (Key × ℕ)) (key : Key)
     → HasMovedOn all now file → AreWaiting all before → Updates turn_cmp before after (key, file) false
-    → ((d : Wanting) → slice_get (get_or now file d).calls (get_or now file d).found ≡ None)
+    → ((d : Wanting) → next_key (get_or now file d) ≡ None)
     → AreWaiting now after
-stops_waiting all now file before after key moved waits removed none other d call lt is =
+stops_waiting all now file before after key moved waits removed none other d k lt is =
     ⊎_elim
-    (λ (same : other ≡ file). absurd (let bad : None ≡ Some call = sym (subst (λ (f : ℕ). slice_get (get_or now f d).calls (get_or now f d).found ≡ None) (sym same) (none d)) ∙ is in cc))
+    (λ (same : other ≡ file). absurd (let bad : None ≡ Some k = sym (subst (λ (f : ℕ). next_key (get_or now f d) ≡ None) (sym same) (none d)) ∙ is in cc))
     (λ (differs : other ≢ file).
-    removed.2 (key_of call, other) (apart (key, file) (key_of call, other) (λ same. differs (sym same)))
-    ∙ waits other d call (omega (arith, lt, moved.files)) (subst (λ (w : Wanting). slice_get w.calls w.found ≡ Some call) (moved.others other d differs) is))
+    removed.2 (k, other) (apart (key, file) (k, other) (λ same. differs (sym same)))
+    ∙ waits other d k (omega (arith, lt, moved.files)) (subst (λ (w : Wanting). next_key w ≡ Some k) (moved.others other d differs) is))
     (cases_eq other file)
 
 -- a file that has moved on waits under another key
 pub waits_on : (all now : List Wanting) (file : ℕ) (before between after : BTreeSet (Key × ℕ)) (gone key : Key)
     → HasMovedOn all now file → AreWaiting all before → Updates turn_cmp before between (gone, file) false → Updates turn_cmp between after (key, file) true
-    → ((d : Wanting) (call : CallValue) → slice_get (get_or now file d).calls (get_or now file d).found ≡ Some call → key ≡ key_of call)
+    → ((d : Wanting) → next_key (get_or now file d) ≡ Some key)
     → AreWaiting now after
-waits_on all now file before between after gone key moved waits removed put its other d call lt is =
+waits_on all now file before between after gone key moved waits removed put its other d k lt is =
     ⊎_elim
     (λ (same : other ≡ file).
-    let key_is : key ≡ key_of call = its d call (subst (λ (f : ℕ). slice_get (get_or now f d).calls (get_or now f d).found ≡ Some call) same is) in
+    let key_is : key ≡ k = one_key (next_key (get_or now file d)) key k (its d) (subst (λ (f : ℕ). next_key (get_or now f d) ≡ Some k) same is) in
     subst (λ (t : Key × ℕ). contains turn_cmp after t ≡ true) (λ i. (key_is i, sym same i)) put.1)
     (λ (differs : other ≢ file).
-    put.2 (key_of call, other) (apart (key, file) (key_of call, other) (λ same. differs (sym same)))
-    ∙ (removed.2 (key_of call, other) (apart (gone, file) (key_of call, other) (λ same. differs (sym same)))
-    ∙ waits other d call (omega (arith, lt, moved.files)) (subst (λ (w : Wanting). slice_get w.calls w.found ≡ Some call) (moved.others other d differs) is)))
+    put.2 (k, other) (apart (key, file) (k, other) (λ same. differs (sym same)))
+    ∙ (removed.2 (k, other) (apart (gone, file) (k, other) (λ same. differs (sym same)))
+    ∙ waits other d k (omega (arith, lt, moved.files)) (subst (λ (w : Wanting). next_key w ≡ Some k) (moved.others other d differs) is)))
     (cases_eq other file)
 
 -- ---- nobody else waits
@@ -269,21 +278,11 @@ waits_on all now file before between after gone key moved waits removed put its 
 exact_two : CmpEqualImpliesEq (λ (x y : ℕ × ℕ). ordering_then (nat_cmp x.0 y.0) (nat_cmp x.1 y.1))
 exact_two = exact_pairs nat_cmp nat_cmp exact_unsigned exact_unsigned
 
-exact_three : CmpEqualImpliesEq (λ (x y : ℕ × (ℕ × ℕ)). ordering_then (nat_cmp x.0 y.0) (ordering_then (nat_cmp x.1.0 y.1.0) (nat_cmp x.1.1 y.1.1)))
-exact_three = exact_pairs nat_cmp (λ (x y : ℕ × ℕ). ordering_then (nat_cmp x.0 y.0) (nat_cmp x.1 y.1)) exact_unsigned exact_two
-
-exact_four : CmpEqualImpliesEq (λ (x y : ℕ × (ℕ × (ℕ × ℕ))).
-    ordering_then (nat_cmp x.0 y.0) (ordering_then (nat_cmp x.1.0 y.1.0) (ordering_then (nat_cmp x.1.1.0 y.1.1.0) (nat_cmp x.1.1.1 y.1.1.1))))
-exact_four =
-    exact_pairs nat_cmp (λ (x y : ℕ × (ℕ × ℕ)). ordering_then (nat_cmp x.0 y.0) (ordering_then (nat_cmp x.1.0 y.1.0) (nat_cmp x.1.1 y.1.1))) exact_unsigned exact_three
-
-abbrev key_with : ℕ × (ℕ × (ℕ × ℕ)) → Key
-key_with t = record { number_end = t.0; number_front = t.1.0; submitter_end = t.1.1.0; submitter_front = t.1.1.1 }
+abbrev key_with : ℕ × ℕ → Key
+key_with t = record { number_end = t.0; digest = t.1 }
 
 exact_key : CmpEqualImpliesEq key_cmp
-exact_key x y same =
-    ap key_with
-    (exact_four (x.number_end, (x.number_front, (x.submitter_end, x.submitter_front))) (y.number_end, (y.number_front, (y.submitter_end, y.submitter_front))) same)
+exact_key x y same = ap key_with (exact_two (x.number_end, x.digest) (y.number_end, y.digest) same)
 
 exact_turn : CmpEqualImpliesEq turn_cmp
 exact_turn = exact_pairs key_cmp nat_cmp exact_key exact_unsigned
@@ -319,57 +318,53 @@ came before after new t put has =
 -- the same of the files below this one
 abbrev pub NoOthersWaitBelow : ℕ → List Wanting → BTreeSet (Key × ℕ) → Type 0
 NoOthersWaitBelow files all waiting = (key : Key) (file : ℕ) → contains turn_cmp waiting (key, file) ≡ true
-    → (file < files) × ((d : Wanting) → WantsUnder key (get_or all file d))
+    → (file < files) × ((d : Wanting) → next_key (get_or all file d) ≡ Some key)
 
 pub none_more : (files : ℕ) (all : List Wanting) (waiting : BTreeSet (Key × ℕ)) → NoOthersWaitBelow files all waiting → NoOthersWaitBelow (files + 1) all waiting
 none_more files all waiting only key file has = let old = only key file has in (omega (arith, old.0), old.1)
 
-pub one_more : (files : ℕ) (all : List Wanting) (before after : BTreeSet (Key × ℕ)) (key : Key) → ((d : Wanting) → WantsUnder key (get_or all files d))
+pub one_more : (files : ℕ) (all : List Wanting) (before after : BTreeSet (Key × ℕ)) (key : Key) → ((d : Wanting) → next_key (get_or all files d) ≡ Some key)
     → Updates turn_cmp before after (key, files) true → NoOthersWaitBelow files all before → NoOthersWaitBelow (files + 1) all after
 one_more files all before after key its put only k f has =
     ⊎_elim
     (λ (same : (key, files) ≡ (k, f)).
     let file_is : files ≡ f = ap (λ (t : Key × ℕ). t.1) same in
-    (omega (arith, file_is), λ d. subst (λ (t : Key × ℕ). WantsUnder t.0 (get_or all t.1 d)) same (its d)))
+    (omega (arith, file_is), λ d. subst (λ (t : Key × ℕ). next_key (get_or all t.1 d) ≡ Some t.0) same (its d)))
     (λ (was : contains turn_cmp before (k, f) ≡ true). let old = only k f was in (omega (arith, old.0), old.1))
     (came before after (key, files) (k, f) put has)
 
-pub one_call : (next : Option CallValue) (x y : CallValue) → next ≡ Some x → next ≡ Some y → x ≡ y
-one_call next x y a b = let same : Some x ≡ Some y = sym a ∙ b in cc
-
--- who waits under a key, and whose next call is that of an entry, waits under the key of the entry's call
-turn_key : (all : List Wanting) (file : ℕ) (e : EntryValue) (key : Key) → ((d : Wanting) → CanHaveMade (get_or all file d) e)
-    → ((d : Wanting) → WantsUnder key (get_or all file d)) → key_of e.call ≡ key
+-- who waits under a key, and can have made an entry, waits under the key of the entry
+pub turn_key : (all : List Wanting) (file : ℕ) (e : EntryValue) (key : Key) → ((d : Wanting) → CanHaveMade (get_or all file d) e)
+    → ((d : Wanting) → next_key (get_or all file d) ≡ Some key) → key_of_entry e ≡ key
 turn_key all file e key made wants =
     let d : Wanting = record { calls = []; told = []; found = 0 } in
-    let w : WantsUnder key (get_or all file d) = wants d in
-    ap key_of (one_call (slice_get (get_or all file d).calls (get_or all file d).found) e.call w.call (made d).call w.next) ∙ sym w.its
+    one_key (next_key (get_or all file d)) (key_of_entry e) key (made_key (get_or all file d) e (made d)) (wants d)
 
 pub nobody : (waiting : BTreeSet (Key × ℕ)) (t : Key × ℕ) → waiting.keys ≡ [] → contains turn_cmp waiting t ≡ false
 nobody waiting t none = ap (list_any (λ (x : Key × ℕ). is_eq (turn_cmp t x))) none
 
--- a file that has moved on has left its place: who still waits is another, and waits for the same call
+-- a file that has moved on has left its place: who still waits is another, and waits under the same key
 pub others_stay : (all now : List Wanting) (file : ℕ) (before after : BTreeSet (Key × ℕ)) (e : EntryValue)
     → HasMovedOn all now file → ((d : Wanting) → CanHaveMade (get_or all file d) e) → NoOthersWait all before
-    → Updates turn_cmp before after (key_of e.call, file) false → NoOthersWait now after
+    → Updates turn_cmp before after (key_of_entry e, file) false → NoOthersWait now after
 others_stay all now file before after e moved made only removed k f has =
-    let kept = stayed before after (key_of e.call, file) (k, f) removed has in
+    let kept = stayed before after (key_of_entry e, file) (k, f) removed has in
     let old : IsTurnOf all k f = only k f kept.0 in
     let differs : f ≡ file → ⊥ = λ same.
-    kept.1 (λ i. (turn_key all file e k made (subst (λ (g : ℕ). (d : Wanting) → WantsUnder k (get_or all g d)) same old.wants) i, sym same i)) in
+    kept.1 (λ i. (turn_key all file e k made (subst (λ (g : ℕ). (d : Wanting) → next_key (get_or all g d) ≡ Some k) same old.wants) i, sym same i)) in
     record {
       known = let far : f < length all = old.known in omega (arith, far, moved.files);
-      wants = λ d. subst (WantsUnder k) (sym (moved.others f d differs)) (old.wants d);
+      wants = λ d. subst (λ (w : Wanting). next_key w ≡ Some k) (sym (moved.others f d differs)) (old.wants d);
     }
 
--- a file that waits again, for its next call
-pub one_waits_again : (now : List Wanting) (file : ℕ) (before after : BTreeSet (Key × ℕ)) (key : Key) → file < length now → ((d : Wanting) → WantsUnder key (get_or now file d))
+-- a file that waits again, under its next key
+pub one_waits_again : (now : List Wanting) (file : ℕ) (before after : BTreeSet (Key × ℕ)) (key : Key) → file < length now → ((d : Wanting) → next_key (get_or now file d) ≡ Some key)
     → Updates turn_cmp before after (key, file) true → NoOthersWait now before → NoOthersWait now after
 one_waits_again now file before after key known its put only k f has =
     ⊎_elim
     (λ (same : (key, file) ≡ (k, f)). record {
       known = subst (λ (t : Key × ℕ). t.1 < length now) same known;
-      wants = λ d. subst (λ (t : Key × ℕ). WantsUnder t.0 (get_or now t.1 d)) same (its d);
+      wants = λ d. subst (λ (t : Key × ℕ). next_key (get_or now t.1 d) ≡ Some t.0) same (its d);
     })
     (λ (was : contains turn_cmp before (k, f) ≡ true). only k f was)
     (came before after (key, file) (k, f) put has)

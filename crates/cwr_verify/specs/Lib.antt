@@ -3,6 +3,7 @@ pub mod Reading
 pub mod Owned
 pub mod Chained
 pub mod Acknowledged
+pub mod Digest
 pub mod Wanting
 pub mod Verified
 pub mod Told

@@ -5,6 +5,7 @@
 #![tactic(auto)]
 
 mod chains;
+mod digest;
 mod file_check;
 mod past;
 mod proposal;

@@ -19,8 +19,8 @@ use work_registry::{Reply, Status};
 /// What an acknowledgement tells of a transaction.
 #[derive(Clone, Copy, Debug, PartialEq, Eq, Drop)]
 pub(crate) struct Told {
-    status: Status,
-    work: Option<u32>,
+    pub(crate) status: Status,
+    pub(crate) work: Option<u32>,
 }
 
 impl Told {

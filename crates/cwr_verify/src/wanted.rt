@@ -1,7 +1,7 @@
 //! What files want of a history.
 ghost use Rattle.std.specs.Prelude.{◌≡◌, ◌↔◌, ◌<◌, IsTrue, IfOk, OnOk, length, slice_get, MatchOption};
 ghost use Rattle.cwr_verify.specs.Reading.{asked_in};
-ghost use Rattle.cwr_verify.specs.Wanting.{CanHaveMade, IsFirst, HasMovedOn, AreWaiting, NoOthersWait, WantsUnder, found_next};
+ghost use Rattle.cwr_verify.specs.Wanting.{CanHaveMade, IsFirst, HasMovedOn, AreWaiting, NoOthersWait, found_next, key_of_entry, next_key};
 
 use crate::same_call::is_same_call;
 use crate::told::Told;
@@ -62,14 +62,16 @@ impl<'r, A: Allocator> Wanted<'r, A> {
         }
     }
 
-    /// What the next transaction's call is looked up by, where there is one.
+    /// What the next transaction is looked up by, where there is one of which something is told. Another can have made
+    /// no entry.
+    #[tactic(auto, unfolding(crate::specs::Wanting::next_key))]
     fn next_key(&self) -> Option<Key>
-        ensures { MatchOption result (slice_get self.now.calls self.now.found ≡ None) (λ key. WantsUnder key self.now) }
+        ensures { result ≡ next_key self.now }
     {
-        match self.next_call() {
-            Some(call) => Some(Key::of(call)),
-            None => None,
-        }
+        let (Some(call), Some(told)) = (self.next_call(), self.told.get(self.found)) else {
+            return None;
+        };
+        Some(Key::of(*told, call))
     }
 
     /// The next transaction is found.
@@ -81,7 +83,7 @@ impl<'r, A: Allocator> Wanted<'r, A> {
     }
 }
 
-/// The files that wait for their next calls.
+/// The files that wait for entries of their next transactions.
 pub(crate) fn waiting_of<A: Allocator + Copy>(
     alloc: A,
     wanted: &[Wanted<A>],
@@ -98,16 +100,17 @@ pub(crate) fn waiting_of<A: Allocator + Copy>(
     Ok(waiting)
 }
 
-/// The first file whose next transaction can have made an entry.
+/// The first file whose next transaction can have made an entry, which is looked up by this key.
 fn first_of<A: Allocator>(
     wanted: &[Wanted<A>],
     waiting: &Waiting<A>,
+    key: Key,
     entry: &Entry<A>,
 ) -> Option<usize>
-    requires { AreWaiting wanted.now waiting.now }
+    requires waiting { AreWaiting wanted.now waiting.now }
+    requires key { key ≡ key_of_entry entry.now }
     ensures { MatchOption result (IsFirst wanted.now entry.now (length wanted.now)) (λ file. IsFirst wanted.now entry.now file × (file < length wanted.now)) }
 {
-    let key = Key::of(entry.call());
     for turn in waiting.range((key, 0)..(key, wanted.len())) {
         let file = turn.1;
         if file < wanted.len() && wanted[file].can_have_made(entry) {
@@ -131,10 +134,11 @@ pub(crate) fn owner_of<A: Allocator + Copy>(
     ensures waiting { OnOk result (AreWaiting wanted.new waiting.new) }
     ensures no_others { OnOk result (NoOthersWait wanted.new waiting.new) }
 {
-    let Some(file) = first_of(wanted, waiting, entry) else {
+    let key = Key::of(Told::of(entry.reply()), entry.call());
+    let Some(file) = first_of(wanted, waiting, key, entry) else {
         return Ok(wanted.len());
     };
-    let _ = waiting.remove(&(Key::of(entry.call()), file));
+    let _ = waiting.remove(&(key, file));
     wanted[file].pass();
     if let Some(key) = wanted[file].next_key() {
         waiting.insert((key, file))?;

@@ -1,8 +1,7 @@
-use Rattle.std.proofs.Common.{◌≡◌, ◌∙◌, ℕ, ◌+◌, true, false, None, sym, ap, subst, get_or, arith}
-use Rattle.std.specs.Prelude.{slice_get}
+use Rattle.std.proofs.Common.{◌≡◌, ◌∙◌, ℕ, ◌+◌, true, false, Some, None, sym, subst, get_or, arith}
 use Rattle.std.specs.BTreeSet.{BTreeSet}
-use Rattle.cwr_verify.proofs.Turns.{AreWaitingBelow, NoOthersWaitBelow, nobody, none_more, none_waits, one_call, one_more, one_waits, read_at}
-use Rattle.cwr_verify.specs.Wanting.{Wanting, WantsUnder, key_of}
+use Rattle.cwr_verify.proofs.Turns.{AreWaitingBelow, NoOthersWaitBelow, nobody, none_more, none_waits, one_more, one_waits, read_at}
+use Rattle.cwr_verify.specs.Wanting.{Wanting, next_key}
 use Rattle.cwr_verify.specs.declared.waiting.Key.{Key}
 use Rattle.cwr_verify.proofs.wanted.waiting_of.Goals as goal
 use Rattle.cwr_verify.proofs.wanted.waiting_of.Goals.{in-Some+in_ok-insert, in_default}
@@ -18,12 +17,12 @@ loop-file-preserved g c =
     let at = read_at c.args.wanted.now c.loop-file.file c.index-wanted-file.result c.loop-file-test.true c.index-wanted-file.is in
     elim c.match-next_key.branch [
       | in-Some+in_ok-insert w ↦
-          let wants : (d : Wanting) → WantsUnder w.in-Some.key (get_or c.args.wanted.now c.loop-file.file d) = λ d. subst (WantsUnder w.in-Some.key) (sym (at d)) w.in-Some.ensures in
+          let wants : (d : Wanting) → next_key (get_or c.args.wanted.now c.loop-file.file d) ≡ Some w.in-Some.key =
+          λ d. subst (λ (v : Wanting). next_key v ≡ Some w.in-Some.key) (sym (at d)) (sym w.in-Some.ensures) in
           subst (λ (t : BTreeSet (Key × ℕ)). record { waiting : AreWaitingBelow (c.loop-file.file + 1) c.args.wanted.now t; no_others : NoOthersWaitBelow (c.loop-file.file + 1) c.args.wanted.now t })
           (sym w.waiting-is)
           (record {
-            waiting = one_waits c.loop-file.file c.args.wanted.now c.loop-file.waiting w.insert.new.self w.in-Some.key
-                (λ d call is. (wants d).its ∙ ap key_of (one_call _ (wants d).call call (wants d).next is)) w.in_ok-insert.ensures.updates c.loop-file.invariant.waiting;
+            waiting = one_waits c.loop-file.file c.args.wanted.now c.loop-file.waiting w.insert.new.self w.in-Some.key wants w.in_ok-insert.ensures.updates c.loop-file.invariant.waiting;
             no_others = one_more c.loop-file.file c.args.wanted.now c.loop-file.waiting w.insert.new.self w.in-Some.key wants w.in_ok-insert.ensures.updates
                 c.loop-file.invariant.no_others;
           })
@@ -32,7 +31,7 @@ loop-file-preserved g c =
           (sym w.waiting-is)
           (record {
             waiting = none_waits c.loop-file.file c.args.wanted.now c.loop-file.waiting
-                (λ d. subst (λ (v : Wanting). slice_get v.calls v.found ≡ None) (sym (at d)) w.in_default.ensures) c.loop-file.invariant.waiting;
+                (λ d. subst (λ (v : Wanting). next_key v ≡ None) (sym (at d)) (sym w.in_default.ensures)) c.loop-file.invariant.waiting;
             no_others = none_more c.loop-file.file c.args.wanted.now c.loop-file.waiting c.loop-file.invariant.no_others;
           })
     ]
