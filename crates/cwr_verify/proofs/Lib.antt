@@ -6,3 +6,4 @@ pub mod Files
 pub mod Judging
 pub mod Telling
 pub mod Turns
+pub mod Proposing

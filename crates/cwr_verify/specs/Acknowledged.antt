@@ -1,7 +1,8 @@
 -- What a line of an acknowledgement tells of a transaction.
 use Rattle.std.specs.Prelude.{ℕ, Bool, ◌&&◌, List, Option, None, codes, is_some, option_map, if◌then◌else◌}
-use Rattle.std.specs.List.{list_all}
+use Rattle.std.specs.List.{filter_map, list_all}
 use Rattle.std.specs.Str.{bytes_eq}
+use Rattle.std.specs.Str.Lines.{lines}
 use Rattle.cwr_field.specs.Calendar.{day_of, time_of}
 use Rattle.cwr_field.specs.Layout.{field}
 use Rattle.cwr_field.specs.Number.{number_of}
@@ -36,3 +37,7 @@ told_by line =
     if is_ack line
     then option_map (λ status. record { status = status; work = number_of (field (field_at line column.ack_recipient_number) 1 8) }) (status_named (field_at line column.ack_status))
     else None
+
+-- what is told of each transaction, in order
+abbrev pub told_in : List ℕ → List Told
+told_in text = filter_map told_by (lines text)

@@ -5,6 +5,7 @@ pub mod Chained
 pub mod Acknowledged
 pub mod Digest
 pub mod Wanting
+pub mod Proposed
 pub mod Verified
 pub mod Told
 pub mod Home

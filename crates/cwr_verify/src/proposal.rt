@@ -1,6 +1,6 @@
 //! Which file each entry answers, as the acknowledgements let one think. Nothing rests on it: it is checked.
-ghost use Rattle.std.specs.Prelude.{◌≡◌, length, map, IfOk};
-ghost use Rattle.cwr_verify.specs.Reading.{asked_in};
+ghost use Rattle.std.specs.Prelude.{◌≡◌, length, IfOk};
+ghost use Rattle.cwr_verify.specs.Proposed.{AreFirst, AreProposed, wantings_of};
 ghost use Rattle.cwr_verify.specs.Wanting.{AreWaiting, NoOthersWait};
 
 use crate::reading::Reading;
@@ -20,7 +20,8 @@ pub(crate) fn proposed<A: Allocator + Copy>(
     readings: &[Reading<A>],
 ) -> Result<Vec<usize, A>, AllocError>
     requires { length readings.now ≡ length files.now }
-    ensures { IfOk result (λ owners. length owners.items ≡ length history.now) }
+    ensures each_entry { IfOk result (λ owners. length owners.items ≡ length history.now) }
+    ensures first { IfOk result (λ owners. AreProposed files.now readings.now history.now owners.items) }
 {
     let mut wanted = wanted_of(alloc, files, readings)?;
     let mut waiting = waiting_of(alloc, &wanted)?;
@@ -36,7 +37,8 @@ fn owners_of<A: Allocator + Copy>(
 ) -> Result<Vec<usize, A>, AllocError>
     requires waiting { AreWaiting wanted.old waiting.old }
     requires no_others { NoOthersWait wanted.old waiting.old }
-    ensures { IfOk result (λ owners. length owners.items ≡ length history.now) }
+    ensures each_entry { IfOk result (λ owners. length owners.items ≡ length history.now) }
+    ensures first { IfOk result (λ owners. AreFirst wanted.old history.now owners.items wanted.new) }
 {
     let mut owners = Vec::new(alloc);
     for entry in history {
@@ -46,14 +48,14 @@ fn owners_of<A: Allocator + Copy>(
     Ok(owners)
 }
 
-/// What each of the files, so judged, wants of a history.
+/// What each of the files, so judged, wants of a history: its calls, and what its acknowledgement tells of them.
 fn wanted_of<'r, A: Allocator + Copy>(
     alloc: A,
     files: &[SentFile],
     readings: &'r [Reading<A>],
 ) -> Result<Vec<Wanted<'r, A>, A>, AllocError>
     requires { length readings.now ≡ length files.now }
-    ensures { IfOk result (λ all. map (λ w. w.calls) all.items ≡ map (λ r. asked_in r.transactions) readings.now) }
+    ensures { IfOk result (λ all. all.items ≡ wantings_of files.now readings.now) }
 {
     let mut all = Vec::new(alloc);
     for (number, reading) in readings.iter().enumerate() {

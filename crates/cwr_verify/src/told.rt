@@ -1,5 +1,5 @@
 //! What an acknowledgement tells, as far as it can be read. Nothing rests on it: what is found by it is checked.
-ghost use Rattle.std.specs.Prelude.{◌≡◌, ◌≤◌, codes, is_some, IsTrue};
+ghost use Rattle.std.specs.Prelude.{◌≡◌, ◌≤◌, codes, is_some, IfOk, IsTrue};
 ghost use Rattle.std.specs.Str.{bytes_eq};
 ghost use Rattle.cwr_field.specs.Calendar.{day_of, time_of};
 ghost use Rattle.cwr_field.specs.Layout.{field};
@@ -7,7 +7,7 @@ ghost use Rattle.cwr_field.specs.Number.{number_of};
 ghost use Rattle.cwr_record.specs.Columns.{field_at, every_record_type, ack_recipient_number, ack_status};
 ghost use Rattle.cwr_record.specs.Kinds.{status_named};
 ghost use Rattle.cwr_record.specs.Ranges.{is_in_line};
-ghost use Rattle.cwr_verify.specs.Acknowledged.{can_be_read, is_ack, told_by};
+ghost use Rattle.cwr_verify.specs.Acknowledged.{can_be_read, is_ack, told_by, told_in};
 ghost use Rattle.cwr_verify.specs.Wanting.{told_of};
 
 use cwr_field::{cut, date, digits, time};
@@ -39,7 +39,9 @@ impl Told {
 pub(crate) fn told_in<A: Allocator>(
     alloc: A,
     acknowledgement: &[u8],
-) -> Result<Vec<Told, A>, AllocError> {
+) -> Result<Vec<Told, A>, AllocError>
+    ensures { IfOk result (λ all. all.items ≡ told_in acknowledgement.now) }
+{
     let mut all = Vec::new(alloc);
     for line in Lines::of(acknowledgement) {
         if let Some(told) = told_by(line) {

@@ -68,7 +68,7 @@ returns g c =
     let past : length c.loop-number.yielded ≡ length c.args.files.now = t.1 ∙ length-enumerate_from 0 c.in-Ok.readings.items ∙ c.in-Ok.ensures.count in
     record {
       answered = record {
-        each_entry = c.in-Ok-proposed.ensures ∙ ap (λ (h : List EntryValue). length h) c.history.ensures.entries;
+        each_entry = c.in-Ok-proposed.ensures.each_entry ∙ ap (λ (h : List EntryValue). length h) c.history.ensures.entries;
         each_file = λ file d lt.
             subst (λ (o : List ℕ). IsAnsweredBy (get_or c.args.files.now file d) (owned file o c.args.book.now.history)) c.as_slice-each.ensures.value
             (c.loop-number.invariant file d (omega (arith, past, lt)));

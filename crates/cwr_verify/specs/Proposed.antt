@@ -1,0 +1,30 @@
+-- Which file each entry of a history is proposed for.
+use Rattle.std.specs.Prelude.{◌≡◌, ℕ, List, [], ◌∷◌}
+use Rattle.work_registry.specs.EntryValue.{EntryValue}
+use Rattle.cwr_verify.specs.Acknowledged.{told_in}
+use Rattle.cwr_verify.specs.Reading.{Reading, asked_in}
+use Rattle.cwr_verify.specs.Sent.{Sent}
+use Rattle.cwr_verify.specs.Wanting.{Wanting, IsFirst, HasMovedOn}
+
+-- what a file wants, so judged, none of whose transactions is found
+abbrev pub wanting_of : Sent → Reading → Wanting
+wanting_of sent reading = record { calls = asked_in reading.transactions; told = told_in sent.acknowledgement; found = 0 }
+
+-- each of these files
+abbrev pub wantings_of : List Sent → List Reading → List Wanting
+wantings_of [] readings = []
+wantings_of (sent ∷ files) [] = []
+wantings_of (sent ∷ files) (reading ∷ readings) = wanting_of sent reading ∷ wantings_of files readings
+
+-- The owner of each entry is the first file whose next transaction can have made it, once the transactions that made the
+-- entries before it are found. So much is wanted before and after these entries.
+abbrev pub AreFirst : List Wanting → List EntryValue → List ℕ → List Wanting → Type 0
+AreFirst before [] [] after = after ≡ before
+AreFirst before [] (owner ∷ owners) after = ⊥
+AreFirst before (entry ∷ history) [] after = ⊥
+AreFirst before (entry ∷ history) (owner ∷ owners) after =
+    (next : List Wanting) × IsFirst before entry owner × HasMovedOn before next owner × AreFirst next history owners after
+
+-- the owners of a history, whatever stays wanted after it
+abbrev pub AreProposed : List Sent → List Reading → List EntryValue → List ℕ → Type 0
+AreProposed files readings history owners = (after : List Wanting) × AreFirst (wantings_of files readings) history owners after
