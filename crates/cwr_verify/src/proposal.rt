@@ -40,7 +40,7 @@ fn owners_of<A: Allocator + Copy>(
     ensures each_entry { IfOk result (λ owners. length owners.items ≡ length history.now) }
     ensures first { IfOk result (λ owners. AreFirst wanted.old history.now owners.items wanted.new) }
 {
-    let mut owners = Vec::new(alloc);
+    let mut owners = Vec::with_capacity(alloc, history.len())?;
     for entry in history {
         let owner = owner_of(wanted, waiting, entry)?;
         owners.push(owner)?;
@@ -57,7 +57,7 @@ fn wanted_of<'r, A: Allocator + Copy>(
     requires { length readings.now ≡ length files.now }
     ensures { IfOk result (λ all. all.items ≡ wantings_of files.now readings.now) }
 {
-    let mut all = Vec::new(alloc);
+    let mut all = Vec::with_capacity(alloc, readings.len())?;
     for (number, reading) in readings.iter().enumerate() {
         let file = &files[number];
         let told = told_in(alloc, file.acknowledgement)?;

@@ -43,7 +43,7 @@ pub(crate) fn readings_of<A: Allocator + Copy>(
 ) -> Result<Vec<Reading<A>, A>, Memory>
     ensures { IfOk result (λ readings. AreReadingsOf files.now readings.items) }
 {
-    let mut readings = Vec::new(alloc);
+    let mut readings = Vec::with_capacity(alloc, files.len())?;
     for file in files {
         readings.push(reading_of(alloc, file.text)?)?;
     }
