@@ -1,12 +1,18 @@
 -- A line that was taken with its type, before the lines that are left.
-use Rattle.std.specs.Prelude.{ℕ, ◌≡◌, List, [], ◌∷◌, Option, Some, None}
+use Rattle.std.specs.Prelude.{ℕ, ◌≡◌, List, [], ◌∷◌, Option, Some, None, if◌then◌else◌}
 use Rattle.cwr_record.specs.RecordTypes.{type_of}
 use Rattle.cwr_remarks.specs.declared.typed.Typed.{Typed}
+use Rattle.cwr_remarks.specs.Territories.{has_territories}
 
 -- the line that was taken, where there was one, and the lines that are left
 abbrev pub left : Option Typed → List (List ℕ) → List (List ℕ)
 left None rest = []
 left (Some taken) rest = taken.line.now ∷ rest
+
+-- the lines that are left, where what is remarked of that line depends on them
+abbrev pub looked_at : Option Typed → List (List ℕ) → List (List ℕ)
+looked_at None rest = []
+looked_at (Some taken) rest = if has_territories taken.record_type then rest else []
 
 -- its type is that of its record
 abbrev pub IsTyped : Option Typed → Type 0

@@ -1,13 +1,13 @@
-ghost use Rattle.std.specs.Prelude.{◌≡◌, ◌++◌, IfOk, OnOk, Some};
+ghost use Rattle.std.specs.Prelude.{◌≡◌, ◌≤◌, ◌++◌, ℕ, IfOk, OnOk, Some};
 ghost use Rattle.std.specs.Str.Lines.{lines};
 ghost use Rattle.cwr_record.specs.RecordTypes.{type_of};
 ghost use Rattle.cwr_remarks.specs.Remarks.{remark_on, remarks_on, remarks_from, remarks_to};
-ghost use Rattle.cwr_remarks.specs.Typed.{left, IsTyped};
+ghost use Rattle.cwr_remarks.specs.Typed.{left, looked_at, IsTyped};
 
 use crate::high_bytes::high_bytes;
 use crate::layouts::past_layout;
 use crate::remark::{Remark, Remarked};
-use crate::territories::only_excluded;
+use crate::territories::{has_territories, only_excluded};
 use crate::typed::{Typed, next_typed};
 use crate::types::unknown_type;
 use cwr_field::Memory;
@@ -43,17 +43,50 @@ pub fn remarks_before<A: Allocator>(
         return Ok(found);
     }
     let mut rest = Lines::of(text);
-    let mut next = next_typed(&mut rest);
-    let mut number: u64 = 1;
-    while number < end {
+    let first = next_typed(&mut rest);
+    let (last, rest) = push_remarks_to(&mut found, 1, end - 1, first, rest)?;
+    // What is behind the last line that is asked for may be long, and is seldom needed.
+    let rest = looked_at(last, rest);
+    push_remarks_to(&mut found, end - 1, end, last, rest)?;
+    Ok(found)
+}
+
+/// Appends the remarks on the lines from the first of these numbers up to the last, without that one: the first line was
+/// taken, and the others are behind it. Gives the line with the last number, where there is one, and those behind it.
+fn push_remarks_to<'a, A: Allocator>(
+    found: &mut Vec<Remark, A>,
+    first: u64,
+    last: u64,
+    taken: Option<Typed<'a>>,
+    behind: Lines<'a>,
+) -> Result<(Option<Typed<'a>>, Lines<'a>), Memory>
+    requires inside { first ≤ last }
+    requires taken { IsTyped taken }
+    ensures found { (end : ℕ) → last ≤ end → IfOk result (λ now. found.new.items ++ remarks_to end last (left now.0 now.1) ≡ found.old.items ++ remarks_to end first (left taken.entry behind.entry)) }
+    ensures typed { IfOk result (λ now. IsTyped now.0) }
+{
+    let mut rest = behind;
+    let mut next = taken;
+    let mut number = first;
+    while number < last {
         let Some(line) = next else {
-            return Ok(found);
+            return Ok((None, rest));
         };
         next = next_typed(&mut rest);
-        push_remarks_on(&mut found, number, line, next, &rest)?;
+        push_remarks_on(found, number, line, next, &rest)?;
         number += 1;
     }
-    Ok(found)
+    Ok((next, rest))
+}
+
+/// The lines behind the last one, where what is remarked of it depends on them. Else they are not looked at.
+fn looked_at<'a>(last: Option<Typed>, behind: Lines<'a>) -> Lines<'a>
+    ensures { result ≡ looked_at last.entry behind.entry }
+{
+    match last {
+        Some(last) if has_territories(last.record_type) => behind,
+        _ => Lines::of(b""),
+    }
 }
 
 /// Appends the remarks on a line with this number, before one that was taken and these lines.

@@ -36,7 +36,7 @@ pub(crate) enum Told {
     SoFar(bool),
 }
 
-fn has_territories(leading: RecordType) -> bool
+pub(crate) fn has_territories(leading: RecordType) -> bool
     ensures { result ≡ has_territories leading }
 {
     matches!(leading, RecordType::Spu | RecordType::Swr)
