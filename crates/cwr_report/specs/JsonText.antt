@@ -1,5 +1,5 @@
 -- What is told as JSON, as it is written: pieces one after the other.
-use Rattle.std.specs.Prelude.{ℕ, List, [], ◌∷◌, ◌++◌, Bool, true, ◌||◌, ◌==◌, nat_lt, codes, Option, Some, None}
+use Rattle.std.specs.Prelude.{ℕ, List, [], ◌∷◌, ◌++◌, Bool, true, false, ◌||◌, ◌==◌, nat_lt, codes, Option, Some, None}
 use Rattle.std.specs.Fmt.{decimal}
 use Rattle.std.specs.Ordering.{nat_cmp, match_ordering}
 use Rattle.std.specs.Cmp.Lexicographic.{slice_cmp}
@@ -125,6 +125,10 @@ with_text later name text (member l e ms) =
     (member_text later name text ++ members_text true (member l e ms))
     (member_text later l text ++ members_text true ms)
     (member_text later l (compact_text e) ++ with_text true name text ms)
+
+-- an object of members with this text at a name, and LF
+abbrev pub line_with_text : List ℕ → List ℕ → Members → List ℕ
+line_with_text name text ms = 123 ∷ (with_text false name text ms ++ 10 ∷ [])
 
 -- members, with one more where there is one
 abbrev pub left_text : Bool → Option Member → Members → List ℕ

@@ -4,7 +4,7 @@ ghost use Rattle.serde_json.specs.Data.{Data, Members, member, array, object, pu
 ghost use Rattle.serde_json.specs.View.{view, items_of};
 ghost use Rattle.serde_json.specs.Written.{compact_text, comma_if, items_text, has_float};
 ghost use Rattle.cwr_report.specs.Json.{json_line, finding_data, file_data, faults_data, report_members, report_json};
-ghost use Rattle.cwr_report.specs.JsonText.{member_text, left_text, own_name, own_data};
+ghost use Rattle.cwr_report.specs.JsonText.{member_text, left_text, line_with_text, own_name, own_data};
 ghost use Rattle.cwr_report.specs.Report.{IsJsonCheck};
 ghost use Rattle.cwr_report.specs.Walks.{IsLineWalk};
 
@@ -66,7 +66,9 @@ pub fn json_text_with(
 
 /// What is told of a report as JSON, with one member more, whose value is there as a text: one object, and LF.
 ///
-/// Where the text is that of a value, as `to_string` gives it, this is what [`json_text_with`] tells with the value.
+/// The text stands behind the member's name as it is given, whatever bytes it has; one of this name that a report has is
+/// replaced. The members stand in the order of their names. Where the text is that of a value, as `to_string` gives it,
+/// this is what [`json_text_with`] tells with the value.
 pub fn json_text_with_text(
     alloc: Global,
     bytes: &[u8],
@@ -74,7 +76,8 @@ pub fn json_text_with_text(
     name: &str,
     more: &[u8],
 ) -> Result<Vec<u8>, Memory>
-    ensures { (value : Data) → more.now ≡ compact_text value → IfOk result (λ text. text.items ≡ json_line (object (with_member name.now value (report_members (lines bytes.now) report.now.findings.items report.now.transactions report.now.faulty report.now.refused)))) }
+    ensures text { IfOk result (λ text. text.items ≡ line_with_text name.now more.now (report_members (lines bytes.now) report.now.findings.items report.now.transactions report.now.faulty report.now.refused)) }
+    ensures value { (value : Data) → more.now ≡ compact_text value → IfOk result (λ text. text.items ≡ json_line (object (with_member name.now value (report_members (lines bytes.now) report.now.findings.items report.now.transactions report.now.faulty report.now.refused)))) }
 {
     let mut text = Vec::new(alloc);
     put_line(

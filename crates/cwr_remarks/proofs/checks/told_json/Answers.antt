@@ -5,4 +5,4 @@ use Rattle.cwr_remarks.proofs.checks.told_json.Goals as goal
 pub returns : goal.returns
 returns c =
     let written = rw c.new-told.ensures.items at c.in_ok-put_list.ensures in
-    c.json_text_with_text.ensures (remarks_data c.args.found.now) (c.deref.ensures.value ∙ written)
+    c.json_text_with_text.ensures.value (remarks_data c.args.found.now) (c.deref.ensures.value ∙ written)
