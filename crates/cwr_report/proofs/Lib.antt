@@ -1,3 +1,4 @@
+pub mod Fronts
 pub mod lemmas
 pub mod Walking
 pub mod Reported

@@ -1,4 +1,4 @@
-ghost use Rattle.std.specs.Prelude.{◌≡◌, ◌+◌, ◌++◌, ◌<◌, ◌∷◌, [], drop, length, IfSome, OnOk};
+ghost use Rattle.std.specs.Prelude.{◌≡◌, ◌+◌, ◌++◌, ◌<◌, ◌∷◌, [], take, drop, length, IfSome, OnOk, OnErr};
 ghost use Rattle.std.specs.Char.{digit_char, encode_utf8};
 ghost use Rattle.std.specs.List.{position};
 ghost use Rattle.serde_json.specs.Written.{compact_text};
@@ -12,9 +12,23 @@ use cwr_field::{LEAST_PRINTABLE, Memory};
 /// Appends bytes as a text of JSON: each byte is the character with its number, so that a text has all of them whatever
 /// they are.
 ///
-/// A refusal may leave a part of it.
+/// A refusal leaves the vector as it was.
 pub fn put_json_text(out: &mut Vec<u8>, bytes: &[u8]) -> Result<(), Memory>
-    ensures { OnOk result (out.new.items ≡ out.old.items ++ compact_text (text_data bytes.now)) }
+    ensures ok { OnOk result (out.new.items ≡ out.old.items ++ compact_text (text_data bytes.now)) }
+    ensures err { OnErr result (out.new.items ≡ out.old.items) }
+{
+    let length = out.len();
+    let told = put_quoted(out, bytes);
+    if told.is_err() {
+        out.truncate(length);
+    }
+    told
+}
+
+/// The same. A refusal may leave a part of it behind what was there.
+fn put_quoted(out: &mut Vec<u8>, bytes: &[u8]) -> Result<(), Memory>
+    ensures ok { OnOk result (out.new.items ≡ out.old.items ++ compact_text (text_data bytes.now)) }
+    ensures err { OnErr result (take (length out.old.items) out.new.items ≡ out.old.items) }
 {
     out.push(b'"')?;
     put_characters(out, bytes)?;
@@ -25,7 +39,8 @@ pub fn put_json_text(out: &mut Vec<u8>, bytes: &[u8]) -> Result<(), Memory>
 /// Appends what stands for bytes in a text. Where it is seen soon that each of them stands for itself, all are appended
 /// at once.
 fn put_characters(out: &mut Vec<u8>, bytes: &[u8]) -> Result<(), Memory>
-    ensures { OnOk result (out.new.items ≡ out.old.items ++ escape (latin bytes.now)) }
+    ensures ok { OnOk result (out.new.items ≡ out.old.items ++ escape (latin bytes.now)) }
+    ensures err { OnErr result (take (length out.old.items) out.new.items ≡ out.old.items) }
 {
     if are_kept(bytes) {
         out.extend_from_slice(bytes)?;
@@ -36,7 +51,8 @@ fn put_characters(out: &mut Vec<u8>, bytes: &[u8]) -> Result<(), Memory>
 
 /// Appends what stands for bytes in a text. Those up to the next that is changed are appended at once.
 fn put_each(out: &mut Vec<u8>, bytes: &[u8]) -> Result<(), Memory>
-    ensures { OnOk result (out.new.items ≡ out.old.items ++ escape (latin bytes.now)) }
+    ensures ok { OnOk result (out.new.items ≡ out.old.items ++ escape (latin bytes.now)) }
+    ensures err { OnErr result (take (length out.old.items) out.new.items ≡ out.old.items) }
 {
     let mut rest = bytes;
     while let Some(kept) = first_changed(rest) {
@@ -73,7 +89,8 @@ fn is_changed(byte: u8) -> bool
 
 /// Appends what stands for the character with the number of a byte.
 fn put_character(out: &mut Vec<u8>, byte: u8) -> Result<(), Memory>
-    ensures { OnOk result (out.new.items ≡ out.old.items ++ escape (encode_utf8 byte)) }
+    ensures ok { OnOk result (out.new.items ≡ out.old.items ++ escape (encode_utf8 byte)) }
+    ensures err { OnErr result (out.new.items ≡ out.old.items) }
 {
     if byte < 128 {
         put_escaped(out, byte)
@@ -85,7 +102,8 @@ fn put_character(out: &mut Vec<u8>, byte: u8) -> Result<(), Memory>
 /// Appends the two bytes of a character above 127.
 fn put_wide(out: &mut Vec<u8>, byte: u8) -> Result<(), Memory>
     requires { 127 < byte }
-    ensures { OnOk result (out.new.items ≡ out.old.items ++ encode_utf8 byte) }
+    ensures ok { OnOk result (out.new.items ≡ out.old.items ++ encode_utf8 byte) }
+    ensures err { OnErr result (out.new.items ≡ out.old.items) }
 {
     let mut room = [0; 4];
     out.extend_from_slice((byte as char).encode_utf8(&mut room).as_bytes())?;
@@ -94,7 +112,8 @@ fn put_wide(out: &mut Vec<u8>, byte: u8) -> Result<(), Memory>
 
 /// Appends what stands for a byte of a text in UTF-8.
 fn put_escaped(out: &mut Vec<u8>, byte: u8) -> Result<(), Memory>
-    ensures { OnOk result (out.new.items ≡ out.old.items ++ escape_byte byte) }
+    ensures ok { OnOk result (out.new.items ≡ out.old.items ++ escape_byte byte) }
+    ensures err { OnErr result (out.new.items ≡ out.old.items) }
 {
     let letter = escape_letter(byte);
     if letter > 0 {
