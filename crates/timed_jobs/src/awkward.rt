@@ -10,8 +10,8 @@ use cwr_remarks::{remarked_json, remarked_long};
 use cwr_report::{json_text_with, report_on, text_value};
 use std::alloc::Global;
 
-/// A text with what JSON escapes, and with a letter of two bytes.
-const SAID: &str = "\"CAFÉ SONG\" \\ AND MORE OF THIS KIND\t";
+/// A text with what JSON escapes, in short and as `\u001b`, and with a letter of two bytes.
+const SAID: &str = "\"CAFÉ SONG\" \\ AND MORE OF THIS KIND\x1b";
 
 /// Reports of works of which each breaks a rule or is remarked on, of files that are refused, and files of all sizes
 /// against a register.
