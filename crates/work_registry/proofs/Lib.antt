@@ -18,12 +18,14 @@ pub mod RegisterFields
 pub mod HandedOn
 pub mod RegisterFits
 pub mod RegisterSteps
+pub mod EachOfList
 pub mod RegisterFaultTexts
 pub mod RegisterEntries
 pub mod RegisterInPieces
 pub mod RegisterLines
 pub mod RegisterFirstLine
 pub mod RegisterNextLine
+pub mod OneMoreEntry
 pub mod Audited
 pub mod NumberedReplies
 pub mod RegisterAgain

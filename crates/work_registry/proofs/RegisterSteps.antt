@@ -32,7 +32,7 @@ line_parts x h fs out a b p q r s =
         ∙ append_assoc out (front ++ faults) (10 ∷ [])
 
 -- what holds of each so far, and of one more
-all_push : {X : Type 0} (P : X → Type 0) (xs : List X) (x : X) → AllByRecursion P xs → P x → AllByRecursion P (xs ++ x ∷ [])
+pub all_push : {X : Type 0} (P : X → Type 0) (xs : List X) (x : X) → AllByRecursion P xs → P x → AllByRecursion P (xs ++ x ∷ [])
 all_push P [] x p q = (q, tt)
 all_push P (y ∷ xs) x p q = (p.0, all_push P xs x p.1 q)
 

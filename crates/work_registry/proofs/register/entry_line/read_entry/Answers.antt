@@ -1,8 +1,11 @@
 use Rattle.std.proofs.Common.{◌∙◌, ◌*◌, ap, sym}
 use Rattle.work_registry.specs.RegisterColumns as column
 use Rattle.work_registry.specs.declared.register.head.Head.{Head}
-use Rattle.work_registry.proofs.RegisterEntries.{headless, miscounted, faultless, says_some, only_read}
+use Rattle.work_registry.proofs.RegisterEntries.{short, headless, miscounted, faultless, says_some, only_read}
 use Rattle.work_registry.proofs.register.entry_line.read_entry.Goals as goal
+
+pub returns-then-line-lt-HEAD_WIDTH-clause-only : goal.returns-then-line-lt-HEAD_WIDTH-clause-only
+returns-then-line-lt-HEAD_WIDTH-clause-only g c = λ x line. absurd (short c.args.line.now x c.if-line-lt-HEAD_WIDTH.true line)
 
 pub returns-in_default-clause-only : goal.returns-in_default-clause-only
 returns-in_default-clause-only g c = λ x line. absurd (headless c.args.line.now x (rw c.split_at.ensures.front at c.in_default.ensures.none) line)

@@ -1,6 +1,8 @@
-use Rattle.std.proofs.Common.{◌≡◌, ◌∙◌, ◌+◌, ◌∷◌, ◌++◌, ℕ, List, length, length-append, arith, ap, sym, subst}
-use Rattle.work_registry.specs.RegisterReader.{ReaderState, IsRest}
+use Rattle.std.proofs.Common.{◌≡◌, ◌∙◌, ◌+◌, ◌∷◌, ◌++◌, ℕ, List, Option, length, length-append, arith, ap, sym, subst}
+use Rattle.work_registry.specs.RegisterReader.{ReaderState, HasCounted, IsRest}
+use Rattle.work_registry.specs.EntryValue.{EntryValue}
 use Rattle.work_registry.specs.RegisterFaults.{IsRefusal}
+use Rattle.work_registry.specs.RegisterReading.{IsReadTo}
 use Rattle.work_registry.proofs.Audited.{rest_first, rest_later, counted_later}
 use Rattle.work_registry.proofs.HandedOn.{handed_on}
 use Rattle.work_registry.proofs.RegisterNextLine.{tail_line}
@@ -33,3 +35,28 @@ pub returns-clause-more : goal.returns-clause-more
 returns-clause-more g c =
     let most = (counted_later c.self.inside.limit c.self.inside.count c.self.inside.ledger c.in-Some.count c.in-Some.is c.self.invariant.counted).0 in
     rw (← c.self.view_is) (omega (arith, most, c.len.ensures.value, c.if-len-count.false))
+
+pub returns-clause-few : goal.returns-clause-few
+returns-clause-few g c =
+    let most = (counted_later c.self.inside.limit c.self.inside.count c.self.inside.ledger c.in-Some.count c.in-Some.is c.self.invariant.counted).1 in
+    omega (arith, most, c.self.invariant.most)
+
+pub returns-clause-counted : goal.returns-clause-counted
+returns-clause-counted g c = sym (ap (λ (s : ReaderState). s.count) c.self.view_is) ∙ c.in-Some.is
+
+pub invariant_of-self : goal.invariant_of-self
+invariant_of-self g c =
+    let P : Option ℕ → Type 0 = λ o. HasCounted c.self.inside.limit o c.self.inside.ledger in
+    let none = subst P c.in_default.is c.self.invariant.counted in
+    record { counted = (omega (arith, ap length none), c.in_ok-first_count.ensures.within); most = c.self.invariant.most; opening = c.self.invariant.opening }
+
+pub returns-in_default-clause-first : goal.returns-in_default-clause-first
+returns-in_default-clause-first g c = λ first text more left.
+    let line = c.args.line.now in
+    let count = c.in_ok-first_count.field-0 in
+    let P : Option ℕ → Type 0 = λ o. HasCounted c.self.inside.limit o c.self.inside.ledger in
+    let Q : ReaderState → Type 0 = λ s. IsRest s text (line ++ 10 ∷ more) in
+    let R : List ℕ → Type 0 = λ xs. IsReadTo c.self.inside.limit xs count c.self.inside.ledger more in
+    let S : List EntryValue → Type 0 = λ h. IsReadTo c.self.inside.limit (line ++ 10 ∷ more) count h more in
+    let none = subst P c.in_default.is c.self.invariant.counted in
+    subst R (sym (rest_first _ text (line ++ 10 ∷ more) c.in_default.is (subst Q (sym c.self.view_is) left))) (subst S (sym none) (c.in_ok-first_count.ensures.count more))
