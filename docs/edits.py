@@ -5,14 +5,16 @@
 
 For each edit the gate prints whether the prover refused it, and the first reason. Listed, one a line with its reason, are:
 
-- an edit refused for a name that is gone: only because a proof file names what the edit took away. Newer kits print that
-  of it. For older ones it is taken from the first reason alone, where this is an error in `proofs/` that a record has no
-  field or type a name is not of, that a name is not in scope, or that what a proof cites was not admitted;
+- an edit that was refused for a name that is gone: a proof file names what the edit took away, so that the prover did not
+  come to the contract. The gate says so of some. Of the others it is taken from the first reason, where that is an error
+  in `proofs/`: a name is not in scope, what a proof cites was not admitted, or a record or a module has no such name. The
+  prover may tell the last on two lines, of which the gate prints the first; so a reason that ends behind the name of a
+  record or a module is one too. An edit that has other reasons, behind such a first one, is listed as well;
 - an edit that was not refused;
 - a bad edit, which did not come to the prover.
 
-The last line counts them. An edit that is told more than once counts as it was told last. The status is 1 where an edit
-is listed, 0 where none is, and 2 where no edit is told of."""
+The last line counts them. An edit that is told of more than once counts as it was told last. The status is 1 where an
+edit is listed, 0 where none is, and 2 where no edit is told of."""
 import argparse
 import collections
 import re
@@ -22,6 +24,8 @@ import sys
 TOLD = re.compile(r"^rt: (?:must-fail )?(\S+?): (refused, as it must be|NOT REFUSED|BAD EDIT)(.*)$")
 NOTED = "only because a proof file names what the edit took away"
 NAMES = re.compile(r"^(\./)?proofs/.*(has no field|is not in scope|has no `|was not admitted)")
+# The first of two lines, which the gate may have cut.
+BROKEN = re.compile(r"^(\./)?proofs/\S+ error: `[^`]*`: (`[^`]*`: )?(record|module) `[^`]*(`( \(nearest: [^)]*\)?)?)?$")
 KINDS = {"gone": "for a name that is gone", "passed": "not refused", "bad": "bad"}
 
 
@@ -34,7 +38,7 @@ def kind_of(word, rest):
         return "bad", reason
     if NOTED in rest:
         return "gone", rest.partition("): ")[2]
-    return ("gone" if NAMES.match(reason) else None), reason
+    return ("gone" if NAMES.match(reason) or BROKEN.match(reason) else None), reason
 
 
 def edits_in(lines):
