@@ -51,7 +51,7 @@ at_taken end number line t rest false h is at =
     (behind number line rest [] (none_excluded (type_of line) [] none ∙ sym (none_excluded (type_of line) rest none)))
     (stopped end (number + 1) [] over ∙ sym (stopped end (number + 1) rest over)))
 
--- so that these are looked at only where it has some
+-- so the lines behind the last are looked at only where it has territories
 at_last : (end number : ℕ) (next : Option Typed) (rest : List (List ℕ)) → IsTyped next → number + 1 ≡ end
     → remarks_to end number (left next (looked_at next rest)) ≡ remarks_to end number (left next rest)
 at_last end number None rest typed h = refl

@@ -66,8 +66,8 @@ pub fn json_text_with(
 
 /// What is told of a report as JSON, with one member more, whose value is there as a text: one object, and LF.
 ///
-/// The text stands behind the member's name as it is given, whatever bytes it has; one of this name that a report has is
-/// replaced. The members stand in the order of their names. Where the text is that of a value, as `to_string` gives it,
+/// The text stands behind the member's name as it is given, whatever bytes it has; a member of this name that the report
+/// has is replaced. The members stand in the order of their names. Where the text is that of a value, as `to_string` gives it,
 /// this is what [`json_text_with`] tells with the value.
 pub fn json_text_with_text(
     alloc: Global,

@@ -31,7 +31,7 @@ abbrev pub kind_number : WorkKind → ℕ
 kind_number kind.Nwr = 0
 kind_number kind.Rev = 1
 
--- what is told of a reply, and what a call says, but for its control and its faults
+-- what is told of a reply, and what a call says, but for the end of its number, its control and its faults
 unfoldable pub parts_of : Told → CallValue → List ℕ
 parts_of told call =
     status_number told.status ∷ unwrap_or told.work 0
@@ -48,6 +48,6 @@ fault_mixed so_far fault = mixed (mixed so_far fault.sequence) (from_be_bytes w6
 unfoldable pub faults_mixed : ℕ → List Fault → ℕ
 faults_mixed so_far faults = fold fault_mixed so_far faults
 
--- all that is compared
+-- all that is compared, but for the end of the number
 unfoldable pub digest_of : Told → CallValue → ℕ
 digest_of told call = faults_mixed (all_mixed (all_mixed 0 (parts_of told call)) call.control) call.faults

@@ -17,7 +17,7 @@ wantings_of (sent ∷ files) [] = []
 wantings_of (sent ∷ files) (reading ∷ readings) = wanting_of sent reading ∷ wantings_of files readings
 
 -- The owner of each entry is the first file whose next transaction can have made it, once the transactions that made the
--- entries before it are found. So much is wanted before and after these entries.
+-- entries before it are found. `before` and `after` are what is wanted before and after these entries.
 abbrev pub AreFirst : List Wanting → List EntryValue → List ℕ → List Wanting → Type 0
 AreFirst before [] [] after = after ≡ before
 AreFirst before [] (owner ∷ owners) after = ⊥

@@ -7,8 +7,9 @@ use cwr_record::WorkKind;
 use std::alloc::Allocator;
 use work_registry::{Call, Fault, Status};
 
-/// A number into which all is mixed that is told of a reply and that a call says. What differs has another digest, but
-/// for chance.
+/// A number into which is mixed what is told of a reply and what a call says, but for the last six bytes of its number,
+/// which are in the key. What differs has another digest, but for chance, or where somebody means it to have the same:
+/// then it is looked at in vain. Time alone rests on it.
 #[tactic(auto, unfolding(crate::specs::Digest::digest_of))]
 pub(crate) fn digest_of<A: Allocator>(told: Told, call: &Call<A>) -> u64
     ensures { result ≡ digest_of told call.now }

@@ -1,4 +1,4 @@
-//! Which files wait for which call.
+//! Which files wait for an entry of which transaction.
 ghost use Rattle.std.specs.Prelude.{◌≡◌};
 ghost use Rattle.cwr_verify.specs.Wanting.{key_of};
 
@@ -31,5 +31,5 @@ impl Key {
     }
 }
 
-/// The files that wait for a call, by its key, and then by file.
+/// The files that wait for an entry of their next transaction, by its key, and then by file.
 pub(crate) type Waiting<A> = BTreeSet<(Key, usize), A>;

@@ -62,8 +62,8 @@ impl<'r, A: Allocator> Wanted<'r, A> {
         }
     }
 
-    /// What the next transaction is looked up by, where there is one of which something is told. Another can have made
-    /// no entry.
+    /// What the next transaction is looked up by, where there is one of which something is told. One of which nothing is
+    /// told can have made none.
     #[tactic(auto, unfolding(crate::specs::Wanting::next_key))]
     fn next_key(&self) -> Option<Key>
         ensures { result ≡ next_key self.now }

@@ -8,7 +8,7 @@ loop-entry-preserved g c =
     let put = c.in_ok-push.ensures.items in
     let found = c.in_ok-owner.ensures in
     record {
-      owned = ap length put ∙ (length_push c.loop-entry.owners.items c.in_ok-owner.owner ∙ ap (λ (n : ℕ). n + 1) c.loop-entry.invariant.owned);
+      owned = ap length put ∙ (length_push c.loop-entry.owners.items _ ∙ ap (λ (n : ℕ). n + 1) c.loop-entry.invariant.owned);
       first = entry_more c.args.wanted.now c.args.history.now c.loop-entry.entry-index c.loop-entry.owners.items c.push.new.self.items c.loop-entry.wanted c.owner_of.new.wanted
           c.entry-item.result c.in_ok-owner.owner c.loop-entry-test.true c.entry-item.is put c.loop-entry.invariant.first found.first found.moved;
       waiting = found.waiting;
