@@ -1,4 +1,5 @@
 //! Tests with `refusing` of the crates that keep no works: each request for memory of each of their calls is refused in turn.
+//! Beside these, what a report tells as JSON, by calls that take the system's allocator.
 #![tactic(auto)]
 
 #[cfg(test)]
@@ -11,6 +12,8 @@ mod array_locks;
 mod control_records;
 #[cfg(test)]
 mod files;
+#[cfg(test)]
+mod json_texts;
 #[cfg(test)]
 mod reports;
 #[cfg(test)]
