@@ -1,7 +1,7 @@
 -- The lines before one of a file are few, and what they say counts no more than they are.
 use Rattle.std.proofs.Common.{inl, inr, eqb, Bool, true, false, cond, ◌≡◌, ◌∙◌, ◌≤◌, ◌<◌, ◌^◌, ℕ, suc, ◌+◌, ◌-◌, List, [], ◌∷◌, length, map, take, drop, ap, sym, arith, Bor}
 use Rattle.std.proofs.lemmas.List.{length-take, length-drop, length-reverse, length-map}
-use Rattle.std.specs.List.{filter, count_by, slice_split}
+use Rattle.std.specs.List.{count_by, slice_split}
 use Rattle.std.specs.Str.Lines.{lines, lines_of_parts}
 use Rattle.std.proofs.lemmas.List.Splits.{length-slice_split}
 use Rattle.std.proofs.lemmas.List.Sums.{length-filter}
