@@ -9,15 +9,16 @@ use memchr::memchr;
 /// The record type of an acknowledged transaction, its three bytes as one number.
 const ACK: u32 = 0x41_43_4b;
 
-/// How many bytes stand before the registry's number of the work in an ACK record, and behind its last digit.
+/// How many bytes of an ACK record stand before the registry's number of the work.
 const BEFORE_WORK: usize = 129;
 
-const BEHIND_WORK: usize = 137;
+/// As many, with the eight digits of that number.
+const WITH_WORK: usize = 137;
 
-/// A digest of the lines of an acknowledgement, without the registry's number of the work in each ACK record, which hangs
+/// A digest of the lines of an acknowledgement, without the registry's number of the work in each ACK record, which depends
 /// on which file was decided first. In whatever pieces they come, the same lines give the same digest.
 #[derive(Clone, Copy, Debug)]
-pub(crate) struct AnswerDigest {
+pub(crate) struct AckDigest {
     digest: Digest,
     /// The first three bytes of the line, or as many as there were, as one number.
     kind: u32,
@@ -25,11 +26,11 @@ pub(crate) struct AnswerDigest {
     column: usize,
 }
 
-impl AnswerDigest {
-    pub(crate) fn new() -> AnswerDigest
+impl AckDigest {
+    pub(crate) fn new() -> AckDigest
         ensures { result.digest.failed ≡ false }
     {
-        AnswerDigest {
+        AckDigest {
             digest: Digest::new(),
             kind: 0,
             column: 0,
@@ -67,7 +68,7 @@ impl AnswerDigest {
         let rest = self.typed(part);
         if self.kind == ACK {
             let rest = self.front(rest, BEFORE_WORK, true);
-            let rest = self.front(rest, BEHIND_WORK, false);
+            let rest = self.front(rest, WITH_WORK, false);
             self.digest.text(rest);
         } else {
             self.digest.text(rest);
@@ -105,7 +106,7 @@ impl AnswerDigest {
     }
 }
 
-impl Sink for AnswerDigest {
+impl Sink for AckDigest {
     ghost use Rattle.std.specs.Prelude.{None};
 
     ghost taken = { λ _. None };

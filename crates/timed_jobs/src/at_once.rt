@@ -3,7 +3,7 @@
 ghost use Rattle.std.specs.Prelude.{◌≡◌, ◌<◌, All, IfOk, false, true, vec_len};
 ghost use Rattle.work_registry.specs.Replay.{is_opening};
 
-use crate::answers::AnswerDigest;
+use crate::answers::AckDigest;
 use crate::catalogue::{Style, file, new_works};
 use crate::chance::Chance;
 use crate::digest::Digest;
@@ -74,10 +74,7 @@ fn run<R: Threads + Wait + Sync>(
 }
 
 /// A job for each of these files, at most as many as a run takes.
-fn jobs_of<'a>(
-    alloc: Global,
-    files: &'a [Vec<u8>],
-) -> Result<Vec<Job<Feed<'a>, AnswerDigest>>, Memory>
+fn jobs_of<'a>(alloc: Global, files: &'a [Vec<u8>]) -> Result<Vec<Job<Feed<'a>, AckDigest>>, Memory>
     ensures few { IfOk result (λ jobs. vec_len jobs < 64) }
     ensures works { IfOk result (λ jobs. All (λ j. (j.reader.has_failed ≡ false) × (j.writer.digest.failed ≡ false)) jobs.items) }
 {
@@ -90,12 +87,12 @@ fn jobs_of<'a>(
 }
 
 /// The job of a file, whose acknowledgement goes into a digest.
-fn job_of<'a>(text: &'a [u8]) -> Job<Feed<'a>, AnswerDigest>
+fn job_of<'a>(text: &'a [u8]) -> Job<Feed<'a>, AckDigest>
     ensures { (result.reader.has_failed ≡ false) × (result.writer.digest.failed ≡ false) }
 {
     Job {
         reader: Feed::new(text, PIECE, None),
-        writer: AnswerDigest::new(),
+        writer: AckDigest::new(),
     }
 }
 

@@ -1,10 +1,10 @@
-//! What occurs seldom: every rule broken, files that are refused, and files of all sizes verified.
+//! What occurs seldom: every rule broken, files that are refused, and small and large files verified.
 
 use crate::chance::Chance;
 use crate::digest::Digest;
 use crate::refused::refused_file;
+use crate::reports::take;
 use crate::verified::verified;
-use cwr_check::Checked;
 use cwr_field::Memory;
 use cwr_remarks::{remarked_json, remarked_long};
 use cwr_report::{json_text_with, report_on, text_value};
@@ -13,8 +13,8 @@ use std::alloc::Global;
 /// A text with what JSON escapes, in short and as `\u001b`, and with a letter of two bytes.
 const SAID: &str = "\"CAFÉ SONG\" \\ AND MORE OF THIS KIND\x1b";
 
-/// Reports of works of which each breaks a rule or is remarked on, of files that are refused, and files of all sizes
-/// against a register.
+/// Reports of works of which each breaks a rule or is remarked on, of files that are refused, and small and large
+/// files against a register.
 pub(crate) fn awkward(alloc: Global, size: u32, chance: &mut Chance) -> Result<Digest, Memory> {
     let mut digest = Digest::new();
     for _ in 0..8 {
@@ -46,9 +46,4 @@ fn tell_with(alloc: Global, text: &[u8], digest: &mut Digest) -> Result<(), Memo
         digest.text(&json_text_with(alloc, text, &report, name, value)?);
     }
     Ok(())
-}
-
-fn take(checked: Checked, digest: &mut Digest) {
-    digest.text(&checked.text);
-    digest.number(checked.clean as u64);
 }

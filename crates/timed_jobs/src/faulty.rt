@@ -1,4 +1,4 @@
-//! Works of which each breaks one rule, or is remarked on.
+//! Works that break a rule, or that are remarked on.
 
 use crate::chance::Chance;
 use crate::digits::{five, iswc, nine, work_number};
@@ -11,13 +11,14 @@ use std::alloc::Global;
 /// A party that no other record has, with bytes that a text of JSON has to escape or to spell as other bytes.
 const STRANGE_PARTY: [u8; 9] = [b'"', b'\\', b'9', 0xc3, 0x89, b'/', 0x7f, 0xff, b'9'];
 
-/// An ISWC that is none, with such bytes.
+/// An ISWC that is not valid, with such bytes.
 const STRANGE_ISWC: [u8; 11] = [
     b'T', b'"', b'3', b'4', 0xc3, 0x89, b'\\', b'4', b'6', b'8', b'0',
 ];
 
-/// The forms of the works, by number: 1 to 15 break the rule with this number, J1 to J15, the first by themselves and J2 to
-/// J4 with what [`work`] fills in; 16 to 18 are remarked on, and in 19 the shares of many writers do not add up.
+/// The forms of the works, by number: 1 to 15 break the rule with this number, J1 to J15, J2 to J4 by what [`work`] fills in
+/// and the others by their records; 16 to 18 are remarked on, in 19 the shares of many writers do not add up (J11 to J13),
+/// and 0 has no fault.
 pub(crate) fn forms(alloc: Global) -> Result<Vec<Form>, Memory> {
     let mut forms = Vec::new(alloc);
     for number in 0..20 {
@@ -29,9 +30,9 @@ pub(crate) fn forms(alloc: Global) -> Result<Vec<Form>, Memory> {
 fn form(alloc: Global, number: u32) -> Result<Form, Memory> {
     match number {
         1 | 6 | 7 | 10 => in_records(alloc, number),
-        5 => undated(alloc),
-        8 | 9 | 14 | 15 => in_links(alloc, number),
-        11 => writers(alloc, 1, [10_007, 10_000, 10_000]),
+        5 => misdated(alloc),
+        8 | 9 | 14 | 15 => behind_a_writer(alloc, number),
+        11 => writers(alloc, 1, [9_993, 10_000, 10_000]),
         12 => writers(alloc, 1, [10_000, 9_993, 10_000]),
         13 => writers(alloc, 1, [10_000, 10_000, 9_900]),
         16 | 17 | 18 => remarked(alloc, number),
@@ -40,14 +41,14 @@ fn form(alloc: Global, number: u32) -> Result<Form, Memory> {
     }
 }
 
-/// Dates that are none (J5).
-fn undated(alloc: Global) -> Result<Form, Memory> {
+/// A date and a duration that are not valid (J5).
+fn misdated(alloc: Global) -> Result<Form, Memory> {
     let mut form = Form::dated(alloc, b"NWR", CRLF, b"20230229", b"006100")?;
     form.push_writer(1, 10_000)?;
     Ok(form)
 }
 
-/// Records out of order (J1), shares that are none (J6), no party (J7), no writer (J10).
+/// Records out of order (J1), shares that are not valid (J6), no party (J7), no writer (J10).
 fn in_records(alloc: Global, number: u32) -> Result<Form, Memory> {
     let mut form = Form::new(alloc, b"NWR", CRLF)?;
     match number {
@@ -76,40 +77,19 @@ fn in_records(alloc: Global, number: u32) -> Result<Form, Memory> {
 }
 
 /// A territory of another party (J8), a publisher who is not there (J9), no territory (J14), too much of one (J15).
-fn in_links(alloc: Global, number: u32) -> Result<Form, Memory> {
+fn behind_a_writer(alloc: Global, number: u32) -> Result<Form, Memory> {
     let mut form = Form::new(alloc, b"NWR", CRLF)?;
     form.push_writer(1, 10_000)?;
     match number {
-        8 => push_territory(&mut form, &STRANGE_PARTY, b"05000", b"I2136")?,
+        8 => form.push_writer_territory(&STRANGE_PARTY, b"05000", b"I2136")?,
         9 => form.push(b"PWR", 110, &[(20, &STRANGE_PARTY), (29, b"MUSIC HOUSE")])?,
-        14 => push_territory(&mut form, b"000000001", b"05000", b"X21\"6")?,
+        14 => form.push_writer_territory(b"000000001", b"05000", b"X21\"6")?,
         _ => {
-            push_territory(&mut form, b"000000001", b"05003", b"I0840")?;
-            push_territory(&mut form, b"000000001", b"05004", b"I840 ")?;
+            form.push_writer_territory(b"000000001", b"05003", b"I0840")?;
+            form.push_writer_territory(b"000000001", b"05004", b"I840 ")?;
         }
     }
     Ok(form)
-}
-
-/// What a writer collects in a territory, which has its indicator in front of it.
-fn push_territory<'f>(
-    form: &mut Form,
-    party: &'f [u8; 9],
-    share: &'f [u8; 5],
-    territory: &'f [u8; 5],
-) -> Result<(), Memory> {
-    form.push(
-        b"SWT",
-        52,
-        &[
-            (20, party),
-            (29, share),
-            (34, share),
-            (39, share),
-            (44, territory),
-            (50, b"001"),
-        ],
-    )
 }
 
 /// So many writers with these shares each.
@@ -147,8 +127,8 @@ fn remarked(alloc: Global, number: u32) -> Result<Form, Memory> {
         17 => form.push(b"SWR", 153, &[(20, b"000000001"), (151, b"Y")])?,
         _ => {
             form.push(b"SWR", 150, &[(20, b"000000001")])?;
-            push_territory(&mut form, b"000000001", b"05000", b"E2136")?;
-            push_territory(&mut form, b"000000001", b"05000", b"E0840")?;
+            form.push_writer_territory(b"000000001", b"05000", b"E2136")?;
+            form.push_writer_territory(b"000000001", b"05000", b"E0840")?;
         }
     }
     Ok(form)
@@ -164,7 +144,7 @@ fn any_title(chance: &mut Chance) -> [u8; 60] {
 }
 
 /// What is filled in of the work with this number, of the form with that one: a blank title (J2), a blank number (J3), an
-/// ISWC that is none (J4).
+/// ISWC that is not valid (J4).
 pub(crate) fn work(chance: &mut Chance, number: u32, form: u32) -> Work {
     let work = Work {
         title: any_title(chance),

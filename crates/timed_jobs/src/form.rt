@@ -169,14 +169,16 @@ impl Form {
 
     /// Appends where a writer collects this share, and who is the writer's publisher.
     fn push_collection(&mut self, party: u32, share: u32, publisher: u32) -> Result<(), Memory> {
-        self.push_writer_territory(&nine(party), &five(share))?;
+        self.push_writer_territory(&nine(party), &five(share), b"I2136")?;
         self.push_link(&nine(party), &nine(publisher))
     }
 
-    fn push_writer_territory<'f>(
+    /// Appends what a writer collects in a territory, which has its indicator in front of it.
+    pub(crate) fn push_writer_territory<'f>(
         &mut self,
         party: &'f [u8; 9],
         share: &'f [u8; 5],
+        territory: &'f [u8; 5],
     ) -> Result<(), Memory> {
         self.push(
             b"SWT",
@@ -186,7 +188,7 @@ impl Form {
                 (29, share),
                 (34, share),
                 (39, share),
-                (44, b"I2136"),
+                (44, territory),
                 (50, b"001"),
             ],
         )
@@ -222,8 +224,8 @@ pub(crate) fn part(
 }
 
 /// A work of 3 to 20 records: publishers, writers, where they collect, other titles and cross-references. How many of each
-/// follows from a number: each sixteen numbers one after the other give each count of publishers, none to three, with each
-/// count of writers, one to four.
+/// follows from a number: any sixteen numbers in a row give each count of publishers, none to three, with each count of
+/// writers, one to four.
 pub(crate) fn mixed(
     alloc: Global,
     number: u32,

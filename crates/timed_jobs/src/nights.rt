@@ -76,8 +76,8 @@ fn large_files(alloc: Global, size: u32, chance: &mut Chance) -> Result<Vec<Vec<
     Ok(files)
 }
 
-/// Sixty-three files, a tenth of the size: revisions of works of the night before, works of theirs that another submitter
-/// claims, and new ones.
+/// Sixty-three files of a tenth of the size, or a fortieth of works of many records: revisions of works of the night before,
+/// works of theirs that another submitter claims, and new ones.
 fn small_files(alloc: Global, size: u32, chance: &mut Chance) -> Result<Vec<Vec<u8>>, Memory> {
     let mut files = Vec::new(alloc);
     for number in 0..63u32 {

@@ -3,7 +3,7 @@
 use crate::chance::Chance;
 use crate::digits::put;
 use crate::faulty::{forms, work};
-use crate::form::{CRLF, Form};
+use crate::form::{CRLF, Form, thin};
 use crate::sheet::Sheet;
 use cwr_field::Memory;
 use std::alloc::Global;
@@ -15,7 +15,7 @@ const GROUP: usize = 88;
 const TRAILER: usize = 26;
 
 /// A file of so many works, most of them with a fault or a remark, whose first fault is the one with this number, F1 to F12:
-/// near its end, where it may stand there. With another number it has none.
+/// near its end, where the rule allows that. With another number it has none.
 pub(crate) fn refused_file(
     alloc: Global,
     works: u32,
@@ -42,13 +42,12 @@ pub(crate) fn refused_file(
 
 /// A work with a line that is longer than a line may be (F12).
 fn too_wide(alloc: Global) -> Result<Form, Memory> {
-    let mut form = Form::new(alloc, b"NWR", CRLF)?;
-    form.push_writer(1, 10_000)?;
+    let mut form = thin(alloc, b"NWR", CRLF)?;
     form.push(b"ALT", 4_097, &[(20, b"ANOTHER TITLE")])?;
     Ok(form)
 }
 
-/// Damages a file, of whose works one has its header there.
+/// Damages a file; one of its works begins at the header.
 fn damage(text: &mut Vec<u8>, header: usize, fault: u32) -> Result<(), Memory> {
     let trailer = text.len().saturating_sub(TRAILER);
     let group_trailer = trailer.saturating_sub(TRAILER);

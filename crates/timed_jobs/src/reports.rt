@@ -30,7 +30,8 @@ pub(crate) fn reports(alloc: Global, size: u32, chance: &mut Chance) -> Result<D
     Ok(digest)
 }
 
-fn take(checked: Checked, digest: &mut Digest) {
+/// Takes a report.
+pub(crate) fn take(checked: Checked, digest: &mut Digest) {
     digest.text(&checked.text);
     digest.number(checked.clean as u64);
 }

@@ -1,4 +1,4 @@
-//! Files of all sizes against a register.
+//! Small and large files against a register.
 
 use crate::catalogue::{Order, Style, file, new_works};
 use crate::chance::Chance;

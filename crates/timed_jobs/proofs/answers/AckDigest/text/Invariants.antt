@@ -1,5 +1,5 @@
 use Rattle.std.proofs.Common.{◌≡◌, length}
-use Rattle.timed_jobs.proofs.answers.AnswerDigest.text.Given as goal
+use Rattle.timed_jobs.proofs.answers.AckDigest.text.Given as goal
 
 abbrev pub invariant-loop-end : goal.invariant-loop-end
 invariant-loop-end l = l.self.digest.failed ≡ l.initial.self.digest.failed

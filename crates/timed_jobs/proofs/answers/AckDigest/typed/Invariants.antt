@@ -1,5 +1,5 @@
 use Rattle.std.proofs.Common.{◌≡◌, length}
-use Rattle.timed_jobs.proofs.answers.AnswerDigest.typed.Given as goal
+use Rattle.timed_jobs.proofs.answers.AckDigest.typed.Given as goal
 
 abbrev pub invariant-loop-first : goal.invariant-loop-first
 invariant-loop-first l = l.self.digest.failed ≡ l.initial.self.digest.failed
