@@ -2,6 +2,6 @@ pub mod CallSizes
 pub mod Answering
 pub mod JudgedMore
 pub mod Accounts
-pub mod Turns
 pub mod FullBooks
 pub mod lemmas
+pub mod JobSteps

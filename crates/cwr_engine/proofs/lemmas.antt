@@ -1,1 +1,3 @@
 pub mod FullHistory
+pub mod Turns
+pub mod JobSteps

@@ -7,3 +7,4 @@ pub mod Account
 pub mod Causes
 pub mod Handing
 pub mod Whole
+pub mod JobSteps

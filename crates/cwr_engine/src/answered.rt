@@ -1,9 +1,34 @@
+ghost use Rattle.std.specs.Prelude.{◌≡◌, ◌+◌, ◌≤◌, length, vec_len};
+ghost use Rattle.std.specs.List.{AllByRecursion};
+ghost use Rattle.std.proofs.Props.{props};
+ghost use Rattle.cwr_acknowledgement.specs.Acknowledgement.{FitsItem, most_told, told_count};
 ghost use Rattle.cwr_engine.specs.Told.{told_all};
 
 use crate::judged::Judged;
 use cwr_acknowledgement::{Answers, Told};
-use std::alloc::Allocator;
+use cwr_record::Header;
+use std::alloc::{Allocator, Global};
 use work_registry::Reply;
+
+/// A file whose transactions all got their replies: what its acknowledgement tells, which is still to be written.
+#[derive(Drop)]
+pub struct AnsweredFile<A: Allocator = Global> {
+    pub(crate) header: Header,
+    pub(crate) transactions: Vec<Judged<A>, A>,
+    pub(crate) replies: Vec<Reply, A>,
+    // What is told fits its lines, and their count its eight digits.
+    ghost fit: { AllByRecursion FitsItem (told_all transactions.items replies.items) } by { Prim.hlevel props },
+    ghost few: { length (told_all transactions.items replies.items) + told_count (told_all transactions.items replies.items) ≤ most_told },
+}
+
+impl<A: Allocator> AnsweredFile<A> {
+    /// How many transactions it has.
+    pub fn len(&self) -> usize
+        ensures { result ≡ vec_len self.now.transactions }
+    {
+        self.transactions.len()
+    }
+}
 
 /// The transactions of a file that got replies, which are the first ones, and the replies.
 #[derive(Drop)]

@@ -1,16 +1,19 @@
 //! One job, at a window.
-ghost use Rattle.std.specs.Prelude.{◌≡◌, ◌+◌, ◌<◌, ◌≤◌, ◌^◌, ℕ, List, [], false, length, map, vec_capacity, IfSome, OnOk, OnErr, IfErr};
+ghost use Rattle.std.specs.Prelude.{◌≡◌, ◌+◌, ◌<◌, ◌≤◌, ◌^◌, ℕ, List, [], false, length, map, vec_capacity, IfSome, IfOk, OnOk, OnErr, IfErr};
 ghost use Rattle.std.specs.List.{AllByRecursion};
 ghost use Rattle.byte_streams.specs.GivenBytes.{HasGiven};
+ghost use Rattle.std.specs.Io.KnownBytes.{Appends};
 ghost use Rattle.cwr_acknowledgement.specs.Acknowledgement.{FitsItem, ack_text, most_told, told_count};
 ghost use Rattle.cwr_grammar.specs.RawParts.{RawParts, IsPlaced};
-ghost use Rattle.cwr_engine.specs.Account.{most, Ends, IsRead, ends_of, read_ends, write_ends};
+ghost use Rattle.cwr_record.specs.Stamp.{StampParts};
+ghost use Rattle.cwr_engine.specs.Account.{most, Ends, ReadEnds, WriteEnds, IsRead, ends_of, read_ends, write_ends};
 ghost use Rattle.cwr_engine.specs.Causes.{ends_full, is_for_full, marked_by, outcome_of, IsCause};
 ghost use Rattle.cwr_engine.specs.Handing.{AreAnswered, IsSent, IsWorked, most_handed};
 ghost use Rattle.cwr_engine.specs.Told.{told_all};
 ghost use Rattle.cwr_engine.specs.Judged.{AreJudged, judged_of};
+ghost use Rattle.cwr_engine.specs.JobSteps.{IsAnsweredWhole, IsReadBy, answers_in};
 
-use crate::answered::Answered;
+use crate::answered::{Answered, AnsweredFile};
 use crate::decision::{InHand, decide};
 use crate::gates::Gate;
 use crate::judged::{Judged, JudgedFile, judge_source};
@@ -69,6 +72,51 @@ fn hand_in_all<H: Window<Call<A>>, G: Gate, A: Allocator + Copy + Drop>(
     (window, Ok(()))
 }
 
+/// Hands in the transactions of a well-formed file in order: what its acknowledgement tells, where all got replies, and
+/// else how its job ends.
+///
+/// The list of replies is reserved before the first transaction is handed in.
+pub(crate) fn hand_in_file<H: Window<Call<A>>, G: Gate, A: Allocator + Copy + Drop>(
+    alloc: A,
+    window: H,
+    gate: &G,
+    worker: u32,
+    file: JudgedFile<A>,
+) -> (H, Result<AnsweredFile<A>, FileOutcome>)
+    requires turns { most_handed ≤ H.turns_left window }
+    requires judged { (ts : List RawParts) × AreJudged most file.header ts file.transactions.items }
+    ensures session { H.session result.0 ≡ H.session window }
+    ensures limit { H.limit result.0 ≡ H.limit window }
+    ensures home { H.home result.0 ≡ H.home window }
+    ensures answered { IfOk result.1 (λ all. (ts : List RawParts) → AreJudged most file.header ts file.transactions.items
+        → IsAnsweredWhole (H.session window) file.header ts all (H.entries window) (H.entries result.0)) }
+    ensures stopped { IfErr result.1 (λ outcome. (ts : List RawParts) (reader : ReadEnds) (writer : WriteEnds) (stamp : StampParts) (input : List ℕ)
+        → AreJudged most file.header ts file.transactions.items → IsReadBy reader input file.header ts → Appends writer.taken_before writer.taken_after []
+        → IsWorked (H.session window) (ends_of reader writer (H.full result.0) (G.may_shut gate.now)) stamp outcome (H.entries window) (H.entries result.0)) }
+    ensures unmarked { OnOk result.1 (H.mark result.0 ≡ H.mark window) }
+    ensures marked { IfErr result.1 (λ outcome. H.mark result.0 ≡ marked_by (ends_full outcome) (H.mark window)) }
+{
+    let JudgedFile {
+        header,
+        transactions,
+    } = file;
+    let Ok(mut replies) = Vec::with_capacity(alloc, transactions.len()) else {
+        return (window, Err(stopped(0, Why::Memory)));
+    };
+    let (window, done) = hand_in_all(alloc, window, gate, worker, &transactions, &mut replies);
+    match done {
+        Ok(()) => {
+            let answered = AnsweredFile {
+                header,
+                transactions,
+                replies,
+            };
+            (window, Ok(answered))
+        }
+        Err(why) => (window, Err(stopped(replies.len() as u32, why))),
+    }
+}
+
 /// Hands the transactions of a well-formed file in at the window, in file order, and writes their acknowledgement, as
 /// [`work_file`] does once it has judged the file.
 ///
@@ -103,27 +151,32 @@ pub fn work_judged<H: Window<Call<A>>, G: Gate, W: Sink, A: Allocator + Copy + D
           may_shut = G.may_shut gate.now;
         }) stamp.now result.1 (H.entries window) (H.entries result.0) }
 {
-    let JudgedFile {
-        header,
-        transactions,
-    } = file;
-    let Ok(mut replies) = Vec::with_capacity(alloc, transactions.len()) else {
-        return (window, stopped(0, Why::Memory));
-    };
-    let (window, done) = hand_in_all(alloc, window, gate, worker, &transactions, &mut replies);
-    match done {
-        Ok(()) => {
-            let answered = Answered {
-                transactions: &transactions,
-                replies: &replies,
-            };
-            (window, answer(alloc, writer, stamp, &header, &answered))
-        }
-        Err(why) => (window, stopped(replies.len() as u32, why)),
+    let (window, handed) = hand_in_file(alloc, window, gate, worker, file);
+    match handed {
+        Ok(answered) => (window, answer_file(alloc, writer, stamp, &answered)),
+        Err(outcome) => (window, outcome),
     }
 }
 
 /// Writes the acknowledgement of a file whose transactions all got replies, and tells how its job ends.
+pub(crate) fn answer_file<W: Sink, A: Allocator + Copy>(
+    alloc: A,
+    writer: &mut W,
+    stamp: &Stamp,
+    file: &AnsweredFile<A>,
+) -> FileOutcome
+    requires writes { W.has_failed writer.old ≡ false }
+    ensures { IsSent (W.taken writer.old) (W.taken writer.new) (W.has_failed writer.new)
+        (ack_text stamp.now file.now.header (answers_in file.now)) (length (answers_in file.now)) result }
+{
+    let answered = Answered {
+        transactions: &file.transactions,
+        replies: &file.replies,
+    };
+    answer(alloc, writer, stamp, &file.header, &answered)
+}
+
+/// Writes the acknowledgement of transactions and their replies, and tells how a job ends that got them all.
 fn answer<W: Sink, L: Answers, A: Allocator + Copy>(
     alloc: A,
     writer: &mut W,
@@ -190,7 +243,7 @@ fn stopped(handed: u32, why: Why) -> FileOutcome
 }
 
 /// How a job ends whose file was not judged.
-fn unjudged(refused: SourceRefused) -> FileOutcome
+pub(crate) fn unjudged(refused: SourceRefused) -> FileOutcome
     ensures { result ≡ outcome_of refused }
 {
     match refused {

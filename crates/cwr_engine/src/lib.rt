@@ -19,8 +19,10 @@ mod limits;
 mod lines;
 mod one_file;
 mod outcome;
+mod steps;
 mod window;
 
+pub use answered::AnsweredFile;
 pub use engine::{work_file, work_judged};
 pub use gates::{Gate, OpenGate, Shut};
 pub use in_turn::{serve_in_turn, work_alone};
@@ -30,4 +32,5 @@ pub use limits::{MOST_BYTES, MOST_ENTRIES};
 pub use lines::outcome_line;
 pub use one_file::acknowledge;
 pub use outcome::{FileOutcome, Why};
+pub use steps::{DecidedJob, ReadJob, answer_job, decide_job, read_job};
 pub use window::{Asks, Window};

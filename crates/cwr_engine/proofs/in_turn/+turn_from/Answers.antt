@@ -1,5 +1,5 @@
 use Rattle.std.proofs.Common.{◌≡◌, false, rules}
-use Rattle.cwr_engine.proofs.Turns.{last_holds, rest_holds}
+use Rattle.cwr_engine.proofs.lemmas.Turns.{last_holds, rest_holds}
 use Rattle.cwr_engine.proofs.in_turn.+turn_from.Goals as goal
 
 pub work_alone-book-requires-clause-works : goal.work_alone-book-requires-clause-works

@@ -1,7 +1,7 @@
 use Rattle.std.proofs.Common.{false}
 use Rattle.cwr_engine.specs.Account.{JobAccount}
 use Rattle.cwr_engine.proofs.lemmas.FullHistory.{account_full, account_found}
-use Rattle.cwr_engine.proofs.Turns.{whole_turns, turned_round}
+use Rattle.cwr_engine.proofs.lemmas.Turns.{whole_turns, turned_round}
 use Rattle.cwr_engine.proofs.in_turn.serve_in_turn.Goals as goal
 
 pub returns-clause-run : goal.returns-clause-run

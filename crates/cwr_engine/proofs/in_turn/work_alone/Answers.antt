@@ -1,5 +1,5 @@
 use Rattle.std.proofs.Common.{rules}
-use Rattle.cwr_engine.proofs.Turns.{lent_turns}
+use Rattle.cwr_engine.proofs.lemmas.Turns.{lent_turns}
 use Rattle.cwr_engine.proofs.in_turn.work_alone.Goals as goal
 
 pub work_file-window-requires-clause-turns : goal.work_file-window-requires-clause-turns

@@ -1,7 +1,7 @@
 use Rattle.std.proofs.Common.{rules, ap}
 use Rattle.work_registry.specs.Refusals.{RefusedValue}
 use Rattle.cwr_engine.proofs.FullBooks.{full_exactly, known_session}
-use Rattle.cwr_engine.proofs.Turns.{made_more}
+use Rattle.cwr_engine.proofs.lemmas.Turns.{made_more}
 use Rattle.cwr_engine.proofs.window.LentWindowCall.hand_in.Goals as goal
 
 pub apply-requires : goal.apply-requires

@@ -1,0 +1,105 @@
+//! A job in three steps, which threads can take beside those of other jobs: only the second has the book.
+ghost use Rattle.std.specs.Prelude.{◌≡◌, ◌≤◌, false};
+ghost use Rattle.cwr_engine.specs.JobSteps.{HasAnswered, WasDecided, WasRead, entries_at};
+ghost use Rattle.cwr_engine.specs.Whole.{is_full};
+ghost use Rattle.cwr_engine.specs.declared.jobs.Job.{Job};
+
+use crate::answered::AnsweredFile;
+use crate::engine::{answer_file, hand_in_file, unjudged};
+use crate::gates::OpenGate;
+use crate::jobs::Job;
+use crate::judged::{JudgedFile, judge_source};
+use crate::limits::MOST_BYTES;
+use crate::outcome::FileOutcome;
+use crate::window::Lent;
+use byte_streams::{Sink, Source};
+use cwr_record::Stamp;
+use cwr_source::{SourceRefused, WINDOW};
+use std::alloc::{Allocator, Global};
+use std::mem::replace;
+use work_registry::Book;
+
+/// A job whose file was read to its end, or as far as it could be.
+#[derive(Drop)]
+pub struct ReadJob<R, W, A: Allocator = Global> {
+    /// The job, with what is left to its reader.
+    pub job: Job<R, W>,
+    /// The file, judged, or why it is not.
+    pub file: Result<JudgedFile<A>, SourceRefused>,
+}
+
+/// A job whose transactions were decided, as many of them as could be.
+#[derive(Drop)]
+pub struct DecidedJob<R, W, A: Allocator = Global> {
+    /// The job, to whose writer nothing was written.
+    pub job: Job<R, W>,
+    /// The file, with a reply to each of its transactions, or how the job has ended.
+    pub file: Result<AnsweredFile<A>, FileOutcome>,
+}
+
+/// Reads the file of a job to its end and judges it, as [`work_alone`](crate::work_alone) does before it decides.
+pub fn read_job<R: Source + Drop, W: Drop, A: Allocator + Copy>(
+    alloc: A,
+    mut job: Job<R, W>,
+) -> ReadJob<R, W, A>
+    requires reads { R.has_failed job.reader ≡ false }
+    ensures { WasRead R.Source job result }
+{
+    let file = judge_source(alloc, &mut job.reader, MOST_BYTES, WINDOW);
+    ReadJob { job, file }
+}
+
+/// Hands the transactions of a job's file in at a book that nobody else writes, in file order, as a session from 0 to 63.
+///
+/// The book comes back with the job. A transaction that gets no reply ends the job, and the entries made before it stay.
+pub fn decide_job<R: Source + Drop, W: Sink + Drop, A: Allocator + Copy + Drop>(
+    alloc: A,
+    mut book: Book<A>,
+    session: u32,
+    read: ReadJob<R, W, A>,
+) -> (Book<A>, DecidedJob<R, W, A>)
+    requires few { session ≤ 63 }
+    requires read { (job : Job R W) × WasRead R.Source job read }
+    ensures limit { result.0.limit ≡ book.limit }
+    ensures decided { (job : Job R W) → WasRead R.Source job read
+        → WasDecided R.Source W.Sink session job result.1 (is_full result.0) (entries_at session book) (entries_at session result.0) }
+{
+    let ReadJob { job, file } = read;
+    match file {
+        Ok(file) => {
+            let window = Lent {
+                book: &mut book,
+                session,
+            };
+            let (window, file) = hand_in_file(alloc, window, &OpenGate, session, file);
+            // The book is taken out of the window, which tells what has become of it.
+            let book = replace(window.book, Book::new(alloc, 1));
+            (book, DecidedJob { job, file })
+        }
+        Err(refused) => {
+            let file = Err(unjudged(refused));
+            (book, DecidedJob { job, file })
+        }
+    }
+}
+
+/// Writes the acknowledgement of a job whose transactions all got replies, and tells how the job ended.
+///
+/// Of a job that has ended nothing is written.
+pub fn answer_job<R: Source + Drop, W: Sink + Drop, A: Allocator + Copy + Drop>(
+    alloc: A,
+    decided: DecidedJob<R, W, A>,
+    stamp: &Stamp,
+) -> (Job<R, W>, FileOutcome)
+    requires writes { W.has_failed decided.job.writer ≡ false }
+    ensures { HasAnswered R.Source W.Sink stamp.now decided result.0 result.1 }
+{
+    let DecidedJob { mut job, file } = decided;
+    match file {
+        Ok(file) => {
+            let outcome = answer_file(alloc, &mut job.writer, stamp, &file);
+            (job, outcome)
+        }
+        Err(outcome) => (job, outcome),
+    }
+}
