@@ -6,6 +6,7 @@
 #![tactic(auto)]
 
 mod at_desk;
+mod in_order;
 mod serving;
 mod working;
 
@@ -17,6 +18,7 @@ pub use cwr_engine::{
 };
 pub use cwr_field::{Clock, Day, Memory, cut, date, time};
 pub use cwr_record::Stamp;
+pub use in_order::serve_in_order;
 pub use registry_desk::{Desk, Seat};
 pub use run_words::{RunFault, run_fault, words_fault};
 pub use serving::serve;

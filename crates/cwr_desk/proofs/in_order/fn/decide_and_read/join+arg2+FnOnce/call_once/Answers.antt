@@ -1,0 +1,4 @@
+use Rattle.cwr_desk.proofs.in_order.fn.decide_and_read.join+arg2+FnOnce.call_once.Goals as goal
+
+pub join+arg2-requires : goal.join+arg2-requires
+join+arg2-requires g c = let r = c.requires.1.1.1.1 in (r.1.0, (r.1.1, (r.1.2, (r.1.3, (r.1.4, (r.1.5, r.0))))))
