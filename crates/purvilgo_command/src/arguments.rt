@@ -18,7 +18,9 @@ pub(crate) enum Argument {
     NeededValue(&'static str, &'static str, &'static str),
     /// An option without a value.
     Flag(&'static str, &'static str),
-    /// Such an option that the list of options leaves out.
+    /// Such an option that excludes another one, which stands before its help.
+    FlagAgainst(&'static str, &'static str, &'static str),
+    /// An option without a value that the list of options leaves out.
     HiddenFlag(&'static str, &'static str),
     /// Such an option that excludes another one.
     OtherFlag(&'static str, &'static str, &'static str),
@@ -71,6 +73,7 @@ fn argument_of<'a>(alloc: Global, argument: Argument) -> Result<Arg<'a>, AllocEr
         Argument::Value(name, value, help) => Ok(option(alloc, name, value, help)),
         Argument::NeededValue(name, value, help) => Ok(needed_option(alloc, name, value, help)),
         Argument::Flag(name, help) => Ok(flag(alloc, name, help)),
+        Argument::FlagAgainst(name, other, help) => flag(alloc, name, help).conflicts_with(other),
         Argument::HiddenFlag(name, help) => Ok(hidden_flag(alloc, name, help)),
         Argument::OtherFlag(name, other, help) => {
             hidden_flag(alloc, name, help).conflicts_with(other)

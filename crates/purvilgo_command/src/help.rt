@@ -78,8 +78,11 @@ Options:
   --time HHMMSS    time of the run
   --from REGISTER  the register to go on from; else the history begins empty
   --to REGISTER    the register to write, in place of a file that is there
-  --in-turn        one file after another, in the order of the words, so that the
-                   same files give the same bytes each time; else all at once
+  --in-order       files are read at once and decided in the order of the words, so
+                   that the same files give the same bytes each time; else they are
+                   decided at once too
+  --in-turn        the same, one file after another, on one thread: slower, and with
+                   less memory. The two are not taken together
   --no-clobber     write over no acknowledgement: where one is there already,
                    nothing is read or written
   -v, --verbose    tell steps and the system's reasons on standard error
@@ -98,7 +101,7 @@ help; 1 else.
 
 Example:
   purvilgo run --society 007 --name 'MY SOCIETY' --date 20240601 --time 090000 \\
-    --from 0041.register --to 0042.register --in-turn --no-clobber in/a.v22 in/b.v22
+    --from 0041.register --to 0042.register --in-order --no-clobber in/a.v22 in/b.v22
 ";
 
 const CHECK: &str = "\

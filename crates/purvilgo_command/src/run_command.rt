@@ -11,8 +11,8 @@ use cwr_record::Stamp;
 use run_words::{RunFault, words_fault};
 use std::process::ExitCode;
 
-/// `run --society NNN --name TEXT --date YYYYMMDD --time HHMMSS [--from REGISTER] [--to REGISTER] [--in-turn]
-/// [--no-clobber] [--verbose] FILE..`
+/// `run --society NNN --name TEXT --date YYYYMMDD --time HHMMSS [--from REGISTER] [--to REGISTER]
+/// [--in-order | --in-turn] [--no-clobber] [--verbose] FILE..`
 pub(crate) const RUN: CommandWords = CommandWords {
     name: "run",
     about: "Acknowledges CWR 2.2 files, the acknowledgement of FILE in FILE.ack",
@@ -23,7 +23,12 @@ pub(crate) const RUN: CommandWords = CommandWords {
         Argument::NeededValue("time", "HHMMSS", "time of the run"),
         Argument::Value("from", "REGISTER", "the register to go on from"),
         Argument::Value("to", "REGISTER", "the register to write"),
-        Argument::Flag("in-turn", "one file after another, in their order"),
+        Argument::Flag("in-order", "read at once, decided in their order"),
+        Argument::FlagAgainst(
+            "in-turn",
+            "in-order",
+            "one file after another, in their order",
+        ),
         Argument::Flag("no-clobber", "write over no acknowledgement"),
         Argument::Verbose,
         Argument::Words("FILE", "a CWR 2.2 file"),
@@ -50,6 +55,30 @@ impl<'a> StampWords<'a> {
     }
 }
 
+/// How the files of a run are worked.
+#[derive(Clone, Copy, Debug, PartialEq, Eq)]
+pub(crate) enum Way {
+    /// All at once, each on a thread of its own. What comes first is open.
+    AtOnce,
+    /// Read and answered on threads, and decided one after another, in the order of the words.
+    InOrder,
+    /// One after another, in the order of the words, on one thread.
+    InTurn,
+}
+
+impl Way {
+    /// The way that a command line of [`RUN`] asks for, which takes one of the two options at most.
+    fn given(matches: &ArgMatches) -> Way {
+        if matches.get_flag("in-order") {
+            Way::InOrder
+        } else if matches.get_flag("in-turn") {
+            Way::InTurn
+        } else {
+            Way::AtOnce
+        }
+    }
+}
+
 /// The words of a run, as they were given.
 #[derive(Debug, Drop)]
 pub(crate) struct RunWords<'m, 'a> {
@@ -65,8 +94,8 @@ pub(crate) struct RunWords<'m, 'a> {
     pub(crate) from: Option<&'a str>,
     /// The file that gets the register of the book after the run, if any does.
     pub(crate) to: Option<&'a str>,
-    /// Whether the files are worked one after another, in their order.
-    pub(crate) in_turn: bool,
+    /// How the files are worked.
+    pub(crate) way: Way,
     /// Whether acknowledgements that are there stay.
     pub(crate) no_clobber: bool,
     /// Whether steps, and the system's reasons, are told.
@@ -91,7 +120,7 @@ impl<'m, 'a> RunWords<'m, 'a> {
             time,
             from: matches.get_str("from"),
             to: matches.get_str("to"),
-            in_turn: matches.get_flag("in-turn"),
+            way: Way::given(matches),
             no_clobber: matches.get_flag("no-clobber"),
             verbose: matches.get_flag("verbose"),
             files: matches.get_strs("FILE")?,

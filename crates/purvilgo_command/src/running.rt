@@ -1,4 +1,4 @@
-//! The command `run`: files are acknowledged at one book, each on a thread of its own or one after another.
+//! The command `run`: files are acknowledged at one book, on threads or one after another.
 
 ghost use Rattle.std.specs.Prelude.{◌≡◌, ◌<◌, ◌≤◌, All, IfOk, false, true, length, vec_len};
 ghost use Rattle.work_registry.specs.Replay.{is_opening};
@@ -7,13 +7,14 @@ use crate::files::InputFile;
 use crate::keeping::{Waiting, keep_run};
 use crate::output::OutputFile;
 use crate::registers::{locked_register, opening_book};
-use crate::run_command::{RunWords, right_words};
+use crate::run_command::{RunWords, Way, right_words};
 use crate::same_files::is_one_file_twice;
 use crate::status::{bad_words, no_memory};
 use crate::targets::Targets;
 use clap::ArgMatches;
 use cwr_desk::{
-    Book, FileOutcome, Job, OpenGate, Run, Sink, Source, outcome_line, serve, serve_in_turn,
+    Book, FileOutcome, Job, OpenGate, Run, Sink, Source, outcome_line, serve, serve_in_order,
+    serve_in_turn,
 };
 use cwr_field::Memory;
 use cwr_record::Stamp;
@@ -26,8 +27,8 @@ use std::sync::Wait;
 use std::thread::Threads;
 use std::{fs, str};
 
-/// Acknowledges the files that the words name, all at one book: each by a worker on a thread of its own, or one after
-/// another where the words ask for it.
+/// Acknowledges the files that the words name, all at one book: each by a worker on a thread of its own, or, where the
+/// words ask for it, in their order, with threads or without.
 ///
 /// The acknowledgements are drafts until all workers have ended and the register, where one is asked for, is on the disk
 /// under its name; where it cannot be kept, they are taken away. A run that leaves a register holds its lock.
@@ -146,17 +147,17 @@ where
     let Ok(jobs) = jobs_of(rt, words.files, &targets.answers, words) else {
         return no_memory(rt);
     };
-    match serve_jobs(rt, rt.alloc(), words.in_turn, jobs, book, stamp) {
+    match serve_jobs(rt, rt.alloc(), words.way, jobs, book, stamp) {
         Some(run) => end_run(rt, words, targets, run, waiting),
         None => no_memory(rt),
     }
 }
 
-/// Works jobs at a book, in turn or on threads. Where there is no memory, none is worked.
+/// Works jobs at a book, in one of the three ways. Where there is no memory, none is worked.
 fn serve_jobs<T: Threads + Wait + Sync, I: Source + Send + Drop, O: Sink + Send + Drop>(
     rt: &T,
     alloc: Global,
-    in_turn: bool,
+    way: Way,
     jobs: Vec<Job<I, O>>,
     book: Book,
     stamp: &Stamp,
@@ -165,10 +166,10 @@ fn serve_jobs<T: Threads + Wait + Sync, I: Source + Send + Drop, O: Sink + Send 
     requires opening { is_opening book.history ≡ true }
     requires works { All (λ j. (I.has_failed j.reader ≡ false) × (O.has_failed j.writer ≡ false)) jobs.items }
 {
-    let served = if in_turn {
-        serve_in_turn(alloc, jobs, book, stamp)
-    } else {
-        serve(rt, alloc, jobs, book, stamp, &OpenGate)
+    let served = match way {
+        Way::AtOnce => serve(rt, alloc, jobs, book, stamp, &OpenGate),
+        Way::InOrder => serve_in_order(rt, alloc, jobs, book, stamp),
+        Way::InTurn => serve_in_turn(alloc, jobs, book, stamp),
     };
     match served {
         Ok(run) => Some(run),

@@ -53,6 +53,7 @@ fn tells_each_command_and_option(rt: HostRuntime) -> Result<(), Fail> {
                 "--time HHMMSS",
                 "--from REGISTER",
                 "--to REGISTER",
+                "--in-order",
                 "--in-turn",
                 "--no-clobber",
                 "-v, --verbose",

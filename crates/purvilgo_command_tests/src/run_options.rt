@@ -1,10 +1,11 @@
-//! Runs that write over no acknowledgement, and runs in turn.
+//! Runs that write over no acknowledgement, and runs in turn and in order.
 
-use cwr_sheets::plain_file;
+use cwr_sheets::{plain_file, same};
 use program_runs::{
     Fake, FakeFile, Given, Kept, KeptFile, Step, Text, expect_held, expect_play, expect_program,
     keeping, run_with,
 };
+use purvilgo_command::run_program;
 use std::alloc::Global;
 use std::fs;
 use std::fs::Metadata;
@@ -144,29 +145,53 @@ fn leaves_an_acknowledgement_that_came_in_between(rt: HostRuntime) -> Result<(),
 }
 
 /// Of two claims to one work that of the file named first is accepted, each time.
-#[test]
-fn runs_files_in_turn(rt: HostRuntime) -> Result<(), Fail> {
+fn expect_in_their_order<T: AllocGlobal + Threads + Wait + Sync>(
+    rt: &T,
+    option: &str,
+) -> Result<(), Fail> {
     let older = Text::Bytes(b"older");
     let accepted = Text::Answer("AS");
     let conflict = Text::Answer("CO");
     expect_play(
-        &rt,
+        rt,
         &[
             ("a", Given::Holds(Text::FirstClaim)),
             ("b", Given::Holds(Text::SecondClaim)),
         ],
         &[Kept::new("a.ack", older), Kept::new("b.ack", older)],
         &[
-            Step::run(&["--in-turn", "a", "b"])
+            Step::run(&[option, "a", "b"])
                 .prints("a: acknowledged 1\nb: acknowledged 1\n")
                 .leaves(&[("a.ack", accepted), ("b.ack", conflict)]),
-            Step::run(&["--in-turn", "b", "a"])
+            Step::run(&[option, "b", "a"])
                 .prints("b: acknowledged 1\na: acknowledged 1\n")
                 .leaves(&[("a.ack", conflict), ("b.ack", accepted)]),
-            Step::run(&["b", "--in-turn", "absent", "a"])
+            Step::run(&["b", option, "absent", "a"])
                 .ends(1)
                 .prints("b: acknowledged 1\nabsent: stopped after 0: read\na: acknowledged 1\n")
                 .leaves(&[("a.ack", conflict), ("b.ack", accepted)]),
         ],
     )
+}
+
+#[test]
+fn runs_files_in_turn(rt: HostRuntime) -> Result<(), Fail> {
+    expect_in_their_order(&rt, "--in-turn")
+}
+
+#[test]
+fn runs_files_in_order(rt: HostRuntime) -> Result<(), Fail> {
+    expect_in_their_order(&rt, "--in-order")
+}
+
+/// Nothing is printed, and one of the options is told.
+#[test]
+fn is_not_run_in_turn_and_in_order(rt: HostRuntime) -> Result<(), Fail> {
+    let words = run_with(rt.alloc(), &["--in-turn", "--in-order", "a"])?;
+    let fake = Fake::new(&rt, &words, b"");
+    let ended = run_program(&fake);
+    let (printed, told) = fake.into_texts();
+    same("--in-order", &told.contains("--in-order"), &true)?;
+    same("bytes printed", &printed.len(), &0)?;
+    same("its status", &ended, &ExitCode::from(2))
 }

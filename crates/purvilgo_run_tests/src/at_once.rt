@@ -78,6 +78,19 @@ fn works_two_files_in_turn(rt: HostRuntime) -> Result<(), Fail> {
     expect_met(&rt, &words, &files, 2, 1)
 }
 
+/// Eight files in order are read at once.
+#[test]
+fn reads_eight_files_at_once_in_order(rt: HostRuntime) -> Result<(), Fail> {
+    let input = miscounted(rt.alloc())?;
+    let words = run_with(
+        rt.alloc(),
+        &["--in-order", "a", "b", "c", "d", "e", "f", "g", "h"],
+    )?;
+    let held = FakeFile::Holds(&input);
+    let files = ["a", "b", "c", "d", "e", "f", "g", "h"].map(|name| (name, held));
+    expect_met(&rt, &words, &files, 8, 8)
+}
+
 /// Files of these names, each with this text.
 fn all_holding<'a>(
     alloc: Global,
