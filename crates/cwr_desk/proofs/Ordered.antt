@@ -49,7 +49,7 @@ module _ {R W Z : Type 0} (source : SourceOf R) (sink : SinkOf W) where
     by [] h = absurd h
     by (j ∷ js) h = record { job = j; rest = js; is = refl; read_is = h.0; writes = h.1; others_are = h.2 }
 
-  pub length_read : (jobs : List (Job R W)) (reads : List (ReadJob R W Z)) → AreRead source sink jobs reads → length jobs ≡ length reads
+  length_read : (jobs : List (Job R W)) (reads : List (ReadJob R W Z)) → AreRead source sink jobs reads → length jobs ≡ length reads
   length_read [] [] h = refl
   length_read [] (r ∷ rs) h = absurd h
   length_read (j ∷ js) [] h = absurd h
@@ -57,7 +57,7 @@ module _ {R W Z : Type 0} (source : SourceOf R) (sink : SinkOf W) where
 
 module _ {J : Type 0} (P : J → J → FileOutcome → Bool → List EntryValue → Type 0) where
   -- one job, and then the others
-  pub turn_and_more : (session : ℕ) (jobs rest : List J) (job : J) (worked later : List (J × FileOutcome)) (one : J × FileOutcome) (before between after : BookValue)
+  turn_and_more : (session : ℕ) (jobs rest : List J) (job : J) (worked later : List (J × FileOutcome)) (one : J × FileOutcome) (before between after : BookValue)
       → jobs ≡ job ∷ rest → worked ≡ one ∷ later → IsWorkedAlone P session before between job one.0 one.1
       → TookTurnsAs P (session + 1) rest later between after → TookTurnsAs P session jobs worked before after
   turn_and_more session jobs rest job worked later one before between after js ws alone took =
@@ -75,7 +75,7 @@ module _ {J : Type 0} (P : J → J → FileOutcome → Bool → List EntryValue 
   turns_then s n (j ∷ js) js' (k ∷ ks) ks' (o ∷ os) os' b m e is first more =
       (first.0, first.1, turns_then (s + 1) n js js' ks ks' os os' first.0 m e (omega (arith, is)) first.2 more)
 
-  pub took_more : (s n : ℕ) (js js' all : List J) (ws vs : List (J × FileOutcome)) (b m e : BookValue) → n ≡ s + length js → all ≡ js ++ js'
+  took_more : (s n : ℕ) (js js' all : List J) (ws vs : List (J × FileOutcome)) (b m e : BookValue) → n ≡ s + length js → all ≡ js ++ js'
       → TookTurnsAs P s js ws b m → TookTurnsAs P n js' vs m e → TookTurnsAs P s all (ws ++ vs) b e
   took_more s n js js' all ws vs b m e is cut first more =
       let ks = map-append (λ (w : J × FileOutcome). w.0) ws vs in

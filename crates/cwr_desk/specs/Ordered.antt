@@ -1,4 +1,4 @@
--- Jobs whose files are read beside one another, and decided one after the other.
+-- Jobs whose files are read in groups, each while the one before is decided, job after job.
 use Rattle.std.specs.Prelude.{◌≡◌, ℕ, ◌+◌, ◌<◌, ◌≤◌, Bool, false, List, [], ◌∷◌, ◌++◌, map, reverse, All, Vec, vec_len, vec_capacity}
 use Rattle.byte_streams.specs.declared.sink.Sink.{Ghosts as SinkOf}
 use Rattle.byte_streams.specs.declared.source.Source.{Ghosts as SourceOf}
@@ -14,7 +14,7 @@ use Rattle.cwr_engine.specs.declared.steps.ReadJob.{ReadJob}
 abbrev pub group_size : ℕ
 group_size = 8
 
--- a reader and a writer of each job have not failed
+-- the reader and the writer of each of these jobs have not failed
 abbrev pub AreWorking : {R W : Type 0} → SourceOf R → SinkOf W → List (Job R W) → Type 0
 AreWorking source sink jobs = All (λ j. (source.has_failed j.reader ≡ false) × (sink.has_failed j.writer ≡ false)) jobs
 
@@ -25,8 +25,8 @@ AreRead source sink [] (r ∷ rs) = ⊥
 AreRead source sink (j ∷ js) [] = ⊥
 AreRead source sink (j ∷ js) (r ∷ rs) = WasRead source j r × (sink.has_failed r.job.writer ≡ false) × AreRead source sink js rs
 
--- what it asks to read the first of these jobs, at most so many: readers and writers that have not failed, and room for
--- them, of which none is read yet
+-- what it asks to read the first of these jobs, at most so many: readers and writers that have not failed, an empty list,
+-- and room in it
 pub record IsGroupUnread {R W Z Y X : Type 0} (source : SourceOf R) (sink : SinkOf W) (most : ℕ) (jobs : Vec (Job R W) Z) (group : Vec (ReadJob R W Y) X) : Type 0 where
   pub works : AreWorking source sink jobs.items
   pub none : group.items ≡ []

@@ -1,4 +1,4 @@
-//! Jobs decided in their order, while threads read the files of the next ones and write the acknowledgements of the last.
+//! Jobs decided in their order, while threads read the files of the next ones and write acknowledgements of those before.
 ghost use Rattle.std.specs.Prelude.{All, IfOk, IfErr, ◌≡◌, ◌+◌, ◌++◌, ◌<◌, ◌≤◌, [], false, true, map, reverse, vec_len, vec_capacity};
 ghost use Rattle.std.specs.Thread.{IsSync};
 ghost use Rattle.work_registry.specs.Replay.{is_opening};
@@ -10,26 +10,27 @@ ghost use Rattle.cwr_desk.specs.Ordered.{HasDecidedGroup, HasOrdered, HasReadGro
 use byte_streams::{Sink, Source};
 use cwr_engine::{
     DecidedJob, FileOutcome, Job, ReadJob, Run, ServeRefused, answer_job, decide_job, read_job,
+    serve_in_turn,
 };
 use cwr_field::Memory;
 use cwr_record::Stamp;
 use std::alloc::Allocator;
-use std::thread::{Threads, join};
+use std::thread::{Threads, available_parallelism, join};
 use work_registry::Book;
 
 /// How many files are read beside one another: twice the processors of a small machine, so that none is idle where one
 /// file is longer than the others. The calls of two such groups are held.
 const GROUP: usize = 8;
 
-/// How many transactions a file has at least whose acknowledgement is worth a thread.
-const SHORT: usize = 1_000;
+/// From how many transactions on an acknowledgement is long: worth a thread to write it.
+const LONG: usize = 1_000;
 
 /// What reading a group leaves: the jobs that are left, and those that were read, each list with its first job last.
-type Read<R, W, A> = (Vec<Job<R, W>, A>, Vec<ReadJob<R, W, A>, A>);
+type GroupRead<R, W, A> = (Vec<Job<R, W>, A>, Vec<ReadJob<R, W, A>, A>);
 
 /// What deciding a group leaves: the book, the group's list, empty, and the jobs with how they ended, the first of them
 /// last.
-type Decided<R, W, A> = (
+type GroupDecided<R, W, A> = (
     Book<A>,
     Vec<ReadJob<R, W, A>, A>,
     Vec<(Job<R, W>, FileOutcome), A>,
@@ -39,9 +40,11 @@ type Decided<R, W, A> = (
 /// session i of the book.
 ///
 /// Decided is on the thread that calls, one job after the other. Meanwhile the files of the next eight jobs are read and
-/// judged, each on a thread of its own, and the acknowledgements of those that are decided are written; so the calls of at
-/// most sixteen files are held beside the book. A reader or a writer that does not come back holds up the jobs after it.
-/// Where the runtime refuses a thread, its work is done on the thread that would have started it.
+/// judged, each on a thread of its own, and acknowledgements of 1,000 transactions and more are written on threads; so the
+/// calls of at most sixteen files are held beside the book. A reader that does not come back holds up the jobs of its eight
+/// and those behind them, a writer those behind its eight. Where the runtime refuses a thread, its work is done on the
+/// thread that would have started it; where the process has one processor, the jobs are worked in turn, and none is
+/// started.
 ///
 /// A job that is refused or stopped does not stop the next one. At most 63 jobs are taken, and a book whose entries
 /// are all of the opening. The run's own memory is asked for first: where it is refused no job is begun, and the book
@@ -66,6 +69,9 @@ pub fn serve_in_order<
     ensures in_turn { IfOk result (λ run. InTurn book.limit run.book.history 1 book.history run.outcomes.items) }
     ensures back { IfErr result (λ back. (back.book ≡ book) × (back.jobs.items ≡ jobs.items)) }
 {
+    if has_one_processor(rt) {
+        return serve_in_turn(alloc, jobs, book, stamp);
+    }
     let Ok(lists) = Lists::for_jobs(alloc, jobs.len()) else {
         return Err(ServeRefused { book, jobs });
     };
@@ -87,6 +93,14 @@ pub fn serve_in_order<
     // Looking at it tells the check what holds in every book.
     let _entries = run.book.history().len();
     Ok(run)
+}
+
+/// Whether the process may run on one processor alone.
+fn has_one_processor<T: Threads>(rt: &T) -> bool {
+    match available_parallelism(rt) {
+        Ok(count) => count.get() == 1,
+        Err(_) => false,
+    }
 }
 
 /// The lists of a run, with room for what they will hold.
@@ -138,7 +152,7 @@ fn read_group<
     mut jobs: Vec<Job<R, W>, A>,
     group: Vec<ReadJob<R, W, A>, A>,
     most: usize,
-) -> Read<R, W, A>
+) -> GroupRead<R, W, A>
     requires ready { IsGroupUnread R.Source W.Sink most jobs group }
     ensures { HasReadGroup R.Source W.Sink most jobs result.0 group result.1 }
 {
@@ -170,7 +184,7 @@ fn read_beside<
     jobs: Vec<Job<R, W>, A>,
     group: Vec<ReadJob<R, W, A>, A>,
     most: usize,
-) -> (ReadJob<R, W, A>, Read<R, W, A>)
+) -> (ReadJob<R, W, A>, GroupRead<R, W, A>)
     requires reads { R.has_failed job.reader ≡ false }
     requires ready { IsGroupUnread R.Source W.Sink most jobs group }
     ensures first { WasRead R.Source job result.0 }
@@ -185,7 +199,7 @@ fn read_beside<
             requires { R.has_failed job.reader ≡ false }
             ensures { WasRead R.Source job result }
         { read_job(alloc, job) },
-        move || -> Read<R, W, A>
+        move || -> GroupRead<R, W, A>
             requires { IsSync T.row × IsGroupUnread R.Source W.Sink most jobs group }
             ensures { HasReadGroup R.Source W.Sink most jobs result.0 group result.1 }
         { read_group(rt, alloc, jobs, group, most) },
@@ -209,7 +223,7 @@ fn decide_group<
     mut group: Vec<ReadJob<R, W, A>, A>,
     worked: Vec<(Job<R, W>, FileOutcome), A>,
     stamp: &Stamp,
-) -> Decided<R, W, A>
+) -> GroupDecided<R, W, A>
     requires ready { IsGroupReady R.Source W.Sink session group worked }
     ensures { HasDecidedGroup R.Source W.Sink (JobAccount R.Source W.Sink stamp.now false)
         session book result.0 group result.1 worked result.2 }
@@ -251,14 +265,14 @@ fn answer_beside<
     group: Vec<ReadJob<R, W, A>, A>,
     worked: Vec<(Job<R, W>, FileOutcome), A>,
     stamp: &Stamp,
-) -> ((Job<R, W>, FileOutcome), Decided<R, W, A>)
+) -> ((Job<R, W>, FileOutcome), GroupDecided<R, W, A>)
     requires writes { W.has_failed job.job.writer ≡ false }
     requires ready { IsGroupReady R.Source W.Sink session group worked }
     ensures first { HasAnswered R.Source W.Sink stamp.now job result.0.0 result.0.1 }
     ensures others { HasDecidedGroup R.Source W.Sink (JobAccount R.Source W.Sink stamp.now false)
         session book result.1.0 group result.1.1 worked result.1.2 }
 {
-    if is_short(&job) || group.is_empty() {
+    if !is_long(&job) || group.is_empty() {
         let ended = answer_job(alloc, job, stamp);
         let others = decide_group(rt, alloc, book, session, group, worked, stamp);
         return (ended, others);
@@ -269,7 +283,7 @@ fn answer_beside<
             requires { W.has_failed job.job.writer ≡ false }
             ensures { HasAnswered R.Source W.Sink stamp.entry.now job result.0 result.1 }
         { answer_job(alloc, job, stamp) },
-        move || -> Decided<R, W, A>
+        move || -> GroupDecided<R, W, A>
             requires { IsSync T.row × IsGroupReady R.Source W.Sink session group worked }
             ensures { HasDecidedGroup R.Source W.Sink (JobAccount R.Source W.Sink stamp.entry.now false)
                 session book result.0 group result.1 worked result.2 }
@@ -277,11 +291,11 @@ fn answer_beside<
     )
 }
 
-/// Whether the acknowledgement of a job is short, or there is none: a thread for it would take longer than the writing.
-fn is_short<R, W, A: Allocator>(decided: &DecidedJob<R, W, A>) -> bool {
+/// Whether a job has a long acknowledgement: a thread for a short one would take longer to start than the writing.
+fn is_long<R, W, A: Allocator>(decided: &DecidedJob<R, W, A>) -> bool {
     match &decided.file {
-        Ok(file) => file.len() < SHORT,
-        Err(_) => true,
+        Ok(file) => file.len() >= LONG,
+        Err(_) => false,
     }
 }
 
@@ -342,7 +356,7 @@ fn decide_and_read<
     jobs: Vec<Job<R, W>, A>,
     next: Vec<ReadJob<R, W, A>, A>,
     stamp: &Stamp,
-) -> (Read<R, W, A>, Decided<R, W, A>)
+) -> (GroupRead<R, W, A>, GroupDecided<R, W, A>)
     requires ready { IsGroupReady R.Source W.Sink session group worked }
     requires unread { IsGroupUnread R.Source W.Sink group_size jobs next }
     ensures read { HasReadGroup R.Source W.Sink group_size jobs result.0.0 next result.0.1 }
@@ -355,11 +369,11 @@ fn decide_and_read<
     }
     join(
         rt,
-        move || -> Read<R, W, A>
+        move || -> GroupRead<R, W, A>
             requires { IsSync T.row × IsGroupUnread R.Source W.Sink group_size jobs next }
             ensures { HasReadGroup R.Source W.Sink group_size jobs result.0 next result.1 }
         { read_group(rt, alloc, jobs, next, GROUP) },
-        move || -> Decided<R, W, A>
+        move || -> GroupDecided<R, W, A>
             requires { IsSync T.row × IsGroupReady R.Source W.Sink session group worked }
             ensures { HasDecidedGroup R.Source W.Sink (JobAccount R.Source W.Sink stamp.entry.now false)
                 session book result.0 group result.1 worked result.2 }

@@ -1,8 +1,9 @@
 //! Submission files worked into one book of works: read, checked, decided and acknowledged.
 //!
-//! A [`Job`] is a reader and a writer. [`serve`] works up to 63 jobs on threads, [`serve_in_turn`] on one, [`work`] one at
-//! a seat, [`work_alone`] one at a book of one's own, [`acknowledge`] one into an empty book; each ends in a
-//! [`FileOutcome`]. [`check_text`] tells the faults of a file without a book.
+//! A [`Job`] is a reader and a writer. [`serve`] works up to 63 jobs on threads, [`serve_in_turn`] on one,
+//! [`serve_in_order`] on threads with the contract of that, [`work`] one at a seat, [`work_alone`] one at a book of one's
+//! own, [`acknowledge`] one into an empty book; each ends in a [`FileOutcome`]. [`check_text`] tells the faults of a file
+//! without a book.
 #![tactic(auto)]
 
 mod at_desk;

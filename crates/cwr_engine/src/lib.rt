@@ -4,7 +4,8 @@
 //! [`Job`] is a reader and a writer; each ends in a [`FileOutcome`]. Calls are handed in at a [`Window`]: a book of one's
 //! own, or a place at one that others use too. [`work_file`] works one file at a window, [`work_judged`] one that was
 //! judged before, [`acknowledge`] one into an empty book, [`work_alone`] one at a book of one's own, [`serve_in_turn`]
-//! many at one book, one after the other.
+//! many at one book, one after the other. [`read_job`], [`decide_job`] and [`answer_job`] are the steps of [`work_alone`],
+//! for who takes some of them on threads.
 #![tactic(auto)]
 
 mod answered;

@@ -1,6 +1,10 @@
 //! A job in three steps, which threads can take beside those of other jobs: only the second has the book.
-ghost use Rattle.std.specs.Prelude.{◌≡◌, ◌≤◌, false};
-ghost use Rattle.cwr_engine.specs.JobSteps.{HasAnswered, WasDecided, WasRead, entries_at};
+ghost use Rattle.std.specs.Prelude.{◌≡◌, ◌≤◌, List, false, IfOk, IfErr, IsErrAnd};
+ghost use Rattle.cwr_grammar.specs.RawParts.{RawParts};
+ghost use Rattle.cwr_engine.specs.Account.{most};
+ghost use Rattle.cwr_engine.specs.Causes.{outcome_of};
+ghost use Rattle.cwr_engine.specs.Judged.{AreJudged};
+ghost use Rattle.cwr_engine.specs.JobSteps.{HasAnswered, IsAnsweredWhole, WasDecided, WasRead, entries_at};
 ghost use Rattle.cwr_engine.specs.Whole.{is_full};
 ghost use Rattle.cwr_engine.specs.declared.jobs.Job.{Job};
 
@@ -61,6 +65,10 @@ pub fn decide_job<R: Source + Drop, W: Sink + Drop, A: Allocator + Copy + Drop>(
     requires few { session ≤ 63 }
     requires read { (job : Job R W) × WasRead R.Source job read }
     ensures limit { result.0.limit ≡ book.limit }
+    ensures job { result.1.job ≡ read.job }
+    ensures unjudged { IfErr read.file (λ why. (result.0 ≡ book) × IsErrAnd result.1.file (λ outcome. outcome ≡ outcome_of why)) }
+    ensures answered { IfOk read.file (λ file. IfOk result.1.file (λ all. (ts : List RawParts) → AreJudged most file.header ts file.transactions.items
+        → IsAnsweredWhole session file.header ts all (entries_at session book) (entries_at session result.0))) }
     ensures decided { (job : Job R W) → WasRead R.Source job read
         → WasDecided R.Source W.Sink session job result.1 (is_full result.0) (entries_at session book) (entries_at session result.0) }
 {
@@ -92,7 +100,8 @@ pub fn answer_job<R: Source + Drop, W: Sink + Drop, A: Allocator + Copy + Drop>(
     stamp: &Stamp,
 ) -> (Job<R, W>, FileOutcome)
     requires writes { W.has_failed decided.job.writer ≡ false }
-    ensures { HasAnswered R.Source W.Sink stamp.now decided result.0 result.1 }
+    ensures answered { HasAnswered R.Source W.Sink stamp.now decided result.0 result.1 }
+    ensures ended { IfErr decided.file (λ outcome. (result.0 ≡ decided.job) × (result.1 ≡ outcome)) }
 {
     let DecidedJob { mut job, file } = decided;
     match file {

@@ -18,3 +18,7 @@ pub returns-in-Err-clause-decided : goal.returns-in-Err-clause-decided
 returns-in-Err-clause-decided g c = λ job was.
     rw c.unjudged.ensures (was_not_judged g.R.Source g.W.Sink c.args.session job c.args.read was (is_full c.args.book) (entries_at c.args.session c.args.book)
     c.in-Err.refused c.in-Err.is)
+
+pub returns-in-Ok-clause-answered : goal.returns-in-Ok-clause-answered
+returns-in-Ok-clause-answered g c =
+    rw c.in-Ok.is (rw c.replace-book.ensures.value (rw c.hand_in_file-window.ensures.session at c.hand_in_file-window.ensures.answered))
