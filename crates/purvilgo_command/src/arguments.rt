@@ -22,8 +22,8 @@ pub(crate) enum Argument {
     FlagAgainst(&'static str, &'static str, &'static str),
     /// An option without a value that the list of options leaves out.
     HiddenFlag(&'static str, &'static str),
-    /// Such an option that excludes another one.
-    OtherFlag(&'static str, &'static str, &'static str),
+    /// Such a hidden option that excludes another one, which stands before its help.
+    HiddenFlagAgainst(&'static str, &'static str, &'static str),
     /// `--verbose`, as each command takes it.
     Verbose,
     /// The same, which the list of options leaves out.
@@ -75,7 +75,7 @@ fn argument_of<'a>(alloc: Global, argument: Argument) -> Result<Arg<'a>, AllocEr
         Argument::Flag(name, help) => Ok(flag(alloc, name, help)),
         Argument::FlagAgainst(name, other, help) => flag(alloc, name, help).conflicts_with(other),
         Argument::HiddenFlag(name, help) => Ok(hidden_flag(alloc, name, help)),
-        Argument::OtherFlag(name, other, help) => {
+        Argument::HiddenFlagAgainst(name, other, help) => {
             hidden_flag(alloc, name, help).conflicts_with(other)
         }
         Argument::Verbose => Ok(verbose_flag(alloc)),

@@ -15,7 +15,7 @@ const CHECK: CommandWords = CommandWords {
     arguments: &[
         Argument::Word("FILE", "a CWR 2.2 file"),
         Argument::HiddenFlag("long", "tell of each fault what is wrong"),
-        Argument::OtherFlag("json", "long", "tell it as one JSON object"),
+        Argument::HiddenFlagAgainst("json", "long", "tell it as one JSON object"),
         Argument::HiddenVerbose,
     ],
 };

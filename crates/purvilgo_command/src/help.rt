@@ -78,11 +78,11 @@ Options:
   --time HHMMSS    time of the run
   --from REGISTER  the register to go on from; else the history begins empty
   --to REGISTER    the register to write, in place of a file that is there
-  --in-order       files are read at once and decided in the order of the words, so
-                   that the same files give the same bytes each time; else they are
-                   decided at once too
-  --in-turn        the same, one file after another, on one thread: slower, and with
-                   less memory. The two are not taken together
+  --in-order       files are read on threads and decided in the order of the words,
+                   so that the same files give the same bytes each time; else they
+                   are decided at once too
+  --in-turn        the same on one thread, one file after another: with less memory,
+                   and mostly slower. The two are not taken together
   --no-clobber     write over no acknowledgement: where one is there already,
                    nothing is read or written
   -v, --verbose    tell steps and the system's reasons on standard error
