@@ -232,6 +232,7 @@ def commands(examples):
         ("run --to, two files", Run(two, to=True)),
         ("run --in-turn --to, two files", Run(two, to=True, options=["--in-turn"])),
         ("run --in-turn --from --to", Run([conflict], opening=[first], to=True, options=["--in-turn"])),
+        ("run --in-order --to, two files", Run(two, to=True, options=["--in-order"])),
         ("run --no-clobber --to, two files", Run(two, to=True, options=["--no-clobber"])),
         ("run --no-clobber, one is there", Command(["run", "--no-clobber", *STAMP, "f"], 1, complained=b"f.ack: is there already\n", files=[("f", lone[1]), ("f.ack", OLD_ACK)])),
         ("run --from, wrong register", Command(["run", *STAMP, "--from", "r", "f"], 1, complained=b"register: refused G3 at line 3\n", files=[("r", wrong), ("f", lone[1])], opening=True)),
