@@ -6,11 +6,16 @@ use cwr_desk::{Job, Run};
 use std::alloc::Global;
 use std::test::Fail;
 
+/// How many bytes a read gives at most, where nothing else is said.
+const PIECE: usize = 4096;
+
 /// A file to be worked.
 #[derive(Clone, Copy)]
 pub struct Input<'a> {
     /// Its bytes.
     pub bytes: &'a [u8],
+    /// How many of them a read gives at most. A read gives one at least.
+    pub piece: usize,
     /// The read at which its reader fails, from 1 on, if one does.
     pub fail: Option<u64>,
     /// How many bytes its writer takes before it fails.
@@ -31,17 +36,30 @@ pub fn whole(bytes: &[u8]) -> Input<'_> {
 pub fn with_room(bytes: &[u8], room: usize) -> Input<'_> {
     Input {
         bytes,
+        piece: PIECE,
         fail: None,
         room,
     }
 }
 
+/// These files, each with room for so many bytes of its acknowledgement.
+pub fn all_with_room<'a>(
+    alloc: Global,
+    files: &'a [Vec<u8>],
+    room: usize,
+) -> Result<Vec<Input<'a>>, Fail> {
+    let mut inputs = Vec::new(alloc);
+    for file in files {
+        inputs.push(with_room(file, room))?;
+    }
+    Ok(inputs)
+}
+
 /// A file whose reader fails at its first read, with room for an acknowledgement.
 pub fn unread(bytes: &[u8]) -> Input<'_> {
     Input {
-        bytes,
         fail: Some(1),
-        room: 1000,
+        ..whole(bytes)
     }
 }
 
@@ -49,9 +67,14 @@ pub fn unread(bytes: &[u8]) -> Input<'_> {
 fn job<'a>(alloc: Global, input: Input<'a>) -> Result<MemoryJob<'a>, Fail>
     ensures { IfOk result (λ j. (j.reader.has_failed ≡ false) × (j.writer.has_failed ≡ false)) }
 {
-    let Input { bytes, fail, room } = input;
+    let Input {
+        bytes,
+        piece,
+        fail,
+        room,
+    } = input;
     Ok(Job {
-        reader: Feed::new(bytes, 4096, fail),
+        reader: Feed::new(bytes, piece.max(1), fail),
         writer: Room::new(alloc, room, true)?,
     })
 }

@@ -1,4 +1,4 @@
-//! Files in memory that are worked into books, in turn and at the desk, and what must become of them: for tests.
+//! Files in memory that are worked into books, in turn, in order and at the desk, and what must become of them: for tests.
 #![tactic(auto)]
 
 mod ends;
@@ -6,5 +6,5 @@ mod jobs;
 mod runs;
 
 pub use ends::{ACKED, accepted, expect_ends, expect_history, expect_run, expect_written};
-pub use jobs::{Input, MemoryRun, unread, whole, with_room};
-pub use runs::{run_at_desk, run_in_turn, run_whole_files};
+pub use jobs::{Input, MemoryRun, all_with_room, unread, whole, with_room};
+pub use runs::{run_at_desk, run_in_order, run_in_turn, run_whole_files};

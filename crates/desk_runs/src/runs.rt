@@ -2,9 +2,9 @@
 ghost use Rattle.std.specs.Prelude.{◌≡◌, ◌<◌, true, false, All, IfOk, vec_len};
 ghost use Rattle.work_registry.specs.Replay.{is_opening};
 
-use crate::jobs::{Input, MemoryJob, MemoryRun, jobs_of, with_room};
+use crate::jobs::{Input, MemoryJob, MemoryRun, all_with_room, jobs_of};
 use byte_streams::{Feed, Room};
-use cwr_desk::{Book, Gate, ServeRefused, Stamp, serve, serve_in_turn};
+use cwr_desk::{Book, Gate, ServeRefused, Stamp, serve, serve_in_order, serve_in_turn};
 use cwr_sheets::stamp;
 use std::alloc::Global;
 use std::sync::Wait;
@@ -48,6 +48,19 @@ pub fn run_in_turn<'a>(
     whole_run(serve_in_turn(alloc, jobs, book, &stamp))
 }
 
+/// Works files in their order, and reads them on threads.
+pub fn run_in_order<'a, T: Threads + Sync>(
+    rt: &T,
+    alloc: Global,
+    book: Book,
+    inputs: &[Input<'a>],
+) -> Result<MemoryRun<'a>, Fail>
+    requires opening { is_opening book.history ≡ true }
+{
+    let (jobs, stamp) = prepared(alloc, inputs)?;
+    whole_run(serve_in_order(rt, alloc, jobs, book, &stamp))
+}
+
 /// Works files at the desk, each on a thread of its own.
 pub fn run_at_desk<'a, T: Threads + Wait + Sync, G: Gate + Sync>(
     rt: &T,
@@ -73,9 +86,6 @@ pub fn run_whole_files<'a, T: Threads + Wait + Sync, G: Gate + Sync>(
 ) -> Result<MemoryRun<'a>, Fail>
     requires opening { is_opening book.history ≡ true }
 {
-    let mut inputs = Vec::new(alloc);
-    for file in files {
-        inputs.push(with_room(file, room))?;
-    }
+    let inputs = all_with_room(alloc, files, room)?;
     run_at_desk(rt, alloc, book, &inputs, gate)
 }

@@ -144,10 +144,18 @@ fn leaves_an_acknowledgement_that_came_in_between(rt: HostRuntime) -> Result<(),
     )
 }
 
+/// The words of three runs: of `a` and `b`, of `b` and `a`, and of `b`, a file that is not there, and `a`.
+#[derive(Clone, Copy)]
+struct Orders {
+    straight: &'static [&'static str],
+    reverse: &'static [&'static str],
+    apart: &'static [&'static str],
+}
+
 /// Of two claims to one work that of the file named first is accepted, each time.
 fn expect_in_their_order<T: AllocGlobal + Threads + Wait + Sync>(
     rt: &T,
-    option: &str,
+    orders: Orders,
 ) -> Result<(), Fail> {
     let older = Text::Bytes(b"older");
     let accepted = Text::Answer("AS");
@@ -160,13 +168,13 @@ fn expect_in_their_order<T: AllocGlobal + Threads + Wait + Sync>(
         ],
         &[Kept::new("a.ack", older), Kept::new("b.ack", older)],
         &[
-            Step::run(&[option, "a", "b"])
+            Step::run(orders.straight)
                 .prints("a: acknowledged 1\nb: acknowledged 1\n")
                 .leaves(&[("a.ack", accepted), ("b.ack", conflict)]),
-            Step::run(&[option, "b", "a"])
+            Step::run(orders.reverse)
                 .prints("b: acknowledged 1\na: acknowledged 1\n")
                 .leaves(&[("a.ack", conflict), ("b.ack", accepted)]),
-            Step::run(&["b", option, "absent", "a"])
+            Step::run(orders.apart)
                 .ends(1)
                 .prints("b: acknowledged 1\nabsent: stopped after 0: read\na: acknowledged 1\n")
                 .leaves(&[("a.ack", conflict), ("b.ack", accepted)]),
@@ -176,12 +184,22 @@ fn expect_in_their_order<T: AllocGlobal + Threads + Wait + Sync>(
 
 #[test]
 fn runs_files_in_turn(rt: HostRuntime) -> Result<(), Fail> {
-    expect_in_their_order(&rt, "--in-turn")
+    let orders = Orders {
+        straight: &["--in-turn", "a", "b"],
+        reverse: &["--in-turn", "b", "a"],
+        apart: &["b", "--in-turn", "absent", "a"],
+    };
+    expect_in_their_order(&rt, orders)
 }
 
 #[test]
 fn runs_files_in_order(rt: HostRuntime) -> Result<(), Fail> {
-    expect_in_their_order(&rt, "--in-order")
+    let orders = Orders {
+        straight: &["--in-order", "a", "b"],
+        reverse: &["--in-order", "b", "a"],
+        apart: &["b", "--in-order", "absent", "a"],
+    };
+    expect_in_their_order(&rt, orders)
 }
 
 /// Nothing is printed, and one of the options is told.

@@ -139,7 +139,7 @@ const THREE: [Decided; 3] = [
 ];
 
 /// What is decided on the same file once its first `known` works are registered.
-fn again(known: usize) -> [Decided<'static>; 3] {
+pub(crate) fn again(known: usize) -> [Decided<'static>; 3] {
     let mut decided = THREE;
     let mut work: u32 = 0;
     for one in decided.iter_mut().take(known) {

@@ -4,6 +4,8 @@
 #[cfg(test)]
 mod ends;
 #[cfg(test)]
+mod in_order;
+#[cfg(test)]
 mod in_turn;
 #[cfg(test)]
 mod jobs;

@@ -1,0 +1,61 @@
+//! Files worked in both ways, and what is left of the one beside what is left of the other.
+
+use crate::beginnings::Beginning;
+use byte_streams::{Room, Sink, Source};
+use cwr_desk::{Book, Job};
+use cwr_sheets::{same, same_bytes, same_lists};
+use desk_runs::{Input, MemoryRun, run_in_order, run_in_turn};
+use std::alloc::Global;
+use std::test::Fail;
+use std::thread::Threads;
+
+/// The writers of two runs must have taken the same bytes, and the same readers and writers must have failed.
+fn expect_same_jobs<R: Source>(
+    what: &str,
+    found: &[Job<R, Room>],
+    wanted: &[Job<R, Room>],
+) -> Result<(), Fail> {
+    for (one, other) in found.iter().zip(wanted) {
+        same_bytes(what, one.writer.bytes(), other.writer.bytes())?;
+        let failed = (one.reader.failed(), one.writer.failed());
+        same(
+            what,
+            &failed,
+            &(other.reader.failed(), other.writer.failed()),
+        )?;
+    }
+    same(what, &found.len(), &wanted.len())
+}
+
+/// Two books must have the same sessions with the same replies, the same limit and the same register.
+pub(crate) fn expect_same_books(
+    alloc: Global,
+    what: &str,
+    found: &Book,
+    wanted: &Book,
+) -> Result<(), Fail> {
+    for (one, other) in found.history().iter().zip(wanted.history()) {
+        let entry = (one.session(), one.reply());
+        same(what, &entry, &(other.session(), other.reply()))?;
+    }
+    same(what, &found.limit(), &wanted.limit())?;
+    let register = found.write_register(alloc)?;
+    same_bytes(what, &register, &wanted.write_register(alloc)?)
+}
+
+/// Works files in turn and in their order, each time with a book that begins so. Both must leave the same, which is
+/// answered.
+pub(crate) fn expect_as_in_turn<'a, T: Threads + Sync>(
+    rt: &T,
+    alloc: Global,
+    what: &str,
+    beginning: &Beginning,
+    inputs: &[Input<'a>],
+) -> Result<MemoryRun<'a>, Fail> {
+    let wanted = run_in_turn(alloc, beginning.book(alloc)?, inputs)?;
+    let found = run_in_order(rt, alloc, beginning.book(alloc)?, inputs)?;
+    same_lists(what, &found.outcomes, &wanted.outcomes)?;
+    expect_same_jobs(what, &found.jobs, &wanted.jobs)?;
+    expect_same_books(alloc, what, &found.book, &wanted.book)?;
+    Ok(wanted)
+}
