@@ -144,37 +144,27 @@ fn leaves_an_acknowledgement_that_came_in_between(rt: HostRuntime) -> Result<(),
     )
 }
 
-/// The words of three runs: of `a` and `b`, of `b` and `a`, and of `b`, a file that is not there, and `a`.
-#[derive(Clone, Copy)]
-struct Orders {
-    straight: &'static [&'static str],
-    reverse: &'static [&'static str],
-    apart: &'static [&'static str],
-}
-
 /// Of two claims to one work that of the file named first is accepted, each time.
-fn expect_in_their_order<T: AllocGlobal + Threads + Wait + Sync>(
-    rt: &T,
-    orders: Orders,
-) -> Result<(), Fail> {
+#[test]
+fn runs_files_in_turn(rt: HostRuntime) -> Result<(), Fail> {
     let older = Text::Bytes(b"older");
     let accepted = Text::Answer("AS");
     let conflict = Text::Answer("CO");
     expect_play(
-        rt,
+        &rt,
         &[
             ("a", Given::Holds(Text::FirstClaim)),
             ("b", Given::Holds(Text::SecondClaim)),
         ],
         &[Kept::new("a.ack", older), Kept::new("b.ack", older)],
         &[
-            Step::run(orders.straight)
+            Step::run(&["--in-turn", "a", "b"])
                 .prints("a: acknowledged 1\nb: acknowledged 1\n")
                 .leaves(&[("a.ack", accepted), ("b.ack", conflict)]),
-            Step::run(orders.reverse)
+            Step::run(&["--in-turn", "b", "a"])
                 .prints("b: acknowledged 1\na: acknowledged 1\n")
                 .leaves(&[("a.ack", conflict), ("b.ack", accepted)]),
-            Step::run(orders.apart)
+            Step::run(&["b", "--in-turn", "absent", "a"])
                 .ends(1)
                 .prints("b: acknowledged 1\nabsent: stopped after 0: read\na: acknowledged 1\n")
                 .leaves(&[("a.ack", conflict), ("b.ack", accepted)]),
@@ -182,24 +172,29 @@ fn expect_in_their_order<T: AllocGlobal + Threads + Wait + Sync>(
     )
 }
 
-#[test]
-fn runs_files_in_turn(rt: HostRuntime) -> Result<(), Fail> {
-    let orders = Orders {
-        straight: &["--in-turn", "a", "b"],
-        reverse: &["--in-turn", "b", "a"],
-        apart: &["b", "--in-turn", "absent", "a"],
-    };
-    expect_in_their_order(&rt, orders)
-}
-
+/// The same in order.
 #[test]
 fn runs_files_in_order(rt: HostRuntime) -> Result<(), Fail> {
-    let orders = Orders {
-        straight: &["--in-order", "a", "b"],
-        reverse: &["--in-order", "b", "a"],
-        apart: &["b", "--in-order", "absent", "a"],
-    };
-    expect_in_their_order(&rt, orders)
+    let older = Text::Bytes(b"older");
+    let accepted = Text::Answer("AS");
+    let conflict = Text::Answer("CO");
+    expect_play(
+        &rt,
+        &[
+            ("a", Given::Holds(Text::FirstClaim)),
+            ("b", Given::Holds(Text::SecondClaim)),
+        ],
+        &[Kept::new("a.ack", older), Kept::new("b.ack", older)],
+        &[
+            Step::run(&["--in-order", "a", "b"])
+                .prints("a: acknowledged 1\nb: acknowledged 1\n")
+                .leaves(&[("a.ack", accepted), ("b.ack", conflict)]),
+            Step::run(&["b", "--in-order", "absent", "a"])
+                .ends(1)
+                .prints("b: acknowledged 1\nabsent: stopped after 0: read\na: acknowledged 1\n")
+                .leaves(&[("a.ack", conflict), ("b.ack", accepted)]),
+        ],
+    )
 }
 
 /// Nothing is printed, and one of the options is told.
