@@ -87,7 +87,16 @@ fn reads_eight_files_at_once_in_order(rt: HostRuntime) -> Result<(), Fail> {
         &["--in-order", "a", "b", "c", "d", "e", "f", "g", "h"],
     )?;
     let held = FakeFile::Holds(&input);
-    let files = ["a", "b", "c", "d", "e", "f", "g", "h"].map(|name| (name, held));
+    let files = [
+        ("a", held),
+        ("b", held),
+        ("c", held),
+        ("d", held),
+        ("e", held),
+        ("f", held),
+        ("g", held),
+        ("h", held),
+    ];
     expect_met(&rt, &words, &files, 8, 8)
 }
 
