@@ -28,8 +28,10 @@ STAMP = ["--society", "007", "--name", "SOCIETY", "--date", "20240601", "--time"
 CREATED = b"20240501120000"
 OLD_ACK = b"AN OLD ACKNOWLEDGEMENT\n"
 NOBODY = 65534
-KILLS = 200
+KILLS = int(os.environ.get("KILLS", "200"))
 ROUNDS_OF_TWO = 50
+# Calls of which a thread makes now more, now fewer: as it waits, or finds that it need not.
+UNEVEN = {"futex", "madvise", "mprotect", "munmap", "sched_yield"}
 
 # A register before a run, by its entries; the files of the run, by name, with their transactions; and its words.
 Case = collections.namedtuple("Case", "opening files words")
@@ -180,32 +182,35 @@ def goes_on_after(program, folder, case, is_new):
 
 
 def calls_of(program, case):
-    """The system calls of a run that nothing disturbs, but the one that starts it: of each its name, and how often that was
-    called so far."""
+    """The system calls of a run that nothing disturbs, but the one that starts it: of each its name, and how often one
+    thread has called that so far, as strace counts them. Where several threads call it so often, it is there once."""
     with fresh(case) as folder, tempfile.NamedTemporaryFile("r") as log:
         subprocess.run(["strace", "-f", "-o", log.name, program, *case.words], cwd=folder, check=True, capture_output=True, timeout=SECONDS)
         counts = collections.Counter()
-        for name in re.findall(r"^\d+ +(\w+)\(", log.read(), re.M):
-            counts[name] += 1
+        found = {}
+        for thread, name in re.findall(r"^(\d+) +(\w+)\(", log.read(), re.M):
+            counts[thread, name] += 1
             if name != "execve":
-                yield name, counts[name]
+                found[name, counts[thread, name]] = None
+        return list(found)
 
 
 def kills_at_each_call(program):
     """Kills a run before each of its system calls."""
     case = a_case(100, 3, 8, "--in-turn")
-    calls = list(calls_of(program, case))
-    new, acks, drafts = 0, 0, 0
+    calls = calls_of(program, case)
+    new, acks, drafts, ended_before = 0, 0, 0, 0
     for name, nth in calls:
         with fresh(case) as folder:
             injected = ["strace", "-f", "-o", "/dev/null", "-e", f"inject={name}:signal=KILL:when={nth}"]
             ended = subprocess.run([*injected, program, *case.words], cwd=folder, capture_output=True, timeout=SECONDS)
-            want(ended.returncode == -signal.SIGKILL, f"not killed at {name} {nth}: {ended}")
+            want(ended.returncode == -signal.SIGKILL or (name in UNEVEN and ended.returncode == 0), f"not killed at {name} {nth}: {ended}")
+            ended_before += ended.returncode == 0
             is_new, placed = look(program, folder, case)
             new, acks, drafts = new + is_new, acks + placed, drafts + len(beside(folder)[0])
             goes_on_after(program, folder, case, is_new)
     want(0 < new < len(calls), "no run was killed after its register was kept, or none before")
-    tell("a kill before each system call", len(calls), (len(calls) - new, "old registers"), (new, "new"), (acks, "new acknowledgements"), (drafts, "drafts left"))
+    tell("a kill before each system call", len(calls), (len(calls) - new, "old registers"), (new, "new"), (acks, "new acknowledgements"), (drafts, "drafts left"), (ended_before, "had ended"))
 
 
 def kills_at_random(program, *options):
@@ -349,26 +354,47 @@ def guards(program):
     tell("links, permissions, devices, drafts", 5)
 
 
-def order_of_calls(program):
-    """The calls that bring files in place, as strace tells them: each draft is on the disk before it takes its name, and
-    the register's name is on the disk before the first acknowledgement takes its own."""
-    case = a_case(10, 2, 8, "--in-turn")
+def calls_in_order(program, case, words):
+    """The calls of a run that bring files in place, as strace tells them once they have ended."""
     with fresh(case) as folder, tempfile.NamedTemporaryFile("r") as log:
-        watched = ["strace", "-f", "-y", "-e", "trace=fsync,fdatasync,rename,renameat,renameat2", "-o", log.name]
-        subprocess.run([*watched, program, *case.words], cwd=folder, check=True, capture_output=True, timeout=SECONDS)
+        if "--no-clobber" in words:
+            for name in os.listdir(folder):
+                if name.endswith(".ack"):
+                    os.unlink(os.path.join(folder, name))
+        watched = ["strace", "-f", "-y", "-e", "trace=fsync,fdatasync,rename,renameat,renameat2,link,linkat", "-o", log.name]
+        subprocess.run([*watched, program, *words], cwd=folder, check=True, capture_output=True, timeout=SECONDS)
         place = re.escape(os.path.realpath(folder))
-        found = []
+        syncing = {}
         for line in log:
-            synced = re.search(rf"fsync\(\d+<{place}(?:/([^>]*))?>\)\s+= 0", line)
-            named = re.search(r'rename\w*\((?:AT_FDCWD, )?"(?:[^"]*/)?([^"/]*)", .*\)\s+= 0', line)
+            thread = line.split()[0]
+            synced = re.search(rf"fsync\(\d+<{place}(?:/([^>]*))?>", line)
+            named = re.search(r'(rename|link)\w*\((?:AT_FDCWD, )?"(?:[^"]*/)?([^"/]*)", .*\)\s+= 0', line)
             if synced:
-                found.append("sync " + (synced[1] or "."))
-            elif named:
-                found.append("rename " + named[1])
-    drafts = ["book.new"] + [name + ".ack.new" for name in case.files]
-    wanted = [call for draft in drafts for call in ("sync " + draft, "rename " + draft, "sync .")]
-    want(found == wanted, f"the order of the calls: {found}")
-    tell("syncs and renames in their order", len(found))
+                syncing[thread] = "sync " + (synced[1] or ".")
+            if named:
+                yield f"{named[1]} {named[2]}"
+            elif "fsync" in line and line.rstrip().endswith("= 0"):
+                yield syncing[thread]
+
+
+def order_of_calls(program):
+    """The drafts of the acknowledgements are on the disk first, in any order; then the register's draft, its name, and the
+    folder of that; and only then the acknowledgements take their names, and their folder is put on the disk once."""
+    kept = ["sync book.new", "rename book.new", "sync ."]
+    for files, *options in [(2, "--in-turn"), (63, "--in-turn"), (63, "--in-order"), (63,)]:
+        case = a_case(10, files, 8, *options)
+        drafts = [name + ".ack.new" for name in case.files]
+        count = 0
+        for words, register, names in (
+            (case.words, kept, "rename"),
+            (["run", *options, *STAMP, *case.files], [], "rename"),
+            (["run", "--no-clobber", *options, *STAMP, "--to", "book", *case.files], kept, "link"),
+        ):
+            found = list(calls_in_order(program, case, words))
+            want(sorted(found[:files]) == ["sync " + draft for draft in drafts], f"the drafts: {found}")
+            want(found[files:] == register + [f"{names} {draft}" for draft in drafts] + ["sync ."], f"the order of the calls: {found}")
+            count += len(found)
+        tell(" ".join(["syncs and names of files:", str(files), *options]), count)
 
 
 def main(program):

@@ -3,8 +3,9 @@
 
 LIBRARY is `threads.c` as a shared library, EXAMPLES the folder of the sample files. A run of three files must start a
 thread for each, none in turn, and two in order: there up to eight files are read together, each but the last on a thread
-of its own, before anything of them is decided, and acknowledgements as short as these are written without a thread. Where
-the first, the second or the third is refused, and all after it, what it prints, answers and writes must be the same."""
+of its own, before anything of them is decided, and acknowledgements as short as these are written without a thread. Then
+it must start one more, as two of the files are acknowledged, whose drafts are put on the disk beside one another. Where
+the first, the second or another is refused, and all after it, what it prints, answers and writes must be the same."""
 import os
 import struct
 import subprocess
@@ -42,8 +43,8 @@ def run(program, library, examples, options, refused):
 def main(program, library, examples):
     program, library = os.path.abspath(program), os.path.abspath(library)
     acks = {name + ".ack": sample(examples, name + ".ack") for name in ACKNOWLEDGED}
-    cases = [(["--in-turn"], 0, 0)]
-    for options, most in ([], 3), (["--in-order"], 2):
+    cases = []
+    for options, most in (["--in-turn"], 1), ([], 4), (["--in-order"], 3):
         cases += [(options, 0, most)] + [(options, refused, refused - 1) for refused in range(1, most + 1)]
     for options, refused, threads in cases:
         answer, started = run(program, library, examples, options, refused)

@@ -1,5 +1,5 @@
 -- What the calls of a place do to what somebody may find under its names, and to what is told of it.
-use Rattle.std.specs.Prelude.{◌≡◌, ◌⊎◌, ◌↔◌, List, ℕ, Option, None, Some, MatchOption}
+use Rattle.std.specs.Prelude.{◌≡◌, ◌⊎◌, ◌↔◌, List, ℕ, Option, None, Some, MatchOption, IsSomeAnd}
 use Rattle.kept_file.specs.Names.{Names, State}
 
 -- this is there and nothing else
@@ -25,3 +25,7 @@ Becomes change old new = MatchOption old (new ≡ None) (λ s. new ≡ Some (cha
 -- what is told of the place stays or becomes this
 abbrev pub MayBecome : (State → State) → Option State → Option State → Type 0
 MayBecome change old new = MatchOption old (new ≡ None) (λ s. (new ≡ Some s) ⊎ (new ≡ Some (change s)))
+
+-- what is told of the place becomes something that is so to what was told
+abbrev pub BecomesBy : (State → State → Type 0) → Option State → Option State → Type 0
+BecomesBy P old new = MatchOption old (new ≡ None) (λ s. IsSomeAnd new (P s))

@@ -24,6 +24,8 @@ pub record State : Type 0 where
   pub draft : List ℕ
   -- the bytes of each follower's draft
   pub waiting : List (List ℕ)
+  -- which followers' drafts are on the disk
+  pub synced : List Bool
   -- which followers could not be put in place
   pub refused : List Bool
   -- which followers' drafts lie beside their names still
@@ -32,6 +34,7 @@ pub record State : Type 0 where
 -- each follower has a name, a draft, and its answers
 pub record HasEach (s : State) : Type 0 where
   pub names : length s.names.followers ≡ length s.waiting
+  pub synced : length s.synced ≡ length s.waiting
   pub answers : length s.refused ≡ length s.waiting
   pub drafts : length s.beside ≡ length s.waiting
 
@@ -49,6 +52,14 @@ placing s = record s { names = with_file s.draft s.names }
 
 abbrev pub waiting_text : ℕ → State → List ℕ
 waiting_text at s = get_or s.waiting at []
+
+-- that follower could not be put in place
+abbrev pub IsRefused : ℕ → State → Type 0
+IsRefused at s = get_or s.refused at false ≡ true
+
+-- the draft of that follower is on the disk
+abbrev pub IsSynced : ℕ → State → Type 0
+IsSynced at s = get_or s.synced at false ≡ true
 
 -- the draft of that follower has the follower's name
 abbrev pub placing_follower : ℕ → State → State

@@ -3,13 +3,14 @@
 ghost use Rattle.std.specs.Prelude.{◌≡◌, ◌<◌, ◌≤◌, ◌^◌, ◌⊎◌, Some, true, false, length, take, IfOk, IfSome, IfErr, IsErr, OnOk};
 ghost use Rattle.kept_file.specs.Names.{Names, with_file, drafting, placing, HasNoneBeside};
 ghost use Rattle.kept_file.specs.Looking.{Only, Becomes, MayBecome, Stays};
-ghost use Rattle.kept_file.specs.Keeping.{OldOrNew, FileFirst, SinceThen, Leads, MayFollow, AreFollowing};
+ghost use Rattle.kept_file.specs.Keeping.{OldOrNew, FileFirst, SinceThen, Leads, MayFollow, AreFollowing, AreSynced, AreThere};
 
-use crate::following::{drop_followers, put_followers};
+use crate::following::{drop_followers, name_followers};
 use crate::pieces::OnePiece;
 use crate::{CallFailed, NotKept, Pieces, Place};
 
-/// Replaces the file under the name by this text, and then puts each follower in place.
+/// Replaces the file under the name by this text, and then puts each follower in place, whose draft is put on the disk
+/// before.
 ///
 /// At every moment, and after a crash at any moment, whoever looks under the names finds the old file or the whole
 /// text, and a new follower only where the text is. Where the text is not kept, the followers stay as they are, and
@@ -26,6 +27,8 @@ pub fn keep<P: Place>(place: &mut P, text: &[u8]) -> Result<(), NotKept>
     ensures stays { OnOk result (IfSome (P.told place.old) (λ s. (c : Names) → P.may_find place.new c → c.file ≡ Some text.now)) }
     // At `Ok` each follower is in place, or it is told that it is not; else none is, and none of their drafts is left.
     ensures each { OnOk result (Leads (λ s t. AreFollowing (length s.waiting) (record s { names = with_file text.now s.names; draft = text.now }) t) (P.told place.old) (P.told place.new)) }
+    // No crash takes those away that are in place.
+    ensures there { OnOk result (Leads (AreThere (P.may_find place.new)) (P.told place.old) (P.told place.new)) }
     ensures withheld { IsErr result → IfSome (P.told place.old) (λ s. SinceThen (P.found place.old) (P.found place.new) (λ c. c.followers ≡ s.names.followers)) }
     ensures dropped { IsErr result → Leads (λ _ t. HasNoneBeside t) (P.told place.old) (P.told place.new) }
     // Of a text that was not kept, just so many bytes went into the draft. It does not give up by itself.
@@ -54,6 +57,8 @@ pub fn keep_pieces<P: Place, T: Pieces>(place: &mut P, text: &mut T) -> Result<(
     ensures stays { OnOk result (IfSome (P.told place.old) (λ s. (c : Names) → P.may_find place.new c → c.file ≡ Some (T.left text.old))) }
     // At `Ok` each follower is in place, or it is told that it is not; else none is, and none of their drafts is left.
     ensures each { OnOk result (Leads (λ s t. AreFollowing (length s.waiting) (record s { names = with_file (T.left text.old) s.names; draft = T.left text.old }) t) (P.told place.old) (P.told place.new)) }
+    // No crash takes those away that are in place.
+    ensures there { OnOk result (Leads (AreThere (P.may_find place.new)) (P.told place.old) (P.told place.new)) }
     ensures withheld { IsErr result → IfSome (P.told place.old) (λ s. SinceThen (P.found place.old) (P.found place.new) (λ c. c.followers ≡ s.names.followers)) }
     ensures dropped { IsErr result → Leads (λ _ t. HasNoneBeside t) (P.told place.old) (P.told place.new) }
     // Of a text that was not kept, just so many bytes went into the draft. It does not give up by itself.
@@ -61,9 +66,31 @@ pub fn keep_pieces<P: Place, T: Pieces>(place: &mut P, text: &mut T) -> Result<(
     ensures sent { IfErr result (λ e. Leads (λ s t. t.draft ≡ take e.sent (T.left text.old)) (P.told place.old) (P.told place.new)) }
     ensures failed { IsErr result → P.has_failed place.new ≡ true }
 {
+    place.sync_followers();
+    keep_synced(place, text)
+}
+
+/// Keeps a text as [`keep_pieces`] does, where the drafts of the followers are on the disk.
+fn keep_synced<P: Place, T: Pieces>(place: &mut P, text: &mut T) -> Result<(), NotKept>
+    requires works { P.has_failed place.old ≡ false }
+    requires settled { IfSome (P.told place.old) (λ s. Only s.names (P.may_find place.old)) }
+    requires synced { IfSome (P.told place.old) AreSynced }
+    requires short { length (T.left text.old) < 2 ^ 63 }
+    ensures any_moment { IfSome (P.told place.old) (λ s. SinceThen (P.found place.old) (P.found place.new) (FileFirst s.names (T.left text.old))) }
+    ensures whole { IfSome (P.told place.old) (λ s. SinceThen (P.found place.old) (P.found place.new) (λ c. (c ≡ s.names) ⊎ MayFollow s (with_file (T.left text.old) s.names) c)) }
+    ensures kept { OnOk result (Leads (λ s t. t.names.file ≡ Some (T.left text.old)) (P.told place.old) (P.told place.new)) }
+    ensures stays { OnOk result (IfSome (P.told place.old) (λ s. (c : Names) → P.may_find place.new c → c.file ≡ Some (T.left text.old))) }
+    ensures each { OnOk result (Leads (λ s t. AreFollowing (length s.waiting) (record s { names = with_file (T.left text.old) s.names; draft = T.left text.old }) t) (P.told place.old) (P.told place.new)) }
+    ensures there { OnOk result (Leads (AreThere (P.may_find place.new)) (P.told place.old) (P.told place.new)) }
+    ensures withheld { IsErr result → IfSome (P.told place.old) (λ s. SinceThen (P.found place.old) (P.found place.new) (λ c. c.followers ≡ s.names.followers)) }
+    ensures dropped { IsErr result → Leads (λ _ t. HasNoneBeside t) (P.told place.old) (P.told place.new) }
+    ensures few { IfErr result (λ e. e.sent ≤ length (T.left text.old)) }
+    ensures sent { IfErr result (λ e. Leads (λ s t. t.draft ≡ take e.sent (T.left text.old)) (P.told place.old) (P.told place.new)) }
+    ensures failed { IsErr result → P.has_failed place.new ≡ true }
+{
     match replace_pieces(place, text) {
         Ok(()) => {
-            put_followers(place);
+            name_followers(place);
             Ok(())
         }
         Err(stopped) => {
@@ -84,7 +111,7 @@ pub fn replace<P: Place>(place: &mut P, text: &[u8]) -> Result<(), NotKept>
     ensures any_moment { IfSome (P.told place.old) (λ s. SinceThen (P.found place.old) (P.found place.new) (OldOrNew s.names text.now)) }
     ensures after { IfSome (P.told place.old) (λ s. (c : Names) → P.may_find place.new c → OldOrNew s.names text.now c) }
     // At `Ok` the new one is there, and no crash takes it away.
-    ensures kept { OnOk result (Leads (λ s t. t ≡ record s { names = with_file text.now s.names; draft = text.now }) (P.told place.old) (P.told place.new)) }
+    ensures kept { OnOk result (Becomes (λ s. record s { names = with_file text.now s.names; draft = text.now }) (P.told place.old) (P.told place.new)) }
     ensures stays { OnOk result (IfSome (P.told place.old) (λ s. (c : Names) → P.may_find place.new c → c.file ≡ Some text.now)) }
     ensures went_on { OnOk result (P.has_failed place.new ≡ false) }
     // Of a text that was not kept, just so many bytes went into the draft. It does not give up by itself.
@@ -107,7 +134,7 @@ pub fn replace_pieces<P: Place, T: Pieces>(place: &mut P, text: &mut T) -> Resul
     ensures any_moment { IfSome (P.told place.old) (λ s. SinceThen (P.found place.old) (P.found place.new) (OldOrNew s.names (T.left text.old))) }
     ensures after { IfSome (P.told place.old) (λ s. (c : Names) → P.may_find place.new c → OldOrNew s.names (T.left text.old) c) }
     // At `Ok` the new one is there, and no crash takes it away.
-    ensures kept { OnOk result (Leads (λ s t. t ≡ record s { names = with_file (T.left text.old) s.names; draft = T.left text.old }) (P.told place.old) (P.told place.new)) }
+    ensures kept { OnOk result (Becomes (λ s. record s { names = with_file (T.left text.old) s.names; draft = T.left text.old }) (P.told place.old) (P.told place.new)) }
     ensures stays { OnOk result (IfSome (P.told place.old) (λ s. (c : Names) → P.may_find place.new c → c.file ≡ Some (T.left text.old))) }
     ensures went_on { OnOk result (P.has_failed place.new ≡ false) }
     // Of a text that was not kept, just so many bytes went into the draft. It does not give up by itself.

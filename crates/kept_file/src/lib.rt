@@ -25,4 +25,4 @@ pub use memory::{MemoryFile, MemoryPlace};
 pub use names::FileNames;
 pub use pieces::Pieces;
 pub use place::Place;
-pub use system::{Follower, SystemPlace};
+pub use system::{Follower, SystemPlace, sync_drafts};

@@ -3,7 +3,7 @@ ghost use Rattle.std.specs.List.{list_any};
 ghost use Rattle.kept_file.specs.Names.{Names, State, with_file};
 ghost use Rattle.kept_file.specs.Looking.{Only};
 ghost use Rattle.kept_file.specs.Keeping.{follower};
-ghost use Rattle.kept_file.specs.Memory.{lying, lies, draft_of, has_drafts, names_of, state_of, may_be, had_been};
+ghost use Rattle.kept_file.specs.Memory.{lying, lies, draft_of, has_drafts, names_of, state_of, may_be, had_been, AllSettled, Changes, placing_slot, syncing_slot, settling_slot, undoing_slot, refusing_slot, dropping_slot};
 
 use crate::{CallFailed, Place};
 use std::alloc::{Allocator, Global};
@@ -18,8 +18,12 @@ pub struct MemoryFile<A: Allocator = Global> {
     /// The bytes of the draft, also after it has the name, and after it was taken away.
     draft: Vec<u8, A>,
     has_draft: bool,
+    /// Whether the draft is on the disk.
+    is_synced: bool,
     /// Whether the draft has the name.
     is_placed: bool,
+    /// Whether what lies under the name is on the disk.
+    is_settled: bool,
     /// Whether the draft could not be put in place.
     is_refused: bool,
 }
@@ -31,12 +35,16 @@ impl<A: Allocator> MemoryFile<A> {
         ensures draft { draft_of result ≡ draft.items }
         ensures waits { result.is_refused ≡ false }
         ensures beside { result.has_draft ≡ true }
+        ensures not_synced { result.is_synced ≡ false }
+        ensures settled { result.is_settled ≡ true }
     {
         MemoryFile {
             earlier: file,
             draft,
             has_draft: true,
+            is_synced: false,
             is_placed: false,
+            is_settled: true,
             is_refused: false,
         }
     }
@@ -60,6 +68,7 @@ impl<A: Allocator> MemoryFile<A> {
         ensures kept { lying self.new.earlier ≡ lies self.old }
         ensures draft { self.new.draft.items ≡ [] }
         ensures free { self.new.is_placed ≡ false }
+        ensures unsynced { self.new.is_synced ≡ false }
     {
         let draft = mem::replace(&mut self.draft, Vec::new(alloc));
         if self.is_placed {
@@ -67,6 +76,28 @@ impl<A: Allocator> MemoryFile<A> {
             self.is_placed = false;
         }
         self.has_draft = true;
+        self.is_synced = false;
+    }
+
+    /// Gives the draft the name.
+    fn place(&mut self)
+        ensures { self.new ≡ placing_slot self.old }
+    {
+        if !self.is_placed {
+            self.is_placed = true;
+            self.is_settled = false;
+        }
+        self.has_draft = false;
+    }
+
+    /// Undoes the name, unless it is on the disk.
+    fn undo(&mut self)
+        ensures { self.new ≡ undoing_slot self.old }
+    {
+        if !self.is_settled {
+            self.is_placed = false;
+            self.is_settled = true;
+        }
     }
 }
 
@@ -87,47 +118,45 @@ fn has_any_draft<A: Allocator>(slots: &[MemoryFile<A>]) -> bool
 struct Shelf<A: Allocator> {
     file: MemoryFile<A>,
     followers: Vec<MemoryFile<A>, A>,
-    /// Whether the file's name is on the disk.
-    is_settled: bool,
 }
 
 impl<A: Allocator> Shelf<A> {
-    /// Gives the draft of the file its name.
-    fn place_file(&mut self)
-        ensures names { names_of self.new ≡ with_file self.old.file.draft.items (names_of self.old) }
-        ensures now { (c : Names) → may_be self.new c → may_be self.old c ⊎ (c ≡ with_file self.old.file.draft.items (names_of self.old)) }
-        ensures draft { self.new.file.draft ≡ self.old.file.draft }
-        ensures followers { self.new.followers ≡ self.old.followers }
-    {
-        if !self.file.is_placed {
-            self.file.is_placed = true;
-            self.is_settled = false;
-        }
-        self.file.has_draft = false;
-    }
-
     /// Gives the draft of a follower its name.
     fn place_follower(&mut self, at: usize)
         requires { at < length self.old.followers.items }
-        ensures names { map lies self.new.followers.items ≡ slice_set (map lies self.old.followers.items) at (Some (get_or (map draft_of self.old.followers.items) at [])) }
-        ensures drafts { map draft_of self.new.followers.items ≡ map draft_of self.old.followers.items }
-        ensures refused { map (λ follower. follower.is_refused) self.new.followers.items ≡ map (λ follower. follower.is_refused) self.old.followers.items }
-        ensures beside { map (λ follower. follower.has_draft) self.new.followers.items ≡ slice_set (map (λ follower. follower.has_draft) self.old.followers.items) at false }
-        ensures same { self.new ≡ record self.old { followers = self.new.followers } }
+        ensures { Changes placing_slot at self.old self.new }
     {
-        let slot = &mut self.followers[at];
-        slot.is_placed = true;
-        slot.has_draft = false;
+        self.followers[at].place();
+    }
+
+    /// Puts the draft of a follower on the disk.
+    fn sync_follower(&mut self, at: usize)
+        requires { at < length self.old.followers.items }
+        ensures { Changes syncing_slot at self.old self.new }
+    {
+        self.followers[at].is_synced = true;
+    }
+
+    /// Puts the name of a follower on the disk.
+    fn settle_follower(&mut self, at: usize)
+        requires { at < length self.old.followers.items }
+        ensures { Changes settling_slot at self.old self.new }
+    {
+        self.followers[at].is_settled = true;
+    }
+
+    /// Undoes the name of a follower, unless it is on the disk.
+    fn undo_follower(&mut self, at: usize)
+        requires { at < length self.old.followers.items }
+        ensures { Changes undoing_slot at self.old self.new }
+    {
+        self.followers[at].undo();
     }
 
     /// Keeps in mind that the draft of a follower could not be put in place.
     fn refuse_follower(&mut self, at: usize)
         requires { at < length self.old.followers.items }
-        ensures names { map lies self.new.followers.items ≡ map lies self.old.followers.items }
-        ensures drafts { map draft_of self.new.followers.items ≡ map draft_of self.old.followers.items }
-        ensures refused { map (λ follower. follower.is_refused) self.new.followers.items ≡ slice_set (map (λ follower. follower.is_refused) self.old.followers.items) at true }
-        ensures beside { map (λ follower. follower.has_draft) self.new.followers.items ≡ map (λ follower. follower.has_draft) self.old.followers.items }
-        ensures same { self.new ≡ record self.old { followers = self.new.followers } }
+        ensures { Changes refusing_slot at self.old self.new }
     {
         self.followers[at].is_refused = true;
     }
@@ -135,13 +164,20 @@ impl<A: Allocator> Shelf<A> {
     /// Takes the draft of a follower away.
     fn drop_follower(&mut self, at: usize)
         requires { at < length self.old.followers.items }
-        ensures names { map lies self.new.followers.items ≡ map lies self.old.followers.items }
-        ensures drafts { map draft_of self.new.followers.items ≡ map draft_of self.old.followers.items }
-        ensures refused { map (λ follower. follower.is_refused) self.new.followers.items ≡ map (λ follower. follower.is_refused) self.old.followers.items }
-        ensures beside { map (λ follower. follower.has_draft) self.new.followers.items ≡ slice_set (map (λ follower. follower.has_draft) self.old.followers.items) at false }
-        ensures same { self.new ≡ record self.old { followers = self.new.followers } }
+        ensures { Changes dropping_slot at self.old self.new }
     {
         self.followers[at].has_draft = false;
+    }
+
+    /// All that lies there is there to stay.
+    fn settle(&mut self)
+        ensures all { AllSettled self.new }
+        ensures told { state_of self.new ≡ state_of self.old }
+    {
+        self.file.is_settled = true;
+        for at in 0..self.followers.len() {
+            self.settle_follower(at);
+        }
     }
 }
 
@@ -159,8 +195,6 @@ enum Past<A: Allocator> {
 pub struct MemoryPlace<A: Allocator + Copy = Global> {
     alloc: A,
     shelf: Shelf<A>,
-    /// Whether the draft is on the disk.
-    is_synced: bool,
     /// How many bytes a write takes at most.
     piece: usize,
     /// How many calls succeed before one fails.
@@ -183,6 +217,7 @@ impl<A: Allocator + Copy> MemoryPlace<A> {
           names = record { file = lying file; followers = map lies followers.items };
           draft = [];
           waiting = map draft_of followers.items;
+          synced = map (λ follower. follower.is_synced) followers.items;
           refused = map (λ follower. follower.is_refused) followers.items;
           beside = map (λ follower. follower.has_draft) followers.items;
         }) }
@@ -192,14 +227,11 @@ impl<A: Allocator + Copy> MemoryPlace<A> {
     {
         let mut file = MemoryFile::new(file, Vec::new(alloc));
         file.has_draft = false;
+        let mut shelf = Shelf { file, followers };
+        shelf.settle();
         MemoryPlace {
             alloc,
-            shelf: Shelf {
-                file,
-                followers,
-                is_settled: true,
-            },
-            is_synced: false,
+            shelf,
             piece,
             good_calls,
             failed: false,
@@ -207,16 +239,20 @@ impl<A: Allocator + Copy> MemoryPlace<A> {
         }
     }
 
-    /// What a crash leaves: a name that is not on the disk is undone.
-    pub fn crash(&mut self)
+    /// What a crash leaves: a name that is not on the disk is undone, but that of a follower of which `stayed` says that the
+    /// disk had it all the same.
+    pub fn crash(&mut self, stayed: &[bool])
         ensures fails { ⟦<MemoryPlace<A> as Place>⟧.has_failed self.new ≡ ⟦<MemoryPlace<A> as Place>⟧.has_failed self.old }
         ensures left { IfSome (⟦<MemoryPlace<A> as Place>⟧.told self.new) (λ s. ⟦<MemoryPlace<A> as Place>⟧.may_find self.old s.names) }
         ensures stays { IfSome (⟦<MemoryPlace<A> as Place>⟧.told self.new) (λ s. Only s.names (⟦<MemoryPlace<A> as Place>⟧.may_find self.new)) }
     {
         self.remember();
-        if !self.shelf.is_settled {
-            self.shelf.file.is_placed = false;
-            self.shelf.is_settled = true;
+        self.shelf.file.undo();
+        for at in 0..self.shelf.followers.len() {
+            match stayed.get(at) {
+                Some(true) => self.shelf.settle_follower(at),
+                Some(false) | None => self.shelf.undo_follower(at),
+            }
         }
     }
 
@@ -285,20 +321,19 @@ impl<A: Allocator + Copy> Place for MemoryPlace<A> {
     ghost found = { λ m c. may_be m.shelf c ⊎ had_been m.past c };
 
     // A draft that was not synced may be anything.
-    ghost may_have = { λ m text. m.is_synced ≡ true → text ≡ m.shelf.file.draft.items };
+    ghost may_have = { λ m text. m.shelf.file.is_synced ≡ true → text ≡ m.shelf.file.draft.items };
 
     ghost has_failed = { λ m. m.failed };
 
     fn begin_draft(&mut self) -> Result<(), CallFailed> {
         self.remember();
-        self.is_synced = false;
         self.shelf.file.begin(self.alloc);
         self.try_call()
     }
 
     fn write_some(&mut self, bytes: &[u8]) -> Result<usize, CallFailed> {
         self.remember();
-        self.is_synced = false;
+        self.shelf.file.is_synced = false;
         let n = bytes.len().min(self.piece);
         if self.fails()
             || self.shelf.file.is_placed
@@ -319,21 +354,21 @@ impl<A: Allocator + Copy> Place for MemoryPlace<A> {
     fn sync_draft(&mut self) -> Result<(), CallFailed> {
         self.remember();
         self.try_call()?;
-        self.is_synced = true;
+        self.shelf.file.is_synced = true;
         Ok(())
     }
 
     fn put_in_place(&mut self) -> Result<(), CallFailed> {
         self.remember();
         self.try_call()?;
-        self.shelf.place_file();
+        self.shelf.file.place();
         Ok(())
     }
 
     fn sync_name(&mut self) -> Result<(), CallFailed> {
         self.remember();
         self.try_call()?;
-        self.shelf.is_settled = true;
+        self.shelf.file.is_settled = true;
         Ok(())
     }
 
@@ -353,6 +388,17 @@ impl<A: Allocator + Copy> Place for MemoryPlace<A> {
         }
     }
 
+    fn sync_followers(&mut self) {
+        self.remember();
+        for at in 0..self.shelf.followers.len() {
+            if self.fails() {
+                self.shelf.refuse_follower(at);
+            } else {
+                self.shelf.sync_follower(at);
+            }
+        }
+    }
+
     fn put_follower(&mut self, at: usize) -> Result<(), CallFailed> {
         self.remember();
         let fails = self.fails();
@@ -365,6 +411,18 @@ impl<A: Allocator + Copy> Place for MemoryPlace<A> {
         }
         self.shelf.place_follower(at);
         Ok(())
+    }
+
+    /// Each follower is in a folder of its own.
+    fn sync_follower_names(&mut self) {
+        self.remember();
+        for at in 0..self.shelf.followers.len() {
+            if self.fails() {
+                self.shelf.refuse_follower(at);
+            } else {
+                self.shelf.settle_follower(at);
+            }
+        }
     }
 
     fn drop_follower(&mut self, at: usize) {

@@ -1,7 +1,8 @@
-ghost use Rattle.std.specs.Prelude.{◌≡◌, ◌≤◌, ◌⊎◌, ℕ, Bool, List, Option, Some, false, is_err, length, take, get_or, IfSome, IfOk, OnOk, OnErr};
+ghost use Rattle.std.specs.Prelude.{◌≡◌, ◌≤◌, ℕ, Bool, List, Option, false, is_err, length, take, get_or, IfSome, IfOk, OnOk, OnErr};
 ghost use Rattle.byte_streams.specs.Bytes.{stalls};
-ghost use Rattle.kept_file.specs.Names.{Names, State, HasEach, with_file, with_follower, waiting_text, beginning, drafting, placing, placing_follower, refusing_follower, dropping_follower};
-ghost use Rattle.kept_file.specs.Looking.{Only, GoesOn, Stays, Renames, Becomes, MayBecome};
+ghost use Rattle.kept_file.specs.Names.{Names, State, HasEach, with_file, with_follower, waiting_text, beginning, drafting, placing, placing_follower, refusing_follower, dropping_follower, IsSynced};
+ghost use Rattle.kept_file.specs.Looking.{Only, GoesOn, Stays, Renames, Becomes, BecomesBy, MayBecome};
+ghost use Rattle.kept_file.specs.Keeping.{HaveSynced, MayRefuse, AreSettled};
 
 use crate::CallFailed;
 
@@ -9,7 +10,8 @@ use crate::CallFailed;
 /// a name too, and a draft that is written.
 ///
 /// A draft takes its name at once: whoever looks there finds the old file or the whole draft. What a crash leaves is
-/// on the disk only once it was synced. Once a call failed that speaks of the file or its draft, the place has failed,
+/// on the disk only once it was synced: the drafts and the names of the followers are synced together, since each wait
+/// for the disk is long, and many waits beside one another are hardly longer than one. Once a call failed that speaks of the file or its draft, the place has failed,
 /// and its draft can only be dropped.
 pub trait Place {
     // What lies under the names, and in the drafts, where the type tells it.
@@ -90,17 +92,31 @@ pub trait Place {
     fn is_refused(&self, at: usize) -> bool
         ensures { IfSome (told self.now) (λ s. result ≡ get_or s.refused at false) };
 
-    /// Puts the draft of a follower on the disk, gives it the follower's name, and puts the name on the disk.
+    /// Puts the drafts of all followers on the disk. A follower whose draft cannot be put there is refused.
+    fn sync_followers(&mut self)
+        ensures fails { has_failed self.new ≡ has_failed self.old }
+        ensures told { BecomesBy HaveSynced (told self.old) (told self.new) }
+        ensures now { Stays (may_find self.old) (may_find self.new) }
+        ensures time { GoesOn (found self.old) (found self.new) (may_find self.new) };
+
+    /// Gives the draft of a follower the follower's name. Until the names are on the disk, a crash may undo it.
     ///
-    /// A follower that could not be put in place is refused. It has its name all the same where only the last of the
-    /// three failed.
+    /// A follower whose draft could not take the name is refused.
     fn put_follower(&mut self, at: usize) -> Result<(), CallFailed>
         ensures fails { has_failed self.new ≡ has_failed self.old }
         ensures placed { OnOk result (Becomes (placing_follower at) (told self.old) (told self.new)) }
-        ensures refused { OnErr result (IfSome (told self.old) (λ s.
-            (told self.new ≡ Some (refusing_follower at s))
-            ⊎ (told self.new ≡ Some (refusing_follower at (placing_follower at s))))) }
-        ensures now { IfSome (told self.old) (λ s. Renames (with_follower at) (may_find self.old) (λ text. text ≡ waiting_text at s) (may_find self.new)) }
+        ensures refused { OnErr result (Becomes (refusing_follower at) (told self.old) (told self.new)) }
+        // A draft that is not on the disk may be anything after a crash.
+        ensures now { IfSome (told self.old) (λ s. Renames (with_follower at) (may_find self.old) (λ text. IsSynced at s → text ≡ waiting_text at s) (may_find self.new)) }
+        ensures time { GoesOn (found self.old) (found self.new) (may_find self.new) };
+
+    /// Puts the names of all followers on the disk. A follower whose name cannot be put there is refused; it has its name
+    /// all the same, until a crash may undo it.
+    fn sync_follower_names(&mut self)
+        ensures fails { has_failed self.new ≡ has_failed self.old }
+        ensures told { BecomesBy MayRefuse (told self.old) (told self.new) }
+        ensures durable { IfSome (told self.new) (AreSettled (may_find self.new)) }
+        ensures now { Stays (may_find self.old) (may_find self.new) }
         ensures time { GoesOn (found self.old) (found self.new) (may_find self.new) };
 
     /// Takes the draft of a follower away, where there is one and it can be taken away.

@@ -7,7 +7,12 @@ use crate::{CallFailed, FileNames, Listener, Place};
 use std::fs::OpenFile;
 use std::io::{ErrorKind, Write};
 use std::rt::Files;
+use std::sync::atomic::{AtomicBool, Ordering};
+use std::thread::{Threads, for_each_mut, join};
 use std::{fs, io};
+
+/// How many threads wait for the disk at a time, at most.
+const MOST_THREADS: usize = 16;
 
 /// A file that follows: its draft is written already.
 #[derive(Debug, Drop)]
@@ -15,23 +20,146 @@ pub struct Follower<'a> {
     names: &'a FileNames,
     /// Whether it takes the place of a file that is there.
     replaces: bool,
-    refused: bool,
+    stage: Stage,
+    /// Why it could not be put in place, until that is told.
+    trouble: Option<io::Error>,
+}
+
+/// How far a follower has come.
+#[derive(Clone, Copy, Debug, PartialEq, Eq)]
+enum Stage {
+    /// Its draft is written.
+    Written,
+    /// Its draft is on the disk.
+    Synced,
+    /// Its draft has its name.
+    Named,
+    /// Its name is on the disk; or it is no regular file, and was written itself.
+    InPlace,
+    /// It could not be put in place.
+    Refused,
 }
 
 impl<'a> Follower<'a> {
     /// The follower of these names. Where it `replaces` none, it is refused where a file is there by then.
     pub fn new(names: &'a FileNames, replaces: bool) -> Follower<'a>
-        ensures { result ≡ record { names = names.entry; replaces = replaces; refused = false } }
+        ensures { result ≡ record { names = names.entry; replaces = replaces; stage = Stage.Written; trouble = None } }
     {
         Follower {
             names,
             replaces,
-            refused: false,
+            stage: Stage::Written,
+            trouble: None,
+        }
+    }
+
+    /// Puts the draft on the disk, unless it is there. What is no regular file has none.
+    fn sync_draft<R: Files>(&mut self, rt: &R) {
+        if self.stage != Stage::Written {
+            return;
+        }
+        if takes_draft(rt, self.names) {
+            let synced = draft_on_disk(rt, self.names);
+            self.goes_on(synced, Stage::Synced);
+        } else {
+            self.stage = Stage::InPlace;
+        }
+    }
+
+    /// Gives the draft its name, where it is on the disk.
+    fn take_name<R: Files>(&mut self, rt: &R) {
+        let named = match self.stage {
+            Stage::Synced => draft_named(rt, self.names, self.replaces),
+            Stage::Written => Err(io::Error::from(ErrorKind::NotFound)),
+            Stage::Named | Stage::InPlace | Stage::Refused => return,
+        };
+        self.goes_on(named, Stage::Named);
+    }
+
+    /// Goes on to a stage, or is refused.
+    fn goes_on(&mut self, done: io::Result<()>, stage: Stage) {
+        match done {
+            Ok(()) => self.stage = stage,
+            Err(error) => {
+                self.stage = Stage::Refused;
+                self.trouble = Some(error);
+            }
         }
     }
 }
 
+/// Puts the drafts of followers on the disk, up to sixteen beside one another, on threads.
+///
+/// So they wait for the disk together, before a place takes them. Where the first of them are on the disk before a thread
+/// has started, as in memory, the rest are put there one after another: more threads would take longer. Where the runtime
+/// refuses a thread, its part is done on another. A follower whose draft cannot be put on the disk is refused; its place
+/// tells why.
+pub fn sync_drafts<R: Files + Threads + Sync>(rt: &R, followers: &mut [Follower<'_>])
+where
+    R::File: Send,
+    R::Dir: Send,
+{
+    let part = followers.len().div_ceil(MOST_THREADS);
+    if part < followers.len() {
+        let is_done = AtomicBool::new(false);
+        let (own, others) = followers.split_at_mut(part);
+        join(
+            rt,
+            || sync_beside(rt, &is_done, others),
+            || {
+                sync_each(rt, own);
+                is_done.store(true, Ordering::SeqCst);
+            },
+        );
+    }
+    sync_each(rt, followers);
+}
+
+/// Puts drafts on the disk beside one another, unless others are done already.
+fn sync_beside<R: Files + Threads + Sync>(
+    rt: &R,
+    is_done: &AtomicBool,
+    followers: &mut [Follower<'_>],
+)
+where
+    R::File: Send,
+    R::Dir: Send,
+{
+    if !is_done.load(Ordering::SeqCst) {
+        for_each_mut(
+            rt,
+            followers,
+            MOST_THREADS - 1,
+            &|_, follower| { follower.sync_draft(rt) },
+        );
+    }
+}
+
+/// Puts drafts that are not on the disk there, one after another.
+fn sync_each<R: Files>(rt: &R, followers: &mut [Follower<'_>]) {
+    for at in 0..followers.len() {
+        followers[at].sync_draft(rt);
+    }
+}
+
+/// Puts a draft that is written on the disk.
+fn draft_on_disk<R: Files>(rt: &R, names: &FileNames) -> io::Result<()> {
+    fs::open(rt, names.draft())?.sync_all()
+}
+
+/// Gives a draft its name, in place of a file that is there or of none.
+fn draft_named<R: Files>(rt: &R, names: &FileNames, replaces: bool) -> io::Result<()> {
+    if replaces {
+        name_draft(rt, names)
+    } else {
+        name_new_draft(rt, names)
+    }
+}
+
 /// A place in the file system. It tells no bytes.
+///
+/// Each folder in which followers took their names is put on the disk once. Drafts that are not on the disk, as
+/// [`sync_drafts`] puts them there, are put there one after another.
 ///
 /// A file that is no regular one, as a device or a pipe, has no draft: what is written for it goes into it.
 #[derive(Drop)]
@@ -124,26 +252,47 @@ impl<'a, R: Files, L: Listener + Drop> SystemPlace<'a, R, L> {
         Ok(())
     }
 
-    /// Puts a file that follows in place.
-    fn try_follower(&self, names: &FileNames, replaces: bool) -> io::Result<()> {
-        if !takes_draft(self.rt, names) {
-            return Ok(());
-        }
-        fs::open(self.rt, names.draft())?.sync_all()?;
-        if replaces {
-            name_draft(self.rt, names)?;
-        } else {
-            name_new_draft(self.rt, names)?;
-        }
-        sync_directory(self.rt, names.directory())
-    }
-
-    /// Keeps in mind that a follower could not be put in place.
-    fn refuse(&mut self, at: usize)
+    /// Puts the draft of a follower on the disk.
+    fn sync_follower(&mut self, at: usize)
         ensures { self.new.failed ≡ self.old.failed }
     {
         if let Some(follower) = self.followers.get_mut(at) {
-            follower.refused = true;
+            follower.sync_draft(self.rt);
+        }
+        self.tell_trouble(at);
+    }
+
+    /// Puts the folder of a follower on the disk, where that has a name which is not there, and with it the names of all
+    /// that took theirs in this folder.
+    fn sync_folder_of(&mut self, at: usize)
+        ensures { self.new.failed ≡ self.old.failed }
+    {
+        let directory = match self.followers.get(at) {
+            Some(follower) if follower.stage == Stage::Named => follower.names.directory(),
+            Some(_) | None => return,
+        };
+        let synced = sync_directory(self.rt, directory);
+        for follower in &mut self.followers {
+            if follower.stage == Stage::Named && follower.names.directory() == directory {
+                match &synced {
+                    Ok(()) => follower.stage = Stage::InPlace,
+                    Err(error) => {
+                        follower.stage = Stage::Refused;
+                        self.listener.failed(follower.names, error);
+                    }
+                }
+            }
+        }
+    }
+
+    /// Tells why a follower could not be put in place, where that was not told.
+    fn tell_trouble(&mut self, at: usize)
+        ensures { self.new.failed ≡ self.old.failed }
+    {
+        if let Some(follower) = self.followers.get_mut(at) {
+            if let Some(error) = follower.trouble.take() {
+                self.listener.failed(follower.names, &error);
+            }
         }
     }
 
@@ -232,23 +381,32 @@ impl<R: Files, L: Listener + Drop> Place for SystemPlace<'_, R, L> {
 
     fn is_refused(&self, at: usize) -> bool {
         match self.followers.get(at) {
-            Some(follower) => follower.refused,
+            Some(follower) => follower.stage == Stage::Refused,
             None => false,
         }
     }
 
+    fn sync_followers(&mut self) {
+        for at in 0..self.followers.len() {
+            self.sync_follower(at);
+        }
+    }
+
     fn put_follower(&mut self, at: usize) -> Result<(), CallFailed> {
-        let (names, replaces) = match self.followers.get(at) {
-            Some(follower) => (follower.names, follower.replaces),
-            None => return Err(CallFailed),
-        };
-        match self.try_follower(names, replaces) {
-            Ok(()) => Ok(()),
-            Err(error) => {
-                self.listener.failed(names, &error);
-                self.refuse(at);
-                Err(CallFailed)
-            }
+        if let Some(follower) = self.followers.get_mut(at) {
+            follower.take_name(self.rt);
+        }
+        self.tell_trouble(at);
+        if self.is_refused(at) {
+            Err(CallFailed)
+        } else {
+            Ok(())
+        }
+    }
+
+    fn sync_follower_names(&mut self) {
+        for at in 0..self.followers.len() {
+            self.sync_folder_of(at);
         }
     }
 

@@ -1,9 +1,10 @@
-//! What a crash leaves between the calls, of a draft without bytes.
+//! What a crash leaves between the calls, of a draft without bytes, and of followers.
 
 ghost use Rattle.std.specs.Prelude.{◌≡◌, false};
 
 use crate::places::{AS_IT_WAS, Lies, expect, place};
 use kept_file::{MemoryPlace, Place};
+use std::alloc::Global;
 use std::test::Fail;
 
 /// The draft has the name.
@@ -23,7 +24,7 @@ const DRAFTED: Lies<'static> = Lies {
 fn expect_left(place: &mut MemoryPlace, wanted: &Lies<'_>) -> Result<(), Fail>
     ensures { ⟦<MemoryPlace as Place>⟧.has_failed place.new ≡ ⟦<MemoryPlace as Place>⟧.has_failed place.old }
 {
-    place.crash();
+    place.crash(&[]);
     expect(place, wanted)
 }
 
@@ -98,4 +99,128 @@ fn expect_dropped(place: &mut MemoryPlace) -> Result<(), Fail>
 fn a_draft_after_another(rt: HostRuntime) -> Result<(), Fail> {
     let mut place = place(rt.alloc(), None)?;
     expect_dropped(&mut place)
+}
+
+/// The followers of a place that is kept so far have taken these names, with so many calls; a crash, of which the disk
+/// had some names all the same, leaves this.
+struct Crash {
+    calls: usize,
+    stayed: [bool; 2],
+    followers: [Option<&'static [u8]>; 2],
+    has_drafts: bool,
+}
+
+const FIRST: Option<&[u8]> = Some(b"ACK 1");
+
+const SECOND: Option<&[u8]> = Some(b"ACK 2");
+
+const OLD: Option<&[u8]> = Some(b"ACK 0");
+
+/// The calls are: the drafts are put on the disk, the first follower takes its name, the second does, and the names are
+/// put on the disk.
+const CRASHES: [Crash; 11] = [
+    Crash {
+        calls: 0,
+        stayed: [true, true],
+        followers: [None, OLD],
+        has_drafts: true,
+    },
+    Crash {
+        calls: 1,
+        stayed: [true, true],
+        followers: [None, OLD],
+        has_drafts: true,
+    },
+    Crash {
+        calls: 2,
+        stayed: [false, false],
+        followers: [None, OLD],
+        has_drafts: true,
+    },
+    Crash {
+        calls: 2,
+        stayed: [false, true],
+        followers: [None, OLD],
+        has_drafts: true,
+    },
+    Crash {
+        calls: 2,
+        stayed: [true, false],
+        followers: [FIRST, OLD],
+        has_drafts: true,
+    },
+    Crash {
+        calls: 3,
+        stayed: [false, false],
+        followers: [None, OLD],
+        has_drafts: false,
+    },
+    Crash {
+        calls: 3,
+        stayed: [false, true],
+        followers: [None, SECOND],
+        has_drafts: false,
+    },
+    Crash {
+        calls: 3,
+        stayed: [true, false],
+        followers: [FIRST, OLD],
+        has_drafts: false,
+    },
+    Crash {
+        calls: 3,
+        stayed: [true, true],
+        followers: [FIRST, SECOND],
+        has_drafts: false,
+    },
+    Crash {
+        calls: 4,
+        stayed: [false, false],
+        followers: [FIRST, SECOND],
+        has_drafts: false,
+    },
+    Crash {
+        calls: 4,
+        stayed: [true, false],
+        followers: [FIRST, SECOND],
+        has_drafts: false,
+    },
+];
+
+/// Makes the first so many of the four calls.
+fn make_calls(place: &mut MemoryPlace, calls: usize) -> Result<(), Fail> {
+    if calls > 0 {
+        place.sync_followers();
+    }
+    if calls > 1 {
+        place.put_follower(0)?;
+    }
+    if calls > 2 {
+        place.put_follower(1)?;
+    }
+    if calls > 3 {
+        place.sync_follower_names();
+    }
+    Ok(())
+}
+
+/// After these calls a crash leaves this.
+fn expect_crash(alloc: Global, crash: &Crash) -> Result<(), Fail> {
+    let mut place = place(alloc, None)?;
+    make_calls(&mut place, crash.calls)?;
+    place.crash(&crash.stayed);
+    let wanted = Lies {
+        followers: crash.followers,
+        has_drafts: crash.has_drafts,
+        ..AS_IT_WAS
+    };
+    expect(&place, &wanted)
+}
+
+#[test]
+fn followers_between_their_calls(rt: HostRuntime) -> Result<(), Fail> {
+    for crash in &CRASHES {
+        expect_crash(rt.alloc(), crash)?;
+    }
+    Ok(())
 }

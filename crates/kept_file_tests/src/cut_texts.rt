@@ -59,16 +59,16 @@ fn expect_kept(
         &(size, answer),
     )?;
     expect(&place, now)?;
-    place.crash();
+    place.crash(&[]);
     expect(&place, left)
 }
 
-/// Where a write fails, the bytes of those before it are in the draft. The writes begin after the first call.
+/// Where a write fails, the bytes of those before it are in the draft. The writes begin after three calls.
 fn expect_cut_short(alloc: Global, size: usize, writes: &[u64]) -> Result<(), Fail> {
     let mut sent = 0;
     for (before, bytes) in writes.iter().enumerate() {
         let answer = Err(NotKept { sent });
-        let good_calls = Some(1 + before as u64);
+        let good_calls = Some(3 + before as u64);
         expect_kept(alloc, size, good_calls, answer, &AS_IT_WAS, &AS_IT_WAS)?;
         sent = sent.saturating_add(*bytes);
     }
@@ -82,9 +82,9 @@ fn expect_each_failure(alloc: Global, size: usize, writes: &[u64]) -> Result<(),
         file: Some(TEXT),
         ..AS_IT_WAS
     };
-    let end = 1 + writes.len() as u64;
+    let end = 3 + writes.len() as u64;
     let not_begun = Err(NotKept { sent: 0 });
-    expect_kept(alloc, size, Some(0), not_begun, &AS_IT_WAS, &AS_IT_WAS)?;
+    expect_kept(alloc, size, Some(2), not_begun, &AS_IT_WAS, &AS_IT_WAS)?;
     expect_cut_short(alloc, size, writes)?;
     expect_kept(alloc, size, Some(end), stopped, &AS_IT_WAS, &AS_IT_WAS)?;
     expect_kept(alloc, size, Some(end + 1), stopped, &AS_IT_WAS, &AS_IT_WAS)?;

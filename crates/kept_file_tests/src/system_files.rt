@@ -3,11 +3,13 @@
 use cwr_sheets::{same, same_bytes};
 use kept_file::{
     Deaf, Exclusive, FileNames, Follower, NotKept, Place, SystemPlace, keep, lock, put_followers,
+    sync_drafts,
 };
 use std::fs::{self, Permissions};
 use std::os::unix::fs::{PermissionsExt, symlink};
 use std::rt::Files;
 use std::test::Fail;
+use std::thread::Threads;
 
 const OLD: &[u8] = b"OLD";
 
@@ -182,6 +184,74 @@ fn followers_in_place_of_files_or_of_none(rt: HostRuntime) -> Result<(), Fail> {
     expect_alone(&rt, "follows_alone", NEW)?;
     fs::remove_file(&rt, "is_there.new")?;
     expect_alone(&rt, "is_there", OLD)
+}
+
+/// Writes the drafts of forty followers, in two folders by turns, but for the draft of one.
+fn forty<R: AllocGlobal + Files>(rt: &R, without: usize) -> Result<Vec<FileNames>, Fail> {
+    let mut all = Vec::new(rt.alloc());
+    for at in 0..40 {
+        let folder = if at % 2 == 0 { "even" } else { "odd" };
+        let word = format!(in rt.alloc(); "{folder}/{at}")?;
+        let names = FileNames::of_word(rt, word.as_str())?;
+        if at != without {
+            fs::write(rt, names.draft(), word.as_bytes())?;
+        }
+        all.push(names)?;
+    }
+    Ok(all)
+}
+
+/// Puts followers in place whose drafts are put on the disk on threads, and answers which of them is refused, if one is.
+fn refused_one<R: AllocGlobal + Files + Threads + Sync>(
+    rt: &R,
+    all: &[FileNames],
+) -> Result<Option<usize>, Fail>
+where
+    R::File: Send,
+    R::Dir: Send,
+{
+    let mut followers = Vec::new(rt.alloc());
+    for names in all {
+        followers.push(Follower::new(names, true))?;
+    }
+    sync_drafts(rt, &mut followers);
+    let mut place = SystemPlace::new(rt, None, followers, Deaf);
+    put_followers(&mut place);
+    Ok((0..all.len()).find(|at| place.is_refused(*at)))
+}
+
+/// Each of these but one has its text under its name, and no draft.
+fn expect_all_but<R: AllocGlobal + Files>(
+    rt: &R,
+    all: &[FileNames],
+    without: usize,
+) -> Result<(), Fail> {
+    for (at, names) in all.iter().enumerate() {
+        if at == without {
+            same("a file", &fs::exists(rt, names.name())?, &false)?;
+        } else {
+            expect_alone(rt, names.word(), names.word().as_bytes())?;
+        }
+    }
+    Ok(())
+}
+
+/// The one without a draft is refused, and the others are in place.
+fn expect_in_place<R: AllocGlobal + Files + Threads + Sync>(rt: &R) -> Result<(), Fail>
+where
+    R::File: Send,
+    R::Dir: Send,
+{
+    fs::create_dir(rt, "even")?;
+    fs::create_dir(rt, "odd")?;
+    let all = forty(rt, 17)?;
+    same("refused", &refused_one(rt, &all)?, &Some(17))?;
+    expect_all_but(rt, &all, 17)
+}
+
+#[test]
+fn followers_beside_one_another(rt: HostRuntime) -> Result<(), Fail> {
+    expect_in_place(&rt)
 }
 
 /// Whether the lock is free.

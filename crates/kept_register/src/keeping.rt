@@ -1,7 +1,7 @@
 ghost use Rattle.std.specs.Prelude.{◌≡◌, ◌≤◌, ◌⊎◌, Some, true, false, length, take, IfSome, IfErr, IsErr, IsErrOf, OnOk};
 ghost use Rattle.kept_file.specs.Names.{Names, with_file, dropping_followers, HasNoneBeside};
 ghost use Rattle.kept_file.specs.Looking.{Only, Becomes, Stays};
-ghost use Rattle.kept_file.specs.Keeping.{FileFirst, SinceThen, Leads, MayFollow, AreFollowing};
+ghost use Rattle.kept_file.specs.Keeping.{FileFirst, SinceThen, Leads, MayFollow, AreFollowing, AreThere};
 ghost use Rattle.work_registry.specs.Register.{register_text};
 ghost use Rattle.kept_file.specs.declared.failed.NotKept.{NotKept};
 
@@ -46,7 +46,7 @@ pub enum RegisterNotKept {
 }
 
 /// Keeps the register of a book under the name of a place, and then puts the followers in place, which are the
-/// acknowledgements of its entries.
+/// acknowledgements of its entries, with their drafts on the disk before.
 ///
 /// At every moment, and after a crash at any moment, whoever looks under the names finds the old register or the whole
 /// new one, and a new acknowledgement only where the new register is. Where the register is not kept, the
@@ -70,6 +70,8 @@ pub fn keep_register<P: Place, A: Allocator + Copy + Drop>(
 
     // At `Ok` each acknowledgement is in place, or it is told that it is not; else none is, and none of their drafts is left.
     ensures each { OnOk result (Leads (λ s t. AreFollowing (length s.waiting) (record s { names = with_file (register_text book.now.history) s.names; draft = register_text book.now.history }) t) (P.told place.old) (P.told place.new)) }
+    // No crash takes those away that are in place.
+    ensures there { OnOk result (Leads (AreThere (P.may_find place.new)) (P.told place.old) (P.told place.new)) }
     ensures withheld { IsErr result → IfSome (P.told place.old) (λ s. SinceThen (P.found place.old) (P.found place.new) (λ c. c.followers ≡ s.names.followers)) }
     ensures dropped { IsErr result → Leads (λ _ t. HasNoneBeside t) (P.told place.old) (P.told place.new) }
 

@@ -4,8 +4,12 @@ use crate::fake_files::KeptFile;
 use std::alloc::Global;
 use std::fs::Metadata;
 use std::io::{self, ErrorKind};
-use std::sync::Mutex;
+use std::sync::{Mutex, MutexGuard};
 use std::test::Fail;
+use std::thread::yield_now;
+
+/// How often it is looked whether another thread counts a call.
+const MOST_LOOKS: u32 = 1_000_000;
 
 /// The calls that were made so far.
 #[derive(Drop)]
@@ -32,14 +36,23 @@ impl Calls {
 
     /// Counts a call, which may be refused.
     pub(crate) fn make(&self, what: &'static str, name: &str) -> io::Result<()> {
-        let Some(mut made) = self.made.try_lock() else {
-            return Err(io::Error::from(ErrorKind::Other));
-        };
+        let mut made = self.hold()?;
         made.push(format!(in self.alloc; "{what} {name}")?)?;
         if made.len() == self.refused || what == self.always {
             return Err(io::Error::from(ErrorKind::Other));
         }
         Ok(())
+    }
+
+    /// The calls so far, once no other thread counts one.
+    fn hold(&self) -> io::Result<MutexGuard<'_, Vec<String>>> {
+        for _ in 0..MOST_LOOKS {
+            if let Some(made) = self.made.try_lock() {
+                return Ok(made);
+            }
+            yield_now();
+        }
+        Err(io::Error::from(ErrorKind::Other))
     }
 
     /// The calls that were made, in their order, a line each.

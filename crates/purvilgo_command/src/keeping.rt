@@ -8,11 +8,12 @@ use crate::run_command::RunWords;
 use crate::telling::tell_reason;
 use cwr_desk::Job;
 use cwr_field::Memory;
-use kept_file::{FileNames, Follower, Listener, Place, SystemPlace, put_followers};
+use kept_file::{FileNames, Follower, Listener, Place, SystemPlace, put_followers, sync_drafts};
 use kept_register::{RegisterNotKept, keep_register};
 use std::alloc::Global;
 use std::io;
 use std::rt::Files;
+use std::thread::Threads;
 use work_registry::Book;
 
 /// Acknowledgements that wait for their names.
@@ -64,14 +65,18 @@ impl<R: AllocGlobal + Eprint> Listener for Telling<'_, R> {
 /// all of it is in place. What is not is told on standard error.
 ///
 /// Where the register cannot be kept, the acknowledgements are taken away, and those of before are as they were.
-pub(crate) fn keep_run<'a, I: Drop, R: AllocGlobal + Eprint + Files>(
+pub(crate) fn keep_run<'a, I: Drop, R: AllocGlobal + Eprint + Files + Threads + Sync>(
     rt: &'a R,
     book: &Book,
     jobs: Vec<Job<I, OutputFile<'a, R>>>,
     mut waiting: Waiting<'a>,
     register: Option<&'a FileNames>,
     words: &RunWords,
-) -> bool {
+) -> bool
+where
+    R::File: Send,
+    R::Dir: Send,
+{
     let added = add_all(rt, jobs, &mut waiting, !words.no_clobber);
     let placed = place_all(rt, book, waiting, register, words.verbose);
     placed && added
@@ -97,16 +102,24 @@ fn add_all<'a, I: Drop, R: AllocGlobal + Eprint + Files>(
     added
 }
 
-/// Keeps the register, where one is asked for, and gives the acknowledgements that wait their names. Answers whether all of
-/// it is in place.
-fn place_all<'a, R: AllocGlobal + Eprint + Files>(
+/// Puts the acknowledgements that wait on the disk, keeps the register, where one is asked for, and gives the
+/// acknowledgements their names. Answers whether all of it is in place.
+fn place_all<'a, R: AllocGlobal + Eprint + Files + Threads + Sync>(
     rt: &'a R,
     book: &Book,
     waiting: Waiting<'a>,
     register: Option<&'a FileNames>,
     verbose: bool,
-) -> bool {
-    let Waiting { names, followers } = waiting;
+) -> bool
+where
+    R::File: Send,
+    R::Dir: Send,
+{
+    let Waiting {
+        names,
+        mut followers,
+    } = waiting;
+    sync_drafts(rt, &mut followers);
     let mut place = SystemPlace::new(rt, register, followers, Telling { rt, verbose });
     let kept = keep_at(rt, &mut place, book, register, verbose);
     are_in_place(rt, &place, &names) && kept

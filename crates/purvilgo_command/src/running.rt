@@ -178,13 +178,17 @@ fn serve_jobs<T: Threads + Wait + Sync, I: Source + Send + Drop, O: Sink + Send 
 }
 
 /// Tells how the jobs of a run ended, and keeps what they left.
-fn end_run<'a, I: Drop, R: AllocGlobal + Print + Eprint + Files>(
+fn end_run<'a, I: Drop, R: AllocGlobal + Print + Eprint + Files + Threads + Sync>(
     rt: &'a R,
     words: &RunWords,
     targets: &'a Targets,
     run: Run<I, OutputFile<'a, R>>,
     waiting: Waiting<'a>,
-) -> ExitCode {
+) -> ExitCode
+where
+    R::File: Send,
+    R::Dir: Send,
+{
     let Run {
         book,
         outcomes,

@@ -58,6 +58,7 @@ const REFUSALS: [(&str, Left); 18] = [
             true,
         ),
     ),
+    ("sync a.ack", NOT_IN_PLACE),
     ("open book", AFTER_0),
     ("create book", AFTER_0),
     ("permissions book", AFTER_0),
@@ -85,7 +86,6 @@ const REFUSALS: [(&str, Left); 18] = [
             true,
         ),
     ),
-    ("sync a.ack", NOT_IN_PLACE),
     ("rename a.ack", NOT_IN_PLACE),
     // So has the acknowledgement.
     (
@@ -326,7 +326,7 @@ fn expect_drafts<T: AllocGlobal + Threads + Wait + Sync>(rt: &T, disk: &Disk) ->
 /// What cannot be removed stays where the run failed, and nothing else is otherwise.
 #[test]
 fn leaves_drafts_that_it_cannot_remove(rt: HostRuntime) -> Result<(), Fail> {
-    let disk = told(rt.alloc(), 12, "remove")?;
+    let disk = told(rt.alloc(), 13, "remove")?;
     expect_drafts(&rt, &disk)
 }
 
@@ -445,7 +445,7 @@ fn writes_a_register_that_is_a_device_itself(rt: HostRuntime) -> Result<(), Fail
     disk.nodes.push(("device", device))?;
     let done = (ExitCode::SUCCESS, ACKNOWLEDGED, "");
     let made =
-        "create a.ack\nwrite a.ack\nwrite a.ack\nwrite a.ack\nopen device\nsync device\nsync a.ack\nrename a.ack\nsync .\n";
+        "create a.ack\nwrite a.ack\nwrite a.ack\nwrite a.ack\nsync a.ack\nopen device\nsync device\nrename a.ack\nsync .\n";
     let held = ("device", Text::Register(1));
     expect_calls(&rt, &["--to", "device", "a"], &disk, done, made, held)
 }
@@ -456,7 +456,78 @@ fn follows_a_link_to_a_register(rt: HostRuntime) -> Result<(), Fail> {
     let disk = disk(rt.alloc(), &[("a.ack", OLDER), ("book", b"older")], 0, "")?;
     let done = (ExitCode::SUCCESS, ACKNOWLEDGED, "");
     let made =
-        "lock book.lock\ncreate a.ack\nwrite a.ack\nwrite a.ack\nwrite a.ack\ncreate book\nwrite book\nsync book\nrename book\nsync .\nsync a.ack\nrename a.ack\nsync .\n";
+        "lock book.lock\ncreate a.ack\nwrite a.ack\nwrite a.ack\nwrite a.ack\nsync a.ack\ncreate book\nwrite book\nsync book\nrename book\nsync .\nrename a.ack\nsync .\n";
     let held = ("book", Text::Register(1));
     expect_calls(&rt, &["--to", "linked", "a"], &disk, done, made, held)
+}
+
+/// Runs the file `a` and another over a disk that refuses the call of this number: what it complains of, and how its calls
+/// end must be these. There are eight calls that write the drafts, and two that put them on the disk, on threads.
+fn expect_two<T: AllocGlobal + Threads + Wait + Sync>(
+    rt: &T,
+    other: (&str, &str),
+    refused: usize,
+    complained: &str,
+    end: &str,
+) -> Result<(), Fail> {
+    let alloc = rt.alloc();
+    let (file, answer) = other;
+    let disk = disk(alloc, &[("a.ack", OLDER), (answer, OLDER)], refused, "")?;
+    let input = plain_file(alloc)?;
+    let files = [
+        ("a", FakeFile::Holds(&input)),
+        (file, FakeFile::Holds(&input)),
+    ];
+    let words = run_with(alloc, &["--in-turn", "a", file])?;
+    let printed = format!(in alloc; "a: acknowledged 1\n{file}: acknowledged 1\n")?;
+    let status = if refused == 0 {
+        ExitCode::SUCCESS
+    } else {
+        ExitCode::FAILURE
+    };
+    expect_on(
+        rt,
+        &words,
+        &files,
+        &disk,
+        (status, printed.as_str(), complained),
+    )?;
+    expect_both(alloc, &disk, answer)?;
+    expect_end(&disk, end)
+}
+
+/// Both acknowledgements must have their names, and no draft.
+fn expect_both(alloc: Global, disk: &Disk, other: &str) -> Result<(), Fail> {
+    expect_text(alloc, disk, "a.ack", Text::Answer("AS"))?;
+    expect_text(alloc, disk, other, Text::Answer("DU"))?;
+    expect_draft(disk, "a.ack", "a draft", false)?;
+    expect_draft(disk, other, "another", false)
+}
+
+/// These must be the calls behind the first ten.
+fn expect_end(disk: &Disk, end: &str) -> Result<(), Fail> {
+    let made = disk.calls.made()?;
+    let calls = 10usize.saturating_add(end.lines().count());
+    same("the number of calls", &made.lines().count(), &calls)?;
+    same("the last calls", &made.ends_with(end), &true)
+}
+
+/// The names of one folder are put on the disk together.
+#[test]
+fn puts_a_folder_on_the_disk_once(rt: HostRuntime) -> Result<(), Fail> {
+    let other = ("b", "b.ack");
+    let end = "rename a.ack\nrename b.ack\nsync .\n";
+    expect_two(&rt, other, 0, "", end)?;
+    let refused = "a.ack: not in place\nb.ack: not in place\n";
+    expect_two(&rt, other, 13, refused, end)
+}
+
+/// Where one of two folders cannot be put on the disk, that is told of the names in it alone.
+#[test]
+fn puts_each_folder_on_the_disk(rt: HostRuntime) -> Result<(), Fail> {
+    let other = ("in/b", "in/b.ack");
+    let end = "rename a.ack\nrename in/b.ack\nsync .\nsync .\n";
+    expect_two(&rt, other, 0, "", end)?;
+    expect_two(&rt, other, 13, "a.ack: not in place\n", end)?;
+    expect_two(&rt, other, 14, "in/b.ack: not in place\n", end)
 }

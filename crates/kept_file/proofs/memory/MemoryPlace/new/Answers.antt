@@ -1,11 +1,9 @@
-use Rattle.std.proofs.Common.{rules}
+use Rattle.kept_file.proofs.Rounds.{Only-begun, Only-first}
 use Rattle.kept_file.proofs.memory.MemoryPlace.new.Goals as goal
 
-pub returns-clause-told : goal.returns-clause-told
-returns-clause-told g c = search rules
-
 pub returns-clause-settled : goal.returns-clause-settled
-returns-clause-settled g c = search rules
+returns-clause-settled g c = Only-begun c.settle.new.self _ _ c.settle.ensures.all c.settle.ensures.told c.new-file.ensures.file
 
 pub returns-clause-begun : goal.returns-clause-begun
-returns-clause-begun g c = search rules
+returns-clause-begun g c =
+    Only-first c.settle.new.self _ (Only-begun c.settle.new.self _ _ c.settle.ensures.all c.settle.ensures.told c.new-file.ensures.file)

@@ -3,7 +3,7 @@ use Rattle.std.specs.Prelude.{IfSome}
 use Rattle.kept_file.specs.Names.{Names}
 use Rattle.kept_file.specs.Keeping.{SinceThen, Leads, MayFollow}
 use Rattle.kept_file.proofs.Followers.{SoFar, Following}
-use Rattle.kept_file.proofs.following.put_followers.Given as goal
+use Rattle.kept_file.proofs.following.name_followers.Given as goal
 
 -- the followers so far were put in place, or refused
 abbrev pub invariant-loop-at : goal.invariant-loop-at
