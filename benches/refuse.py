@@ -114,7 +114,7 @@ class Run:
             self.files[name] = text
             if "--no-clobber" not in options:
                 self.files[name + ".ack"] = OLD_ACK
-        self.rounds = 1 if "--in-turn" in options else ROUNDS_ON_THREADS
+        self.rounds = 1 if "--in-turn" in options and len(jobs) == 1 else ROUNDS_ON_THREADS
 
     def kind(self, answer):
         if answer.printed == b"" and answer.complained == NO_MEMORY:

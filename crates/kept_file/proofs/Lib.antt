@@ -1,6 +1,6 @@
 pub mod Drafting
 pub mod Drops
 pub mod Followers
-pub mod Rounds
+pub mod OneByOne
 pub mod Slots
 pub mod Synced

@@ -79,6 +79,11 @@ pub fn remove_draft<R: Files>(rt: &R, names: &FileNames) {
     let _ = fs::remove_file(rt, names.draft());
 }
 
+/// Puts the draft of a file on the disk.
+pub fn sync_draft<R: Files>(rt: &R, names: &FileNames) -> io::Result<()> {
+    fs::open(rt, names.draft())?.sync_all()
+}
+
 /// Gives the draft of a file the file's name, in place of what lies there.
 pub fn name_draft<R: Files>(rt: &R, names: &FileNames) -> io::Result<()> {
     fs::rename(rt, names.draft(), names.name())

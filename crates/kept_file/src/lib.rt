@@ -12,6 +12,7 @@ mod memory;
 mod names;
 mod pieces;
 mod place;
+mod rounds;
 mod system;
 
 pub use cwr_field::Memory;

@@ -1,23 +1,21 @@
 ghost use Rattle.std.specs.Prelude.{◌≡◌, ◌≤◌, None, false, is_err, length, ⊤, IfOk};
 
 use crate::draft::{
-    name_draft, name_new_draft, open_draft, remove_draft, sync_directory, sync_file, takes_draft,
+    name_draft, name_new_draft, open_draft, remove_draft, sync_directory, sync_draft, sync_file,
+    takes_draft,
 };
+use crate::rounds::{Round, sync_beside};
 use crate::{CallFailed, FileNames, Listener, Place};
 use std::fs::OpenFile;
 use std::io::{ErrorKind, Write};
 use std::rt::Files;
-use std::sync::atomic::{AtomicBool, Ordering};
-use std::thread::{Threads, for_each_mut, join};
+use std::thread::Threads;
 use std::{fs, io};
-
-/// How many threads wait for the disk at a time, at most.
-const MOST_THREADS: usize = 16;
 
 /// A file that follows: its draft is written already.
 #[derive(Debug, Drop)]
 pub struct Follower<'a> {
-    names: &'a FileNames,
+    pub(crate) names: &'a FileNames,
     /// Whether it takes the place of a file that is there.
     replaces: bool,
     stage: Stage,
@@ -34,7 +32,7 @@ enum Stage {
     Synced,
     /// Its draft has its name.
     Named,
-    /// Its name is on the disk; or it is no regular file, and was written itself.
+    /// Its name is on the disk.
     InPlace,
     /// It could not be put in place.
     Refused,
@@ -53,16 +51,11 @@ impl<'a> Follower<'a> {
         }
     }
 
-    /// Puts the draft on the disk, unless it is there. What is no regular file has none.
+    /// Puts the draft on the disk, unless it is there.
     fn sync_draft<R: Files>(&mut self, rt: &R) {
-        if self.stage != Stage::Written {
-            return;
-        }
-        if takes_draft(rt, self.names) {
-            let synced = draft_on_disk(rt, self.names);
+        if self.stage == Stage::Written {
+            let synced = sync_draft(rt, self.names);
             self.goes_on(synced, Stage::Synced);
-        } else {
-            self.stage = Stage::InPlace;
         }
     }
 
@@ -90,61 +83,22 @@ impl<'a> Follower<'a> {
 
 /// Puts the drafts of followers on the disk, up to sixteen beside one another, on threads.
 ///
-/// So they wait for the disk together, before a place takes them. Where the first of them are on the disk before a thread
-/// has started, as in memory, the rest are put there one after another: more threads would take longer. Where the runtime
-/// refuses a thread, its part is done on another. A follower whose draft cannot be put on the disk is refused; its place
-/// tells why.
+/// So they wait for the disk together, before a place takes them: the first 64, and a place puts the rest there. Each
+/// thread starts another as it begins, unless those before it have gone through several drafts by then, as they do in
+/// memory, where more threads would take longer. Where the runtime refuses a thread, its part is done on another. A draft
+/// that cannot be put on the disk is left to the place, which refuses the follower and tells why.
 pub fn sync_drafts<R: Files + Threads + Sync>(rt: &R, followers: &mut [Follower<'_>])
 where
     R::File: Send,
     R::Dir: Send,
 {
-    let part = followers.len().div_ceil(MOST_THREADS);
-    if part < followers.len() {
-        let is_done = AtomicBool::new(false);
-        let (own, others) = followers.split_at_mut(part);
-        join(
-            rt,
-            || sync_beside(rt, &is_done, others),
-            || {
-                sync_each(rt, own);
-                is_done.store(true, Ordering::SeqCst);
-            },
-        );
-    }
-    sync_each(rt, followers);
-}
-
-/// Puts drafts on the disk beside one another, unless others are done already.
-fn sync_beside<R: Files + Threads + Sync>(
-    rt: &R,
-    is_done: &AtomicBool,
-    followers: &mut [Follower<'_>],
-)
-where
-    R::File: Send,
-    R::Dir: Send,
-{
-    if !is_done.load(Ordering::SeqCst) {
-        for_each_mut(
-            rt,
-            followers,
-            MOST_THREADS - 1,
-            &|_, follower| { follower.sync_draft(rt) },
-        );
-    }
-}
-
-/// Puts drafts that are not on the disk there, one after another.
-fn sync_each<R: Files>(rt: &R, followers: &mut [Follower<'_>]) {
+    let round = Round::new();
+    sync_beside(rt, &round, followers, 0);
     for at in 0..followers.len() {
-        followers[at].sync_draft(rt);
+        if round.has_synced(at) {
+            followers[at].stage = Stage::Synced;
+        }
     }
-}
-
-/// Puts a draft that is written on the disk.
-fn draft_on_disk<R: Files>(rt: &R, names: &FileNames) -> io::Result<()> {
-    fs::open(rt, names.draft())?.sync_all()
 }
 
 /// Gives a draft its name, in place of a file that is there or of none.

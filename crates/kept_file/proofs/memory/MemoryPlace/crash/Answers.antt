@@ -1,6 +1,6 @@
 use Rattle.std.proofs.Common.{◌≡◌, ◌+◌, ◌<◌, length, vec_len, ◌∙◌, rules, sym, ap, subst, arith}
 use Rattle.kept_file.specs.Memory.{undoing_slot}
-use Rattle.kept_file.proofs.Rounds.{Crashing, Crashing-none, Crashing-settled, Crashing-undone, Crashing-all, Crashing-left, Only-settled, Within-undone}
+use Rattle.kept_file.proofs.OneByOne.{Crashing, Crashing-none, Crashing-settled, Crashing-undone, Crashing-all, Crashing-left, Only-settled, Within-undone}
 use Rattle.kept_file.proofs.memory.MemoryPlace.crash.Goals as goal
 use Rattle.kept_file.proofs.memory.MemoryPlace.crash.Goals.{in-Some-true, in-Some-false}
 

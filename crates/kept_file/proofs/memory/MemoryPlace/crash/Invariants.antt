@@ -1,7 +1,7 @@
 use Rattle.std.proofs.Common.{◌≡◌, ◌⊎◌, ◌↔◌, true}
 use Rattle.kept_file.specs.Names.{Names}
 use Rattle.kept_file.specs.Memory.{may_be, had_been}
-use Rattle.kept_file.proofs.Rounds.{Crashing}
+use Rattle.kept_file.proofs.OneByOne.{Crashing}
 use Rattle.kept_file.proofs.memory.MemoryPlace.crash.Given as goal
 
 -- of the names so far each is left or undone, and there to stay

@@ -1,4 +1,4 @@
-use Rattle.kept_file.proofs.Rounds.{Only-begun, Only-first}
+use Rattle.kept_file.proofs.OneByOne.{Only-begun, Only-first}
 use Rattle.kept_file.proofs.memory.MemoryPlace.new.Goals as goal
 
 pub returns-clause-settled : goal.returns-clause-settled

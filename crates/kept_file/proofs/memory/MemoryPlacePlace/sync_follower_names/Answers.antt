@@ -1,6 +1,6 @@
 use Rattle.std.proofs.Common.{◌≡◌, ◌+◌, ◌<◌, length, vec_len, rules, sym, ap, subst, arith}
 use Rattle.kept_file.proofs.Slots.{Within-stays}
-use Rattle.kept_file.proofs.Rounds.{Settling, Settling-none, Settling-refused, Settling-settled, Settling-all, Settling-durable}
+use Rattle.kept_file.proofs.OneByOne.{Settling, Settling-none, Settling-refused, Settling-settled, Settling-all, Settling-durable}
 use Rattle.kept_file.proofs.memory.MemoryPlacePlace.sync_follower_names.Goals as goal
 use Rattle.kept_file.proofs.memory.MemoryPlacePlace.sync_follower_names.Goals.{then-fails, else-fails}
 

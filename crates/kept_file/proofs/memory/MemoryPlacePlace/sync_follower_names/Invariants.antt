@@ -1,7 +1,7 @@
 use Rattle.std.proofs.Common.{◌≡◌, ◌⊎◌, ◌↔◌}
 use Rattle.kept_file.specs.Names.{Names}
 use Rattle.kept_file.specs.Memory.{may_be, had_been}
-use Rattle.kept_file.proofs.Rounds.{Settling}
+use Rattle.kept_file.proofs.OneByOne.{Settling}
 use Rattle.kept_file.proofs.memory.MemoryPlacePlace.sync_follower_names.Given as goal
 
 -- the names so far are on the disk, or their followers refused

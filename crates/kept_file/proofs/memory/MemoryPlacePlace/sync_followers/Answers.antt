@@ -1,6 +1,6 @@
 use Rattle.std.proofs.Common.{◌≡◌, ◌+◌, ◌<◌, length, vec_len, rules, sym, ap, subst, arith}
 use Rattle.kept_file.proofs.Slots.{Within-stays}
-use Rattle.kept_file.proofs.Rounds.{Syncing, Syncing-none, Syncing-refused, Syncing-synced, Syncing-all}
+use Rattle.kept_file.proofs.OneByOne.{Syncing, Syncing-none, Syncing-refused, Syncing-synced, Syncing-all}
 use Rattle.kept_file.proofs.memory.MemoryPlacePlace.sync_followers.Goals as goal
 use Rattle.kept_file.proofs.memory.MemoryPlacePlace.sync_followers.Goals.{then-fails, else-fails}
 

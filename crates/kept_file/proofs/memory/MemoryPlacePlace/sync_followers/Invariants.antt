@@ -1,7 +1,7 @@
 use Rattle.std.proofs.Common.{◌≡◌, ◌⊎◌, ◌↔◌}
 use Rattle.kept_file.specs.Names.{Names}
 use Rattle.kept_file.specs.Memory.{may_be, had_been}
-use Rattle.kept_file.proofs.Rounds.{Syncing}
+use Rattle.kept_file.proofs.OneByOne.{Syncing}
 use Rattle.kept_file.proofs.memory.MemoryPlacePlace.sync_followers.Given as goal
 
 -- the drafts so far are on the disk, or their followers refused

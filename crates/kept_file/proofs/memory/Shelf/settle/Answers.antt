@@ -1,6 +1,6 @@
 use Rattle.std.proofs.Common.{refl, ◌∙◌, ap, rules, arith}
 use Rattle.kept_file.proofs.Slots.{state-settling}
-use Rattle.kept_file.proofs.Rounds.{settled_below, each_settled}
+use Rattle.kept_file.proofs.OneByOne.{settled_below, each_settled}
 use Rattle.kept_file.proofs.memory.Shelf.settle.Goals as goal
 
 pub loop-at-init : goal.loop-at-init
