@@ -5,8 +5,8 @@ The runs go from a register to the same one, with files that have acknowledgemen
 They are killed before each of their system calls (by strace), and at random times; they find the disk full (a small
 tmpfs), a file that may not be written, links, devices; and two of them come at once. Whatever happens, the register is the
 old one or the whole new one, byte for byte and by `audit`, and an acknowledgement is the old one, or the whole new one
-whose decisions the register holds, or of it the first bytes that its outcome line tells. What is expected is worked out
-here from the profile. Prints a table, and fails at the first thing that is otherwise."""
+whose decisions the register holds; of one that was cut the draft has the first bytes that its outcome line tells. What is
+expected is worked out here from the profile. Prints a table, and fails at the first thing that is otherwise."""
 import collections
 import contextlib
 import os
@@ -108,7 +108,7 @@ def works_in(text, case):
 
 
 def told_cut(ended, name):
-    """How many bytes of its acknowledgement a stopped file has, as its outcome line tells."""
+    """How many bytes of its acknowledgement are in the draft of a stopped file, as its outcome line tells."""
     found = re.search(rb"^%s: stopped after \d+: write after (\d+) bytes$" % re.escape(name.encode()), ended.printed, re.M) if ended else None
     return int(found[1]) if found else None
 
@@ -124,14 +124,17 @@ def look(program, folder, case, ended=None):
     want((audit.returncode, audit.stdout) == (0, b"%d entries\n" % count), "the audit")
     acks = 0
     for index, (name, made) in enumerate(case.files.items(), 1):
-        ack = bytes_in(folder, name + ".ack")
-        if ack == (OLD_ACK if index < len(case.files) else None):
+        ack, cut = bytes_in(folder, name + ".ack"), told_cut(ended, name)
+        older = ack == (OLD_ACK if index < len(case.files) else None)
+        want(older or (is_new and cut is None), "an acknowledgement without its register, or one that was cut")
+        if older and not (is_new and cut):
             continue
-        want(is_new, "an acknowledgement without its register")
         whole = acknowledgement(7, b"SOCIETY", b"20240601", b"090000", CREATED, [decided(each, works[name, each]) for each in made])
-        cut = told_cut(ended, name)
-        want(ack == (whole if cut is None else whole[:cut]), "an acknowledgement")
-        acks += 1
+        if older:
+            want(bytes_in(folder, name + ".ack.new") == whole[:cut], "the draft of one that was cut")
+        else:
+            want(ack == whole, "an acknowledgement")
+            acks += 1
     return is_new, acks
 
 
@@ -264,7 +267,8 @@ def full_disks(program, what, most):
             want(ended.status == (0 if whole else 1), "the status")
             want(is_new == kept, "the register and what is told of it")
             want(kept or placed == 0, "an acknowledgement whose register was not kept")
-            want(beside(folder)[0] == [], "a draft is left")
+            cut = [name + ".ack.new" for name in case.files if kept and told_cut(ended, name)]
+            want(sorted(beside(folder)[0]) == cut, "a draft is left, or one that was cut is not")
             kinds["all in place" if whole else "register kept" if kept else "register not kept"] += 1
             if whole:
                 break
@@ -388,7 +392,7 @@ def order_of_calls(program):
         for words, register, names in (
             (case.words, kept, "rename"),
             (["run", *options, *STAMP, *case.files], [], "rename"),
-            (["run", "--no-clobber", *options, *STAMP, "--to", "book", *case.files], kept, "link"),
+            (["run", "--no-clobber", *case.words[1:]], kept, "link"),
         ):
             found = list(calls_in_order(program, case, words))
             want(sorted(found[:files]) == ["sync " + draft for draft in drafts], f"the drafts: {found}")

@@ -10,18 +10,19 @@ use std::{fs, io};
 /// Who may read and write a draft until it has the permissions of the file that it is to replace: its owner.
 const OWNER_ALONE: u32 = 0o600;
 
-/// Whether a file is replaced by a draft: it is a regular file, or it is not there yet.
+/// Whether a file is replaced by a draft: it is a regular file, or it is not there yet. So is a folder, whose name no draft
+/// can take: what is written for it stays in the draft.
 ///
 /// What is something else, as a device or a pipe, is written where it is.
 pub fn takes_draft<R: Files>(rt: &R, names: &FileNames) -> bool {
     match fs::metadata(rt, names.name()) {
-        Ok(found) => found.is_file(),
+        Ok(found) => found.is_file() || found.is_dir(),
         Err(_) => true,
     }
 }
 
 /// Opens what is to be written for a file: its draft, which is made anew; or the file itself, emptied, where that takes
-/// no draft.
+/// no draft, as a device.
 ///
 /// A draft that is there already, as after a crash, is taken away first. The new one gets the permissions of the file
 /// that it is to replace, and its owner where the system lets it. A file that is there and may not be written is an
@@ -30,6 +31,9 @@ pub fn open_draft<R: Files>(rt: &R, names: &FileNames) -> io::Result<R::File> {
     let Ok(old) = fs::metadata(rt, names.name()) else {
         return new_draft(rt, names, File::options().write(true));
     };
+    if old.is_dir() {
+        return new_draft(rt, names, File::options().write(true));
+    }
     if !old.is_file() {
         return fs::create(rt, names.name());
     }

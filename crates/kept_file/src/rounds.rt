@@ -5,6 +5,7 @@ ghost use Rattle.std.specs.Thread.{IsSync};
 
 use crate::Follower;
 use crate::draft::sync_draft;
+use std::io::{self, ErrorKind};
 use std::rt::Files;
 use std::sync::atomic::{AtomicU64, Ordering};
 use std::thread::{Threads, join};
@@ -12,16 +13,69 @@ use std::thread::{Threads, join};
 /// How many threads wait for the disk at a time, at most.
 const MOST_THREADS: u64 = 16;
 
-/// How many drafts a round takes, at most: so many have a bit in it.
-const MOST_DRAFTS: usize = 64;
+/// No answer so far.
+const UNASKED: u64 = 0;
 
-/// What threads that put drafts on the disk have done so far.
+/// The answer that a draft is on the disk.
+const SYNCED: u64 = 1;
+
+/// The answer that it is not, for a reason without a number; a reason of the system is this and its number, and 1.
+const FAILED: u64 = 2;
+
+/// What the disk answered to a thread that put a draft there.
+#[derive(Debug, Drop)]
+pub(crate) struct Answer {
+    code: AtomicU64,
+}
+
+impl Answer {
+    /// It was not asked.
+    pub(crate) fn none() -> Answer {
+        Answer {
+            code: AtomicU64::new(UNASKED),
+        }
+    }
+
+    /// Keeps what it answered.
+    fn hear(&self, done: io::Result<()>) {
+        let code = match done {
+            Ok(()) => SYNCED,
+            Err(error) => code_of(&error),
+        };
+        self.code.store(code, Ordering::SeqCst);
+    }
+
+    /// What it answered, if it was asked.
+    pub(crate) fn told(&self) -> Option<io::Result<()>> {
+        match self.code.load(Ordering::SeqCst) {
+            UNASKED => None,
+            SYNCED => Some(Ok(())),
+            code => Some(Err(error_of(code))),
+        }
+    }
+}
+
+/// How an error is kept.
+fn code_of(error: &io::Error) -> u64 {
+    match error.raw_os_error().map(u64::try_from) {
+        Some(Ok(number)) => number.saturating_add(FAILED + 1),
+        Some(Err(_)) | None => FAILED,
+    }
+}
+
+/// The error that was kept so.
+fn error_of(code: u64) -> io::Error {
+    match code.checked_sub(FAILED + 1).map(i32::try_from) {
+        Some(Ok(number)) => io::Error::from_raw_os_error(number),
+        Some(Err(_)) | None => io::Error::from(ErrorKind::Other),
+    }
+}
+
+/// How far threads have come that put drafts on the disk.
 #[derive(Drop)]
 pub(crate) struct Round {
     /// How many drafts were begun.
     begun: AtomicU64,
-    /// Of each draft whether it is on the disk, the first in the lowest bit.
-    synced: AtomicU64,
 }
 
 impl Round {
@@ -29,27 +83,17 @@ impl Round {
     pub(crate) fn new() -> Round {
         Round {
             begun: AtomicU64::new(0),
-            synced: AtomicU64::new(0),
         }
-    }
-
-    /// Whether that draft is on the disk.
-    pub(crate) fn has_synced(&self, at: usize) -> bool {
-        at < MOST_DRAFTS && self.synced.load(Ordering::SeqCst) & bit(at) != 0
     }
 
     /// Puts drafts on the disk one after another, as long as there are some that no thread has begun.
     fn sync_some<R: Files>(&self, rt: &R, followers: &[Follower<'_>]) {
         for _ in 0..followers.len() {
             let at = self.begun.fetch_add(1, Ordering::SeqCst) as usize;
-            match followers.get(at) {
-                Some(follower) if at < MOST_DRAFTS => {
-                    if sync_draft(rt, follower.names).is_ok() {
-                        self.synced.fetch_or(bit(at), Ordering::SeqCst);
-                    }
-                }
-                Some(_) | None => return,
-            }
+            let Some(follower) = followers.get(at) else {
+                return;
+            };
+            follower.answer.hear(sync_draft(rt, follower.names));
         }
     }
 
@@ -59,11 +103,6 @@ impl Round {
         let begun = self.begun.load(Ordering::SeqCst);
         begun <= threads.saturating_mul(2) && begun.saturating_add(1) < drafts as u64
     }
-}
-
-/// The bit of a draft.
-fn bit(at: usize) -> u64 {
-    1 << (at % MOST_DRAFTS)
 }
 
 /// Puts drafts on the disk, on this thread and on others, behind so many that have begun.

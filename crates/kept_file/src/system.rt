@@ -4,7 +4,7 @@ use crate::draft::{
     name_draft, name_new_draft, open_draft, remove_draft, sync_directory, sync_draft, sync_file,
     takes_draft,
 };
-use crate::rounds::{Round, sync_beside};
+use crate::rounds::{Answer, Round, sync_beside};
 use crate::{CallFailed, FileNames, Listener, Place};
 use std::fs::OpenFile;
 use std::io::{ErrorKind, Write};
@@ -19,6 +19,8 @@ pub struct Follower<'a> {
     /// Whether it takes the place of a file that is there.
     replaces: bool,
     stage: Stage,
+    /// What the disk answered where a thread put the draft there.
+    pub(crate) answer: Answer,
     /// Why it could not be put in place, until that is told.
     trouble: Option<io::Error>,
 }
@@ -41,12 +43,16 @@ enum Stage {
 impl<'a> Follower<'a> {
     /// The follower of these names. Where it `replaces` none, it is refused where a file is there by then.
     pub fn new(names: &'a FileNames, replaces: bool) -> Follower<'a>
-        ensures { result ≡ record { names = names.entry; replaces = replaces; stage = Stage.Written; trouble = None } }
+        ensures names { result.names ≡ names.entry }
+        ensures replaces { result.replaces ≡ replaces }
+        ensures waits { result.stage ≡ Stage.Written }
+        ensures untold { result.trouble ≡ None }
     {
         Follower {
             names,
             replaces,
             stage: Stage::Written,
+            answer: Answer::none(),
             trouble: None,
         }
     }
@@ -55,6 +61,13 @@ impl<'a> Follower<'a> {
     fn sync_draft<R: Files>(&mut self, rt: &R) {
         if self.stage == Stage::Written {
             let synced = sync_draft(rt, self.names);
+            self.goes_on(synced, Stage::Synced);
+        }
+    }
+
+    /// Goes on by what the disk answered to a thread, if it was asked.
+    fn hear(&mut self) {
+        if let Some(synced) = self.answer.told() {
             self.goes_on(synced, Stage::Synced);
         }
     }
@@ -83,21 +96,18 @@ impl<'a> Follower<'a> {
 
 /// Puts the drafts of followers on the disk, up to sixteen beside one another, on threads.
 ///
-/// So they wait for the disk together, before a place takes them: the first 64, and a place puts the rest there. Each
-/// thread starts another as it begins, unless those before it have gone through several drafts by then, as they do in
-/// memory, where more threads would take longer. Where the runtime refuses a thread, its part is done on another. A draft
-/// that cannot be put on the disk is left to the place, which refuses the follower and tells why.
+/// So they wait for the disk together, before a place takes them. Each thread starts another as it begins, unless those
+/// before it have gone through several drafts by then, as they do in memory, where more threads would take longer. Where
+/// the runtime refuses a thread, its part is done on another. A follower whose draft cannot be put on the disk is refused,
+/// and its place tells why. It is not tried again: of a file that was not written the disk may say so once.
 pub fn sync_drafts<R: Files + Threads + Sync>(rt: &R, followers: &mut [Follower<'_>])
 where
     R::File: Send,
     R::Dir: Send,
 {
-    let round = Round::new();
-    sync_beside(rt, &round, followers, 0);
+    sync_beside(rt, &Round::new(), followers, 0);
     for at in 0..followers.len() {
-        if round.has_synced(at) {
-            followers[at].stage = Stage::Synced;
-        }
+        followers[at].hear();
     }
 }
 
@@ -121,6 +131,8 @@ pub struct SystemPlace<'a, R: Files, L: Drop> {
     rt: &'a R,
     /// None where there are only followers.
     file: Option<&'a FileNames>,
+    /// Whether the file takes the place of one that is there.
+    replaces: bool,
     followers: Vec<Follower<'a>>,
     listener: L,
     /// What is written for the file, from when its draft is begun until that has the name.
@@ -143,12 +155,20 @@ impl<'a, R: Files, L: Listener + Drop> SystemPlace<'a, R, L> {
         SystemPlace {
             rt,
             file,
+            replaces: true,
             followers,
             listener,
             open: None,
             is_draft: false,
             failed: false,
         }
+    }
+
+    /// From now on the file takes the place of none: where one is there by then, its draft takes no name.
+    pub fn replace_none(&mut self)
+        ensures { self.new ≡ record self.old { replaces = false } }
+    {
+        self.replaces = false;
     }
 
     /// The names of the file.
@@ -192,7 +212,7 @@ impl<'a, R: Files, L: Listener + Drop> SystemPlace<'a, R, L> {
         let names = self.names()?;
         self.open = None;
         if self.is_draft {
-            name_draft(self.rt, names)?;
+            draft_named(self.rt, names, self.replaces)?;
         }
         Ok(())
     }

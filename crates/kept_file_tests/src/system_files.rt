@@ -121,15 +121,43 @@ fn what_is_no_regular_file(rt: HostRuntime) -> Result<(), Fail> {
     )?;
     same("its draft", &fs::exists(&rt, "/dev/null.new")?, &false)?;
     same(
-        "a directory",
-        &keep_new(&rt, "/dev")?,
-        &Err(NotKept { sent: 0 }),
-    )?;
-    same(
         "no directory",
         &keep_new(&rt, "/nowhere/at/all")?,
         &Err(NotKept { sent: 0 }),
     )
+}
+
+/// No draft can take the name of a folder.
+#[test]
+fn a_folder(rt: HostRuntime) -> Result<(), Fail> {
+    fs::create_dir(&rt, "a_folder_there")?;
+    same(
+        "keeping",
+        &keep_new(&rt, "a_folder_there")?,
+        &Err(NotKept { sent: 8 }),
+    )?;
+    expect_no_draft(&rt, "a_folder_there")?;
+    Ok(fs::remove_dir(&rt, "a_folder_there")?)
+}
+
+/// Keeps the new text under a name where no file is to be replaced.
+fn keep_first<R: AllocGlobal + Files>(rt: &R, name: &str) -> Result<Result<(), NotKept>, Fail> {
+    let names = FileNames::of_word(rt, name)?;
+    let followers = Vec::new(rt.alloc());
+    let mut place = SystemPlace::new(rt, Some(&names), followers, Deaf);
+    place.replace_none();
+    Ok(keep(&mut place, NEW))
+}
+
+#[test]
+fn a_file_that_replaces_none(rt: HostRuntime) -> Result<(), Fail> {
+    same("keeping", &keep_first(&rt, "the_first")?, &Ok(()))?;
+    same(
+        "keeping another",
+        &keep_first(&rt, "the_first")?,
+        &Err(NotKept { sent: 8 }),
+    )?;
+    expect_alone(&rt, "the_first", NEW)
 }
 
 /// A follower of that name, with a draft.

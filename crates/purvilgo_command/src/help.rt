@@ -83,8 +83,8 @@ Options:
                    are decided at once too
   --in-turn        the same on one thread, one file after another: with less memory,
                    and mostly slower. The two are not taken together
-  --no-clobber     write over no acknowledgement: where one is there already,
-                   nothing is read or written
+  --no-clobber     write over no acknowledgement, and over no register but that of
+                   --from: where one is there already, nothing is read or written
   -v, --verbose    tell steps and the system's reasons on standard error
   -h, --help       the words in short
 

@@ -3,12 +3,15 @@
 ghost use Rattle.std.specs.Prelude.{◌≡◌, false, IfSome};
 ghost use Rattle.kept_file.specs.Looking.{Only};
 
-use crate::output::OutputFile;
+use crate::output::{OutputFile, Written};
 use crate::run_command::RunWords;
+use crate::targets::Targets;
 use crate::telling::tell_reason;
 use cwr_desk::Job;
 use cwr_field::Memory;
-use kept_file::{FileNames, Follower, Listener, Place, SystemPlace, put_followers, sync_drafts};
+use kept_file::{
+    FileNames, Follower, Listener, Place, SystemPlace, put_followers, remove_draft, sync_drafts,
+};
 use kept_register::{RegisterNotKept, keep_register};
 use std::alloc::Global;
 use std::io;
@@ -21,6 +24,8 @@ use work_registry::Book;
 pub(crate) struct Waiting<'a> {
     names: Vec<&'a FileNames>,
     followers: Vec<Follower<'a>>,
+    /// Those of which a write failed: they get no name.
+    cut: Vec<&'a FileNames>,
 }
 
 impl<'a> Waiting<'a> {
@@ -29,6 +34,7 @@ impl<'a> Waiting<'a> {
         Ok(Waiting {
             names: Vec::with_capacity(alloc, number)?,
             followers: Vec::with_capacity(alloc, number)?,
+            cut: Vec::with_capacity(alloc, number)?,
         })
     }
 
@@ -64,13 +70,14 @@ impl<R: AllocGlobal + Eprint> Listener for Telling<'_, R> {
 /// Keeps the register of a book, where one is asked for, and then gives the acknowledgements their names. Answers whether
 /// all of it is in place. What is not is told on standard error.
 ///
-/// Where the register cannot be kept, the acknowledgements are taken away, and those of before are as they were.
+/// Where the register cannot be kept, the acknowledgements are taken away, and those of before are as they were. One that
+/// was cut stays where it was written, and gets no name.
 pub(crate) fn keep_run<'a, I: Drop, R: AllocGlobal + Eprint + Files + Threads + Sync>(
     rt: &'a R,
     book: &Book,
     jobs: Vec<Job<I, OutputFile<'a, R>>>,
     mut waiting: Waiting<'a>,
-    register: Option<&'a FileNames>,
+    targets: &'a Targets,
     words: &RunWords,
 ) -> bool
 where
@@ -78,7 +85,7 @@ where
     R::Dir: Send,
 {
     let added = add_all(rt, jobs, &mut waiting, !words.no_clobber);
-    let placed = place_all(rt, book, waiting, register, words.verbose);
+    let placed = place_all(rt, book, waiting, targets, words.verbose);
     placed && added
 }
 
@@ -93,10 +100,16 @@ fn add_all<'a, I: Drop, R: AllocGlobal + Eprint + Files>(
     let mut added = true;
     for job in jobs {
         let Job { reader: _, writer } = job;
-        if let Some(names) = writer.into_waiting() {
-            if waiting.add(names, replaces).is_err() {
-                added = tell_out_of_place(rt, names);
+        match writer.into_written() {
+            Written::Whole(names) => {
+                if waiting.add(names, replaces).is_err() {
+                    added = tell_out_of_place(rt, names);
+                }
             }
+            Written::Cut(names) => {
+                let _ = waiting.cut.push(names);
+            }
+            Written::Nothing => {}
         }
     }
     added
@@ -108,7 +121,7 @@ fn place_all<'a, R: AllocGlobal + Eprint + Files + Threads + Sync>(
     rt: &'a R,
     book: &Book,
     waiting: Waiting<'a>,
-    register: Option<&'a FileNames>,
+    targets: &'a Targets,
     verbose: bool,
 ) -> bool
 where
@@ -118,10 +131,20 @@ where
     let Waiting {
         names,
         mut followers,
+        cut,
     } = waiting;
+    let register = targets.register.as_ref();
     sync_drafts(rt, &mut followers);
     let mut place = SystemPlace::new(rt, register, followers, Telling { rt, verbose });
+    if !targets.replaces {
+        place.replace_none();
+    }
     let kept = keep_at(rt, &mut place, book, register, verbose);
+    if !kept {
+        for names in cut {
+            remove_draft(rt, names);
+        }
+    }
     are_in_place(rt, &place, &names) && kept
 }
 

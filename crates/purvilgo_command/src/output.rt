@@ -16,6 +16,17 @@ const FILE_EXISTS: i32 = 17;
 /// A piece of an acknowledgement that is not its last one has more bytes than this.
 const LAST_PIECE: usize = 65_000;
 
+/// The draft that a job leaves.
+#[derive(Clone, Copy, Debug)]
+pub(crate) enum Written<'a> {
+    /// None: no byte was written, or what was written was no draft.
+    Nothing,
+    /// The first bytes of an acknowledgement, of which a write failed. It is not to have its name.
+    Cut(&'a FileNames),
+    /// An acknowledgement, which waits for its name.
+    Whole(&'a FileNames),
+}
+
 /// The draft of a file, which is opened at its first write, and then begins empty. It tells no bytes.
 ///
 /// It is closed behind what looks like the last piece, and opened again where another one comes. A run keeps its drafts
@@ -65,19 +76,25 @@ impl<'a, R: AllocGlobal + Eprint + Files> OutputFile<'a, R> {
         }
     }
 
-    /// The file, where a draft with some bytes waits for its name. A draft without any is taken away.
-    pub(crate) fn into_waiting(self) -> Option<&'a FileNames> {
+    /// What becomes of the draft, where there is one. A draft without a byte is taken away.
+    pub(crate) fn into_written(self) -> Written<'a> {
         let OutputFile {
             rt,
             names,
             drafted,
             began,
+            failed,
             ..
         } = self;
-        if drafted && !began {
-            remove_draft(rt, names);
+        match (drafted, began, failed) {
+            (true, true, false) => Written::Whole(names),
+            (true, true, true) => Written::Cut(names),
+            (true, false, _) => {
+                remove_draft(rt, names);
+                Written::Nothing
+            }
+            (false, _, _) => Written::Nothing,
         }
-        if drafted && began { Some(names) } else { None }
     }
 
     /// Opens the draft, unless it is open.

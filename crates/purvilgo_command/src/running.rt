@@ -101,9 +101,7 @@ fn refusal_of<R: AllocGlobal + Eprint + Files>(
 ) -> Option<ExitCode> {
     match is_one_file_twice(rt, words.files, words.from, targets) {
         Ok(true) => Some(bad_words(rt, RunFault::Twice.text())),
-        Ok(false) if words.no_clobber && tell_taken(rt, &targets.answers) => {
-            Some(ExitCode::FAILURE)
-        }
+        Ok(false) if words.no_clobber && tell_taken(rt, targets) => Some(ExitCode::FAILURE),
         Ok(false) => None,
         Err(_) => Some(no_memory(rt)),
     }
@@ -195,7 +193,7 @@ where
         jobs,
     } = run;
     let told = tell_run(rt, words, &outcomes);
-    let kept = keep_run(rt, &book, jobs, waiting, targets.register.as_ref(), words);
+    let kept = keep_run(rt, &book, jobs, waiting, targets, words);
     status_of(told && kept)
 }
 
@@ -220,14 +218,24 @@ fn tell_run<R: AllocGlobal + Print + Eprint>(
     tell_outcomes(rt, words.files, outcomes)
 }
 
-/// Tells on standard error which acknowledgements are there already, and answers whether any is.
-fn tell_taken<R: Eprint + Files>(rt: &R, answers: &[FileNames]) -> bool {
+/// Tells on standard error which acknowledgements are there already, and whether the register is, where it may take the
+/// place of none. Answers whether any is.
+fn tell_taken<R: Eprint + Files>(rt: &R, targets: &Targets) -> bool {
     let mut taken = false;
-    for answer in answers {
-        if fs::symlink_metadata(rt, answer.word()).is_ok() {
-            let _ = eprintln!(rt; "{}: is there already", answer.word());
-            taken = true;
-        }
+    for answer in &targets.answers {
+        taken = is_taken(rt, answer) || taken;
+    }
+    match &targets.register {
+        Some(register) if !targets.replaces => is_taken(rt, register) || taken,
+        Some(_) | None => taken,
+    }
+}
+
+/// Whether something lies under a name already, which is told on standard error.
+fn is_taken<R: Eprint + Files>(rt: &R, names: &FileNames) -> bool {
+    let taken = fs::symlink_metadata(rt, names.word()).is_ok();
+    if taken {
+        let _ = eprintln!(rt; "{}: is there already", names.word());
     }
     taken
 }

@@ -121,6 +121,16 @@ pub(crate) fn is_one_file_twice<'a, R: AllocGlobal + Files>(
     Ok(places.has_one_twice())
 }
 
+/// Whether both words are there, and lead to one file.
+pub(crate) fn is_one_file<R: Files>(rt: &R, one: Option<&str>, other: Option<&str>) -> bool {
+    match (one, other) {
+        (Some(one), Some(other)) => {
+            one == other || node_of(rt, one).is_some_and(|node| node_of(rt, other) == Some(node))
+        }
+        _ => false,
+    }
+}
+
 /// The places of all files of a run.
 #[derive(Drop)]
 struct Places {

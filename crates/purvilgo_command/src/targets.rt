@@ -1,6 +1,7 @@
 //! The files that a run writes.
 
 use crate::run_command::RunWords;
+use crate::same_files::is_one_file;
 use cwr_field::Memory;
 use kept_file::FileNames;
 use std::rt::Files;
@@ -12,6 +13,9 @@ pub(crate) struct Targets {
     pub(crate) answers: Vec<FileNames>,
     /// The register, where one is to be left.
     pub(crate) register: Option<FileNames>,
+    /// Whether the register may take the place of a file that is there: unless no file is to be written over, and it is
+    /// not the register that the run begins with.
+    pub(crate) replaces: bool,
 }
 
 impl Targets {
@@ -19,7 +23,12 @@ impl Targets {
     pub(crate) fn of<R: AllocGlobal + Files>(rt: &R, words: &RunWords) -> Result<Targets, Memory> {
         let answers = answers_to(rt, words.files)?;
         let register = register_of(rt, words.to)?;
-        Ok(Targets { answers, register })
+        let replaces = !words.no_clobber || is_one_file(rt, words.from, words.to);
+        Ok(Targets {
+            answers,
+            register,
+            replaces,
+        })
     }
 
     /// The lock of the register.

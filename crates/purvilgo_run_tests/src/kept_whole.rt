@@ -43,8 +43,8 @@ const REFUSALS: [(&str, Left); 18] = [
         (
             "a: stopped after 1: write after 200 bytes\n",
             "",
-            Some(200),
-            false,
+            None,
+            true,
             true,
         ),
     ),
@@ -53,8 +53,8 @@ const REFUSALS: [(&str, Left); 18] = [
         (
             "a: stopped after 1: write after 400 bytes\n",
             "",
-            Some(400),
-            false,
+            None,
+            true,
             true,
         ),
     ),
@@ -314,6 +314,27 @@ fn leaves_the_old_or_the_new_at_each_refusal(rt: HostRuntime) -> Result<(), Fail
     Ok(())
 }
 
+/// An acknowledgement that was cut does not outlive a register that was not kept.
+#[test]
+fn removes_what_was_cut_where_the_register_is_not_kept(rt: HostRuntime) -> Result<(), Fail> {
+    let disk = cut_and_stopped(rt.alloc())?;
+    let cut = "a: stopped after 1: write after 300 bytes\n";
+    let stopped = "register: stopped: write after 300 bytes\n";
+    run_into_itself(&rt, &disk, ExitCode::FAILURE, cut, stopped)?;
+    expect_older(rt.alloc(), &disk)?;
+    expect_draft(&disk, "a.ack", "a draft", false)?;
+    expect_draft(&disk, "book", "another", false)
+}
+
+/// A disk on which neither the acknowledgement nor the register has room.
+fn cut_and_stopped<'a>(alloc: Global) -> Result<Disk<'a>, Fail> {
+    let mut disk = told(alloc, 0, "")?;
+    for file in &mut disk.files {
+        file.room = 300;
+    }
+    Ok(disk)
+}
+
 /// Runs over a disk that stops the register in its draft and removes nothing: both files and both drafts are there.
 fn expect_drafts<T: AllocGlobal + Threads + Wait + Sync>(rt: &T, disk: &Disk) -> Result<(), Fail> {
     let stopped = "register: stopped: write after 200 bytes\n";
@@ -435,6 +456,51 @@ fn keeps_the_draft_of_what_it_cannot_link(rt: HostRuntime) -> Result<(), Fail> {
     let held = ("a.ack", Text::Bytes(b""));
     expect_calls(&rt, &["--no-clobber", "a"], &disk, refused, made, held)?;
     expect_draft(&disk, "a.ack", "a draft", true)
+}
+
+/// With `--no-clobber` the register replaces none either, but the one that the run begins with.
+#[test]
+fn leaves_a_register_that_is_there(rt: HostRuntime) -> Result<(), Fail> {
+    let mut disk = disk(rt.alloc(), &[("a.ack", b""), ("book", OLDER)], 0, "")?;
+    disk.nodes.push(("book", Metadata::of_file(24)))?;
+    let refused = (ExitCode::FAILURE, "", "book: is there already\n");
+    let held = ("book", Text::Bytes(OLDER));
+    let words = ["--no-clobber", "--to", "book", "a"];
+    expect_calls(&rt, &words, &disk, refused, "", held)
+}
+
+#[test]
+fn replaces_the_register_that_it_begins_with(rt: HostRuntime) -> Result<(), Fail> {
+    let book = register(rt.alloc(), 1)?;
+    let mut disk = disk(
+        rt.alloc(),
+        &[("a.ack", b""), ("book", book.as_bytes())],
+        0,
+        "",
+    )?;
+    disk.nodes.push(("book", Metadata::of_file(186)))?;
+    let words = ["--no-clobber", "--from", "book", "--to", "book", "a"];
+    run_over(&rt, &words, &disk, (ExitCode::SUCCESS, ACKNOWLEDGED, ""))?;
+    expect_text(rt.alloc(), &disk, "book", Text::Register(2))?;
+    expect_text(rt.alloc(), &disk, "a.ack", Text::Answer("DU"))
+}
+
+/// A register that another program makes meanwhile stays, and the acknowledgement is withheld.
+#[test]
+fn leaves_a_register_that_comes_in_between(rt: HostRuntime) -> Result<(), Fail> {
+    let disk = disk(rt.alloc(), &[("a.ack", b""), ("book", OLDER)], 0, "")?;
+    let stopped = "register: stopped: write after 186 bytes\n";
+    let words = ["--no-clobber", "--to", "book", "a"];
+    run_over(
+        &rt,
+        &words,
+        &disk,
+        (ExitCode::FAILURE, ACKNOWLEDGED, stopped),
+    )?;
+    expect_text(rt.alloc(), &disk, "book", Text::Bytes(OLDER))?;
+    expect_text(rt.alloc(), &disk, "a.ack", Text::Bytes(b""))?;
+    expect_draft(&disk, "a.ack", "a draft", false)?;
+    expect_draft(&disk, "book", "another", false)
 }
 
 /// It has no draft and no lock.

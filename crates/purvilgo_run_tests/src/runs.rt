@@ -1,7 +1,7 @@
 //! The program's runs, over a runtime of the tests' own.
 
 use crate::files::{file_named, kept_files, numbered};
-use cwr_sheets::{miscounted, one_answer, plain_file, rival_claims};
+use cwr_sheets::{miscounted, one_answer, plain_file, rival_claims, same, same_bytes};
 use program_runs::{
     FakeFile, Given, Kept, KeptFile, Step, Text, expect, expect_held, expect_play, run_with,
 };
@@ -104,11 +104,22 @@ fn run_failing<'a, T: AllocGlobal + Threads + Wait + Sync>(
     expect(rt, &words, &files, kept, ExitCode::FAILURE, told, "")
 }
 
+/// A file must hold nothing, and its draft the first 100 bytes of its acknowledgement.
+fn expect_cut(file: &KeptFile, wanted: &[u8]) -> Result<(), Fail> {
+    expect_held(file, b"")?;
+    same("a draft", &file.has_draft(), &true)?;
+    let draft = file.draft.try_lock().ok_or("a file that nobody holds")?;
+    same_bytes(
+        "the draft",
+        draft.as_slice(),
+        wanted.get(..100).ok_or("100 bytes")?,
+    )
+}
+
 /// What files that failed and the last one must hold, where this is its acknowledgement if it came first.
 fn expect_failed(alloc: Global, kept: &[KeptFile], wanted: &[u8]) -> Result<(), Fail> {
     expect_held(file_named(kept, "refused.ack")?, b"older")?;
-    let cut = wanted.get(..100).ok_or("100 bytes")?;
-    expect_held(file_named(kept, "cut.ack")?, cut)?;
+    expect_cut(file_named(kept, "cut.ack")?, wanted)?;
     let whole = file_named(kept, "whole.ack")?;
     let status = if holds(whole, wanted)? { "AS" } else { "DU" };
     expect_held(whole, &one_answer(alloc, status)?)
