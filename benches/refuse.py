@@ -96,7 +96,7 @@ class Command:
 class Run:
     """`run` of some files: of each its name, its bytes, its acknowledgement and the entries that it makes, each without
     its index; the register of `--from`, whether there is `--to`, and further options. Files to be written hold something
-    already, but for acknowledgements under `--no-clobber`."""
+    already, but under `--no-clobber`."""
 
     def __init__(self, jobs, opening=None, to=False, options=()):
         self.jobs, self.opening, self.to = jobs, opening, to
@@ -108,7 +108,8 @@ class Run:
             self.files["old.register"] = register(opening)
         if to:
             self.words += ["--to", "new.register"]
-            self.files["new.register"] = OLD_REGISTER
+            if "--no-clobber" not in options:
+                self.files["new.register"] = OLD_REGISTER
         for name, text, _, _ in jobs:
             self.words.append(name)
             self.files[name] = text

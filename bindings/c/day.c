@@ -1,11 +1,13 @@
-/* Carries a register on for a day: runs files, one after the other, against the registry that REGISTER tells, or against
- * an empty one where there is no such file.
+/* Carries a register on for a day: runs files, one after the other, against the registry that REGISTER tells.
  *
- *     day REGISTER SOCIETY NAME YYYYMMDD HHMMSS FILE..
+ *     day [--begin] REGISTER SOCIETY NAME YYYYMMDD HHMMSS FILE..
  *
- * Tells what became of each FILE as `purvilgo run` does, and writes REGISTER anew and FILE.ack of each that was
- * acknowledged. The register takes its name first, so that nobody finds an answer that it does not know. The status is 0
- * where all files were acknowledged and all was written, else 1. */
+ * With --begin it runs them against an empty one, and REGISTER may not be there; else it must be, so that no wrong word
+ * begins a second history. Tells what became of each FILE as `purvilgo run` does, and writes REGISTER anew and FILE.ack of
+ * each that was acknowledged. The register takes its name first, so that nobody finds an answer that it does not know;
+ * where it cannot be kept, no answer is left, and where an answer then cannot take its name, it stays in FILE.ack.new.
+ * What cannot be read or kept is told on standard error. The status is 0 where all files were acknowledged and all was
+ * written, else 1. */
 #include "files.h"
 #include "purvilgo.h"
 #include "stamps.h"
@@ -51,18 +53,37 @@ static int take_name(const char *path, const char *ending) {
     return rename(before, after);
 }
 
-/* Opens the registry of a register, or an empty one where there is no register. */
-static int open_registry(struct purvilgo_registry *registry, const char *path) {
+/* Takes a draft away. */
+static void drop(const char *path, const char *ending) {
+    char name[4096];
+    snprintf(name, sizeof name, "%s%s.new", path, ending);
+    remove(name);
+}
+
+/* Tells on standard error what is wrong with a file. -1 for whoever answers it. */
+static int tell_wrong(const char *path, const char *what) {
+    fprintf(stderr, "%s%s\n", path, what);
+    return -1;
+}
+
+/* Opens the registry of a register, or an empty one to `begin` it. */
+static int open_registry(struct purvilgo_registry *registry, const char *path, int begin) {
     struct purvilgo_register_fault fault;
     struct bytes text;
-    uint32_t status = PURVILGO_NO_MEMORY;
-    if (access(path, F_OK) != 0)
-        return purvilgo_registry_open(registry) == PURVILGO_DONE ? 0 : -1;
+    uint32_t status;
+    if (begin) {
+        if (access(path, F_OK) == 0)
+            return tell_wrong(path, ": is there already");
+        return purvilgo_registry_open(registry) == PURVILGO_DONE ? 0 : tell_wrong(path, ": stopped: memory");
+    }
     text = read_file(path);
-    if (text.at)
-        status = purvilgo_registry_read(registry, text.at, text.length, &fault);
+    if (!text.at)
+        return tell_wrong(path, ": cannot be read; --begin begins a register");
+    status = purvilgo_registry_read(registry, text.at, text.length, &fault);
     if (status == PURVILGO_FAULTY)
         fprintf(stderr, "%s: refused G%u at line %llu\n", path, fault.number, (unsigned long long)fault.line);
+    else if (status != PURVILGO_DONE)
+        tell_wrong(path, ": stopped: memory");
     free(text.at);
     return status == PURVILGO_DONE ? 0 : -1;
 }
@@ -71,23 +92,34 @@ static int open_registry(struct purvilgo_registry *registry, const char *path) {
 static int run(struct purvilgo_registry *registry, const char *path, const struct purvilgo_stamp *stamp) {
     struct purvilgo_outcome outcome;
     struct bytes file = read_file(path);
-    uint32_t status = PURVILGO_NO_MEMORY;
-    if (file.at)
-        status = purvilgo_registry_run(registry, file.at, file.length, stamp, &outcome);
+    uint32_t status;
+    if (!file.at)
+        return tell_wrong(path, ": cannot be read");
+    status = purvilgo_registry_run(registry, file.at, file.length, stamp, &outcome);
     free(file.at);
     if (status != PURVILGO_DONE)
-        return -1;
+        return tell_wrong(path, ": stopped: memory");
     tell(path, &outcome);
     if (outcome.kind != PURVILGO_ACKNOWLEDGED)
         return -1;
-    return draft(path, ".ack", text_of(registry, purvilgo_registry_acknowledgement, 4096));
+    if (draft(path, ".ack", text_of(registry, purvilgo_registry_acknowledgement, 4096)) != 0)
+        return tell_wrong(path, ".ack: not in place");
+    return 0;
+}
+
+/* Keeps the register of a registry. 0 where it has its name. */
+static int keep(struct purvilgo_registry *registry, const char *kept) {
+    uint64_t entries = 0;
+    purvilgo_registry_entries(registry, &entries);
+    if (draft(kept, "", text_of(registry, purvilgo_registry_register, 12 + 192 * entries)) == 0 && take_name(kept, "") == 0)
+        return 0;
+    drop(kept, "");
+    return tell_wrong(kept, ": not kept");
 }
 
 /* Runs all files, and keeps the register and then the acknowledgements. */
 static int day(struct purvilgo_registry *registry, const char *kept, const struct purvilgo_stamp *stamp, char **files,
                int count) {
-    struct bytes register_text;
-    uint64_t entries = 0;
     int worst = 0;
     for (int i = 0; i < count; i++) {
         if (run(registry, files[i], stamp) != 0) {
@@ -95,25 +127,32 @@ static int day(struct purvilgo_registry *registry, const char *kept, const struc
             worst = 1;
         }
     }
-    purvilgo_registry_entries(registry, &entries);
-    register_text = text_of(registry, purvilgo_registry_register, 12 + 192 * entries);
-    if (draft(kept, "", register_text) != 0 || take_name(kept, "") != 0)
+    if (keep(registry, kept) != 0) {
+        for (int i = 0; i < count; i++)
+            if (files[i])
+                drop(files[i], ".ack");
         return 1;
-    for (int i = 0; i < count; i++)
-        if (files[i] && take_name(files[i], ".ack") != 0)
+    }
+    for (int i = 0; i < count; i++) {
+        if (files[i] && take_name(files[i], ".ack") != 0) {
+            tell_wrong(files[i], ".ack: not in place");
             worst = 1;
+        }
+    }
     return worst;
 }
 
 int main(int argc, char **argv) {
     struct purvilgo_registry registry = PURVILGO_REGISTRY_SHUT;
     struct purvilgo_stamp stamp;
-    int told = 1;
+    int told = 1, begin = argc > 1 && strcmp(argv[1], "--begin") == 0;
+    argv += begin;
+    argc -= begin;
     if (argc < 7 || set_stamp(&stamp, argv + 2) != 0) {
-        fprintf(stderr, "day REGISTER SOCIETY NAME YYYYMMDD HHMMSS FILE..\n");
+        fprintf(stderr, "day [--begin] REGISTER SOCIETY NAME YYYYMMDD HHMMSS FILE..\n");
         return 2;
     }
-    if (open_registry(&registry, argv[1]) == 0)
+    if (open_registry(&registry, argv[1], begin) == 0)
         told = day(&registry, argv[1], &stamp, argv + 6, argc - 6);
     purvilgo_registry_close(&registry);
     return told;
