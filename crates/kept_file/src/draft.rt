@@ -10,8 +10,8 @@ use std::{fs, io};
 /// Who may read and write a draft until it has the permissions of the file that it is to replace: its owner.
 const OWNER_ALONE: u32 = 0o600;
 
-/// Whether a file is replaced by a draft: it is a regular file, or it is not there yet. So is a folder, whose name no draft
-/// can take: what is written for it stays in the draft.
+/// Whether a draft is made for a file: for a regular file, for one that is not there yet, and for a folder, whose name no
+/// draft can take.
 ///
 /// What is something else, as a device or a pipe, is written where it is.
 pub fn takes_draft<R: Files>(rt: &R, names: &FileNames) -> bool {
@@ -28,15 +28,11 @@ pub fn takes_draft<R: Files>(rt: &R, names: &FileNames) -> bool {
 /// that it is to replace, and its owner where the system lets it. A file that is there and may not be written is an
 /// error, although a draft could be made beside it.
 pub fn open_draft<R: Files>(rt: &R, names: &FileNames) -> io::Result<R::File> {
-    let Ok(old) = fs::metadata(rt, names.name()) else {
-        return new_draft(rt, names, File::options().write(true));
+    let old = match fs::metadata(rt, names.name()) {
+        Ok(old) if old.is_file() => old,
+        Ok(old) if !old.is_dir() => return fs::create(rt, names.name()),
+        Ok(_) | Err(_) => return new_draft(rt, names, File::options().write(true)),
     };
-    if old.is_dir() {
-        return new_draft(rt, names, File::options().write(true));
-    }
-    if !old.is_file() {
-        return fs::create(rt, names.name());
-    }
     let _writable = File::options().write(true).open(rt, names.name())?;
     let draft = new_draft(rt, names, File::options().write(true).mode(OWNER_ALONE))?;
     take_owner(rt, names, &old);
@@ -104,6 +100,26 @@ pub fn name_new_draft<R: Files>(rt: &R, names: &FileNames) -> io::Result<()> {
         }
         Err(error) if has_no_links(&error) => {
             let _held = File::create_new(rt, names.name())?;
+            name_draft(rt, names)
+        }
+        Err(error) => Err(error),
+    }
+}
+
+/// Gives the draft of a file the file's name, where no file lies there; else it is an error.
+///
+/// Where the system has no second names for a file, it is looked once more whether one lies there, so that nobody finds an
+/// empty file meanwhile.
+pub fn name_first_draft<R: Files>(rt: &R, names: &FileNames) -> io::Result<()> {
+    match fs::hard_link(rt, names.draft(), names.name()) {
+        Ok(()) => {
+            remove_draft(rt, names);
+            Ok(())
+        }
+        Err(error) if has_no_links(&error) => {
+            if fs::symlink_metadata(rt, names.name()).is_ok() {
+                return Err(io::Error::from(ErrorKind::AlreadyExists));
+            }
             name_draft(rt, names)
         }
         Err(error) => Err(error),

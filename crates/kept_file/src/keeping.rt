@@ -9,8 +9,8 @@ use crate::following::{drop_followers, name_followers};
 use crate::pieces::OnePiece;
 use crate::{CallFailed, NotKept, Pieces, Place};
 
-/// Replaces the file under the name by this text, and then puts each follower in place, whose draft is put on the disk
-/// before.
+/// Puts the drafts of the followers on the disk, replaces the file under the name by this text, and then puts each follower
+/// in place.
 ///
 /// At every moment, and after a crash at any moment, whoever looks under the names finds the old file or the whole
 /// text, and a new follower only where the text is. Where the text is not kept, the followers stay as they are, and

@@ -190,7 +190,7 @@ enum Past<A: Allocator> {
 
 /// A place in memory, which tells its bytes. It fails at one of its calls, where that is asked for.
 ///
-/// A crash undoes a name that is not on the disk; all else it leaves as it is.
+/// A crash may undo a name that is not on the disk; all else it leaves as it is.
 #[derive(Drop)]
 pub struct MemoryPlace<A: Allocator + Copy = Global> {
     alloc: A,
@@ -239,8 +239,8 @@ impl<A: Allocator + Copy> MemoryPlace<A> {
         }
     }
 
-    /// What a crash leaves: a name that is not on the disk is undone, but that of a follower of which `stayed` says that the
-    /// disk had it all the same.
+    /// What a crash leaves: names that are not on the disk are undone, but those of followers of which `stayed` says that
+    /// the disk had them all the same.
     pub fn crash(&mut self, stayed: &[bool])
         ensures fails { ⟦<MemoryPlace<A> as Place>⟧.has_failed self.new ≡ ⟦<MemoryPlace<A> as Place>⟧.has_failed self.old }
         ensures left { IfSome (⟦<MemoryPlace<A> as Place>⟧.told self.new) (λ s. ⟦<MemoryPlace<A> as Place>⟧.may_find self.old s.names) }
@@ -413,7 +413,7 @@ impl<A: Allocator + Copy> Place for MemoryPlace<A> {
         Ok(())
     }
 
-    /// Each follower is in a folder of its own.
+    /// Each name is put there by a call of its own, as if each follower lay in a folder of its own.
     fn sync_follower_names(&mut self) {
         self.remember();
         for at in 0..self.shelf.followers.len() {

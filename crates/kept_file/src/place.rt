@@ -11,8 +11,8 @@ use crate::CallFailed;
 ///
 /// A draft takes its name at once: whoever looks there finds the old file or the whole draft. What a crash leaves is
 /// on the disk only once it was synced: the drafts and the names of the followers are synced together, since each wait
-/// for the disk is long, and many waits beside one another are hardly longer than one. Once a call failed that speaks of the file or its draft, the place has failed,
-/// and its draft can only be dropped.
+/// for the disk is long, and many waits beside one another are hardly longer than one. Once a call failed that speaks of
+/// the file or its draft, the place has failed, and its draft can only be dropped.
 pub trait Place {
     // What lies under the names, and in the drafts, where the type tells it.
     ghost told: { Self → Option State };

@@ -19,7 +19,7 @@ const UNASKED: u64 = 0;
 /// The answer that a draft is on the disk.
 const SYNCED: u64 = 1;
 
-/// The answer that it is not, for a reason without a number; a reason of the system is this and its number, and 1.
+/// The answer that it is not, for a reason without a number; with the number n of the system it is this, n, and 1 more.
 const FAILED: u64 = 2;
 
 /// What the disk answered to a thread that put a draft there.
@@ -37,7 +37,7 @@ impl Answer {
     }
 
     /// Keeps what it answered.
-    fn hear(&self, done: io::Result<()>) {
+    fn keep(&self, done: io::Result<()>) {
         let code = match done {
             Ok(()) => SYNCED,
             Err(error) => code_of(&error),
@@ -93,15 +93,20 @@ impl Round {
             let Some(follower) = followers.get(at) else {
                 return;
             };
-            follower.answer.hear(sync_draft(rt, follower.names));
+            if follower.is_written() {
+                follower.answer.keep(sync_draft(rt, follower.names));
+            }
         }
     }
 
-    /// Whether another thread is worth its start behind so many: there is more than one draft for it, and none of those
-    /// before it has gone through more than two.
-    fn is_slow(&self, threads: u64, drafts: usize) -> bool {
+    /// Whether one more thread is worth its start behind so many: there are more drafts than threads, at least two of them
+    /// are not begun, and the threads have begun at most two each.
+    fn wants_thread(&self, threads: u64, drafts: usize) -> bool {
         let begun = self.begun.load(Ordering::SeqCst);
-        begun <= threads.saturating_mul(2) && begun.saturating_add(1) < drafts as u64
+        let drafts = drafts as u64;
+        threads.saturating_add(1) < drafts
+            && begun.saturating_add(1) < drafts
+            && begun <= threads.saturating_mul(2)
     }
 }
 
@@ -118,7 +123,7 @@ where
     R::Dir: Send,
     requires few { threads ≤ 16 }
 {
-    if threads + 1 < MOST_THREADS && round.is_slow(threads, followers.len()) {
+    if threads + 1 < MOST_THREADS && round.wants_thread(threads, followers.len()) {
         join(
             rt,
             move ||

@@ -1,8 +1,8 @@
 ghost use Rattle.std.specs.Prelude.{◌≡◌, ◌≤◌, None, false, is_err, length, ⊤, IfOk};
 
 use crate::draft::{
-    name_draft, name_new_draft, open_draft, remove_draft, sync_directory, sync_draft, sync_file,
-    takes_draft,
+    name_draft, name_first_draft, name_new_draft, open_draft, remove_draft, sync_directory,
+    sync_draft, sync_file, takes_draft,
 };
 use crate::rounds::{Answer, Round, sync_beside};
 use crate::{CallFailed, FileNames, Listener, Place};
@@ -59,23 +59,30 @@ impl<'a> Follower<'a> {
 
     /// Puts the draft on the disk, unless it is there.
     fn sync_draft<R: Files>(&mut self, rt: &R) {
-        if self.stage == Stage::Written {
+        if self.is_written() {
             let synced = sync_draft(rt, self.names);
             self.goes_on(synced, Stage::Synced);
         }
     }
 
     /// Goes on by what the disk answered to a thread, if it was asked.
-    fn hear(&mut self) {
-        if let Some(synced) = self.answer.told() {
-            self.goes_on(synced, Stage::Synced);
+    fn take_answer(&mut self) {
+        if self.is_written() {
+            if let Some(synced) = self.answer.told() {
+                self.goes_on(synced, Stage::Synced);
+            }
         }
+    }
+
+    /// Whether the draft is written, and nothing was tried with it.
+    pub(crate) fn is_written(&self) -> bool {
+        self.stage == Stage::Written
     }
 
     /// Gives the draft its name, where it is on the disk.
     fn take_name<R: Files>(&mut self, rt: &R) {
         let named = match self.stage {
-            Stage::Synced => draft_named(rt, self.names, self.replaces),
+            Stage::Synced => give_name(rt, self.names, self.replaces),
             Stage::Written => Err(io::Error::from(ErrorKind::NotFound)),
             Stage::Named | Stage::InPlace | Stage::Refused => return,
         };
@@ -107,12 +114,12 @@ where
 {
     sync_beside(rt, &Round::new(), followers, 0);
     for at in 0..followers.len() {
-        followers[at].hear();
+        followers[at].take_answer();
     }
 }
 
 /// Gives a draft its name, in place of a file that is there or of none.
-fn draft_named<R: Files>(rt: &R, names: &FileNames, replaces: bool) -> io::Result<()> {
+fn give_name<R: Files>(rt: &R, names: &FileNames, replaces: bool) -> io::Result<()> {
     if replaces {
         name_draft(rt, names)
     } else {
@@ -122,8 +129,8 @@ fn draft_named<R: Files>(rt: &R, names: &FileNames, replaces: bool) -> io::Resul
 
 /// A place in the file system. It tells no bytes.
 ///
-/// Each folder in which followers took their names is put on the disk once. Drafts that are not on the disk, as
-/// [`sync_drafts`] puts them there, are put there one after another.
+/// Each folder in which followers took their names is put on the disk once; where it is spelled in two ways, once for each.
+/// Drafts that [`sync_drafts`] has not put on the disk are put there one after another.
 ///
 /// A file that is no regular one, as a device or a pipe, has no draft: what is written for it goes into it.
 #[derive(Drop)]
@@ -212,7 +219,11 @@ impl<'a, R: Files, L: Listener + Drop> SystemPlace<'a, R, L> {
         let names = self.names()?;
         self.open = None;
         if self.is_draft {
-            draft_named(self.rt, names, self.replaces)?;
+            if self.replaces {
+                name_draft(self.rt, names)?;
+            } else {
+                name_first_draft(self.rt, names)?;
+            }
         }
         Ok(())
     }
@@ -236,8 +247,8 @@ impl<'a, R: Files, L: Listener + Drop> SystemPlace<'a, R, L> {
         self.tell_trouble(at);
     }
 
-    /// Puts the folder of a follower on the disk, where that has a name which is not there, and with it the names of all
-    /// that took theirs in this folder.
+    /// Puts the folder of a follower on the disk, where its name is not there yet, and with it the names of all followers in
+    /// that folder.
     fn sync_folder_of(&mut self, at: usize)
         ensures { self.new.failed ≡ self.old.failed }
     {
@@ -367,8 +378,9 @@ impl<R: Files, L: Listener + Drop> Place for SystemPlace<'_, R, L> {
     }
 
     fn put_follower(&mut self, at: usize) -> Result<(), CallFailed> {
-        if let Some(follower) = self.followers.get_mut(at) {
-            follower.take_name(self.rt);
+        match self.followers.get_mut(at) {
+            Some(follower) => follower.take_name(self.rt),
+            None => return Err(CallFailed),
         }
         self.tell_trouble(at);
         if self.is_refused(at) {
@@ -386,9 +398,7 @@ impl<R: Files, L: Listener + Drop> Place for SystemPlace<'_, R, L> {
 
     fn drop_follower(&mut self, at: usize) {
         if let Some(follower) = self.followers.get(at) {
-            if takes_draft(self.rt, follower.names) {
-                remove_draft(self.rt, follower.names);
-            }
+            remove_draft(self.rt, follower.names);
         }
     }
 }

@@ -45,8 +45,8 @@ pub enum RegisterNotKept {
     Stopped(NotKept),
 }
 
-/// Keeps the register of a book under the name of a place, and then puts the followers in place, which are the
-/// acknowledgements of its entries, with their drafts on the disk before.
+/// Puts the drafts of the followers on the disk, which are the acknowledgements of a book's entries, keeps the register of
+/// the book under the name of a place, and then puts the followers in place.
 ///
 /// At every moment, and after a crash at any moment, whoever looks under the names finds the old register or the whole
 /// new one, and a new acknowledgement only where the new register is. Where the register is not kept, the

@@ -3,7 +3,7 @@
 ghost use Rattle.std.specs.Prelude.{◌≡◌, false, IfSome};
 ghost use Rattle.kept_file.specs.Looking.{Only};
 
-use crate::output::{OutputFile, Written};
+use crate::output::{LeftDraft, OutputFile};
 use crate::run_command::RunWords;
 use crate::targets::Targets;
 use crate::telling::tell_reason;
@@ -19,12 +19,13 @@ use std::rt::Files;
 use std::thread::Threads;
 use work_registry::Book;
 
-/// Acknowledgements that wait for their names.
+/// The acknowledgements that a run left as drafts.
 #[derive(Drop)]
 pub(crate) struct Waiting<'a> {
+    /// Those that are whole, and wait for their names.
     names: Vec<&'a FileNames>,
     followers: Vec<Follower<'a>>,
-    /// Those of which a write failed: they get no name.
+    /// Those of which a write failed, which get no name.
     cut: Vec<&'a FileNames>,
 }
 
@@ -70,8 +71,8 @@ impl<R: AllocGlobal + Eprint> Listener for Telling<'_, R> {
 /// Keeps the register of a book, where one is asked for, and then gives the acknowledgements their names. Answers whether
 /// all of it is in place. What is not is told on standard error.
 ///
-/// Where the register cannot be kept, the acknowledgements are taken away, and those of before are as they were. One that
-/// was cut stays where it was written, and gets no name.
+/// Where the register cannot be kept, all drafts are taken away, those of acknowledgements that were cut too, and those of
+/// before are as they were. Else one that was cut stays in its draft, and gets no name.
 pub(crate) fn keep_run<'a, I: Drop, R: AllocGlobal + Eprint + Files + Threads + Sync>(
     rt: &'a R,
     book: &Book,
@@ -100,16 +101,16 @@ fn add_all<'a, I: Drop, R: AllocGlobal + Eprint + Files>(
     let mut added = true;
     for job in jobs {
         let Job { reader: _, writer } = job;
-        match writer.into_written() {
-            Written::Whole(names) => {
+        match writer.into_draft() {
+            LeftDraft::Whole(names) => {
                 if waiting.add(names, replaces).is_err() {
                     added = tell_out_of_place(rt, names);
                 }
             }
-            Written::Cut(names) => {
+            LeftDraft::Cut(names) => {
                 let _ = waiting.cut.push(names);
             }
-            Written::Nothing => {}
+            LeftDraft::None => {}
         }
     }
     added
@@ -136,7 +137,7 @@ where
     let register = targets.register.as_ref();
     sync_drafts(rt, &mut followers);
     let mut place = SystemPlace::new(rt, register, followers, Telling { rt, verbose });
-    if !targets.replaces {
+    if !targets.replaces_register {
         place.replace_none();
     }
     let kept = keep_at(rt, &mut place, book, register, verbose);
@@ -145,7 +146,7 @@ where
             remove_draft(rt, names);
         }
     }
-    are_in_place(rt, &place, &names) && kept
+    kept && are_in_place(rt, &place, &names)
 }
 
 /// Keeps the register of a book at its place, where one is asked for, and puts those that follow it in theirs. Answers

@@ -18,9 +18,9 @@ const LAST_PIECE: usize = 65_000;
 
 /// The draft that a job leaves.
 #[derive(Clone, Copy, Debug)]
-pub(crate) enum Written<'a> {
-    /// None: no byte was written, or what was written was no draft.
-    Nothing,
+pub(crate) enum LeftDraft<'a> {
+    /// No byte was written, or what was written was no draft.
+    None,
     /// The first bytes of an acknowledgement, of which a write failed. It is not to have its name.
     Cut(&'a FileNames),
     /// An acknowledgement, which waits for its name.
@@ -32,7 +32,7 @@ pub(crate) enum Written<'a> {
 /// It is closed behind what looks like the last piece, and opened again where another one comes. A run keeps its drafts
 /// until all of its workers have ended, and a table of open files that grows while there are threads holds all of them up.
 ///
-/// What is no regular file, a device or a pipe, has no draft: it is written itself. A file or a draft that cannot be
+/// What is neither a regular file nor a folder, as a device or a pipe, has no draft: it is written itself. A file or a draft that cannot be
 /// opened counts as a failed write.
 #[derive(Drop)]
 pub(crate) struct OutputFile<'a, R: Files> {
@@ -77,7 +77,7 @@ impl<'a, R: AllocGlobal + Eprint + Files> OutputFile<'a, R> {
     }
 
     /// What becomes of the draft, where there is one. A draft without a byte is taken away.
-    pub(crate) fn into_written(self) -> Written<'a> {
+    pub(crate) fn into_draft(self) -> LeftDraft<'a> {
         let OutputFile {
             rt,
             names,
@@ -87,13 +87,13 @@ impl<'a, R: AllocGlobal + Eprint + Files> OutputFile<'a, R> {
             ..
         } = self;
         match (drafted, began, failed) {
-            (true, true, false) => Written::Whole(names),
-            (true, true, true) => Written::Cut(names),
+            (true, true, false) => LeftDraft::Whole(names),
+            (true, true, true) => LeftDraft::Cut(names),
             (true, false, _) => {
                 remove_draft(rt, names);
-                Written::Nothing
+                LeftDraft::None
             }
-            (false, _, _) => Written::Nothing,
+            (false, _, _) => LeftDraft::None,
         }
     }
 

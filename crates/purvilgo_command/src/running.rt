@@ -226,7 +226,7 @@ fn tell_taken<R: Eprint + Files>(rt: &R, targets: &Targets) -> bool {
         taken = is_taken(rt, answer) || taken;
     }
     match &targets.register {
-        Some(register) if !targets.replaces => is_taken(rt, register) || taken,
+        Some(register) if !targets.replaces_register => is_taken(rt, register) || taken,
         Some(_) | None => taken,
     }
 }

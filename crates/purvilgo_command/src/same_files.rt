@@ -121,7 +121,7 @@ pub(crate) fn is_one_file_twice<'a, R: AllocGlobal + Files>(
     Ok(places.has_one_twice())
 }
 
-/// Whether both words are there, and lead to one file.
+/// Whether both words are given, and lead to one file.
 pub(crate) fn is_one_file<R: Files>(rt: &R, one: Option<&str>, other: Option<&str>) -> bool {
     match (one, other) {
         (Some(one), Some(other)) => {

@@ -13,9 +13,9 @@ pub(crate) struct Targets {
     pub(crate) answers: Vec<FileNames>,
     /// The register, where one is to be left.
     pub(crate) register: Option<FileNames>,
-    /// Whether the register may take the place of a file that is there: unless no file is to be written over, and it is
-    /// not the register that the run begins with.
-    pub(crate) replaces: bool,
+    /// Whether the register may take the place of a file that is there: with `--no-clobber` only of the one that the run
+    /// goes on from.
+    pub(crate) replaces_register: bool,
 }
 
 impl Targets {
@@ -23,11 +23,11 @@ impl Targets {
     pub(crate) fn of<R: AllocGlobal + Files>(rt: &R, words: &RunWords) -> Result<Targets, Memory> {
         let answers = answers_to(rt, words.files)?;
         let register = register_of(rt, words.to)?;
-        let replaces = !words.no_clobber || is_one_file(rt, words.from, words.to);
+        let replaces_register = !words.no_clobber || is_one_file(rt, words.from, words.to);
         Ok(Targets {
             answers,
             register,
-            replaces,
+            replaces_register,
         })
     }
 

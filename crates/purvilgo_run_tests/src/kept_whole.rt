@@ -314,6 +314,17 @@ fn leaves_the_old_or_the_new_at_each_refusal(rt: HostRuntime) -> Result<(), Fail
     Ok(())
 }
 
+/// An acknowledgement that the disk did not take is not told of where the register is not kept: it is withheld.
+#[test]
+fn withholds_what_the_disk_did_not_take(rt: HostRuntime) -> Result<(), Fail> {
+    let disk = told(rt.alloc(), 0, "sync")?;
+    let stopped = "register: stopped: write after 360 bytes\n";
+    run_into_itself(&rt, &disk, ExitCode::FAILURE, ACKNOWLEDGED, stopped)?;
+    expect_older(rt.alloc(), &disk)?;
+    expect_draft(&disk, "a.ack", "a draft", false)?;
+    expect_draft(&disk, "book", "another", false)
+}
+
 /// An acknowledgement that was cut does not outlive a register that was not kept.
 #[test]
 fn removes_what_was_cut_where_the_register_is_not_kept(rt: HostRuntime) -> Result<(), Fail> {
@@ -483,6 +494,17 @@ fn replaces_the_register_that_it_begins_with(rt: HostRuntime) -> Result<(), Fail
     run_over(&rt, &words, &disk, (ExitCode::SUCCESS, ACKNOWLEDGED, ""))?;
     expect_text(rt.alloc(), &disk, "book", Text::Register(2))?;
     expect_text(rt.alloc(), &disk, "a.ack", Text::Answer("DU"))
+}
+
+#[test]
+fn links_a_register_that_replaces_none(rt: HostRuntime) -> Result<(), Fail> {
+    let disk = disk(rt.alloc(), &[("a.ack", b""), ("book", b"")], 0, "")?;
+    let done = (ExitCode::SUCCESS, ACKNOWLEDGED, "");
+    let made =
+        "lock book.lock\ncreate a.ack\nwrite a.ack\nwrite a.ack\nwrite a.ack\nsync a.ack\ncreate book\nwrite book\nsync book\nlink book\nremove book\nsync .\nlink a.ack\nremove a.ack\nsync .\n";
+    let held = ("book", Text::Register(1));
+    let words = ["--no-clobber", "--to", "book", "a"];
+    expect_calls(&rt, &words, &disk, done, made, held)
 }
 
 /// A register that another program makes meanwhile stays, and the acknowledgement is withheld.
