@@ -93,16 +93,12 @@ pub fn name_draft<R: Files>(rt: &R, names: &FileNames) -> io::Result<()> {
 ///
 /// Where the system has no second names for a file, an empty file holds the name until the draft has it.
 pub fn name_new_draft<R: Files>(rt: &R, names: &FileNames) -> io::Result<()> {
-    match fs::hard_link(rt, names.draft(), names.name()) {
-        Ok(()) => {
-            remove_draft(rt, names);
-            Ok(())
-        }
+    match link_draft(rt, names) {
         Err(error) if has_no_links(&error) => {
             let _held = File::create_new(rt, names.name())?;
             name_draft(rt, names)
         }
-        Err(error) => Err(error),
+        linked => linked,
     }
 }
 
@@ -111,19 +107,22 @@ pub fn name_new_draft<R: Files>(rt: &R, names: &FileNames) -> io::Result<()> {
 /// Where the system has no second names for a file, it is looked once more whether one lies there, so that nobody finds an
 /// empty file meanwhile.
 pub fn name_first_draft<R: Files>(rt: &R, names: &FileNames) -> io::Result<()> {
-    match fs::hard_link(rt, names.draft(), names.name()) {
-        Ok(()) => {
-            remove_draft(rt, names);
-            Ok(())
-        }
+    match link_draft(rt, names) {
         Err(error) if has_no_links(&error) => {
             if fs::symlink_metadata(rt, names.name()).is_ok() {
                 return Err(io::Error::from(ErrorKind::AlreadyExists));
             }
             name_draft(rt, names)
         }
-        Err(error) => Err(error),
+        linked => linked,
     }
+}
+
+/// Gives the draft of a file the file's name as a second one, and takes the first away.
+fn link_draft<R: Files>(rt: &R, names: &FileNames) -> io::Result<()> {
+    fs::hard_link(rt, names.draft(), names.name())?;
+    remove_draft(rt, names);
+    Ok(())
 }
 
 /// Whether the system refuses any second name.

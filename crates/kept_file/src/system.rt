@@ -1,4 +1,4 @@
-ghost use Rattle.std.specs.Prelude.{◌≡◌, ◌≤◌, None, false, is_err, length, ⊤, IfOk};
+ghost use Rattle.std.specs.Prelude.{◌≡◌, ◌≤◌, None, false, is_err, length, map, ⊤, IfOk};
 
 use crate::draft::{
     name_draft, name_first_draft, name_new_draft, open_draft, remove_draft, sync_directory,
@@ -66,7 +66,10 @@ impl<'a> Follower<'a> {
     }
 
     /// Goes on by what the disk answered to a thread, if it was asked.
-    fn take_answer(&mut self) {
+    fn take_answer(&mut self)
+        ensures names { self.new.names ≡ self.old.names }
+        ensures replaces { self.new.replaces ≡ self.old.replaces }
+    {
         if self.is_written() {
             if let Some(synced) = self.answer.told() {
                 self.goes_on(synced, Stage::Synced);
@@ -90,7 +93,10 @@ impl<'a> Follower<'a> {
     }
 
     /// Goes on to a stage, or is refused.
-    fn goes_on(&mut self, done: io::Result<()>, stage: Stage) {
+    fn goes_on(&mut self, done: io::Result<()>, stage: Stage)
+        ensures names { self.new.names ≡ self.old.names }
+        ensures replaces { self.new.replaces ≡ self.old.replaces }
+    {
         match done {
             Ok(()) => self.stage = stage,
             Err(error) => {
@@ -111,6 +117,9 @@ pub fn sync_drafts<R: Files + Threads + Sync>(rt: &R, followers: &mut [Follower<
 where
     R::File: Send,
     R::Dir: Send,
+    // They are the same, in their order.
+    ensures names { map (λ f. f.names) followers.new ≡ map (λ f. f.names) followers.old }
+    ensures replaces { map (λ f. f.replaces) followers.new ≡ map (λ f. f.replaces) followers.old }
 {
     sync_beside(rt, &Round::new(), followers, 0);
     for at in 0..followers.len() {

@@ -81,7 +81,7 @@ fn a_draft_that_is_not_synced_or_named(rt: HostRuntime) -> Result<(), Fail> {
 }
 
 #[test]
-fn followers_that_take_no_name(rt: HostRuntime) -> Result<(), Fail> {
+fn followers_that_are_refused(rt: HostRuntime) -> Result<(), Fail> {
     let alloc = rt.alloc();
     expect_kept(alloc, Some(9), &WITHOUT_FIRST)?;
     expect_kept(alloc, Some(10), &WITHOUT_SECOND)

@@ -4,6 +4,8 @@
 #[cfg(test)]
 mod at_once;
 #[cfg(test)]
+mod disks;
+#[cfg(test)]
 mod ends;
 #[cfg(test)]
 mod files;
@@ -15,5 +17,7 @@ mod kept_whole;
 mod large_files;
 #[cfg(test)]
 mod limits;
+#[cfg(test)]
+mod names_taken;
 #[cfg(test)]
 mod runs;

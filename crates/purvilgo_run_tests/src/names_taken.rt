@@ -1,0 +1,217 @@
+//! How registers and acknowledgements take their names: by which calls, over what, and where another file is.
+
+use crate::disks::{
+    ACKNOWLEDGED, OLDER, disk, expect_calls, expect_draft, expect_on, expect_text, older, run_over,
+};
+use cwr_sheets::{plain_file, same};
+use program_runs::{Disk, FakeFile, Text, register, run_with};
+use std::alloc::Global;
+use std::fs;
+use std::fs::Metadata;
+use std::process::ExitCode;
+use std::sync::Wait;
+use std::test::Fail;
+use std::thread::Threads;
+
+/// The register of `--from` is not there, and nothing is told of it.
+#[test]
+fn leaves_a_register_that_is_in_use(rt: HostRuntime) -> Result<(), Fail> {
+    let disk = older(rt.alloc(), 0, "")?;
+    let words = ["--from", "absent", "--to", "taken", "a"];
+    let used = (ExitCode::FAILURE, "", "register: in use\n");
+    let held = ("a.ack", Text::Bytes(OLDER));
+    expect_calls(&rt, &words, &disk, used, "lock taken.lock\n", held)
+}
+
+/// Nothing is locked where no register is left, and the acknowledgement takes its name once the worker has ended.
+#[test]
+fn puts_an_acknowledgement_in_place_without_a_register(rt: HostRuntime) -> Result<(), Fail> {
+    let disk = older(rt.alloc(), 0, "")?;
+    let done = (ExitCode::SUCCESS, ACKNOWLEDGED, "");
+    let made =
+        "create a.ack\nwrite a.ack\nwrite a.ack\nwrite a.ack\nsync a.ack\nrename a.ack\nsync .\n";
+    let held = ("a.ack", Text::Answer("AS"));
+    expect_calls(&rt, &["a"], &disk, done, made, held)
+}
+
+#[test]
+fn tells_an_acknowledgement_that_is_not_in_place(rt: HostRuntime) -> Result<(), Fail> {
+    let disk = older(rt.alloc(), 6, "")?;
+    let refused = (ExitCode::FAILURE, ACKNOWLEDGED, "a.ack: not in place\n");
+    let made = "create a.ack\nwrite a.ack\nwrite a.ack\nwrite a.ack\nsync a.ack\nrename a.ack\n";
+    let held = ("a.ack", Text::Bytes(OLDER));
+    expect_calls(&rt, &["a"], &disk, refused, made, held)
+}
+
+/// With `--no-clobber` an acknowledgement takes its name by a link, which replaces nothing.
+#[test]
+fn links_an_acknowledgement_that_replaces_none(rt: HostRuntime) -> Result<(), Fail> {
+    let disk = disk(rt.alloc(), &[("a.ack", b"")], 0, "")?;
+    let done = (ExitCode::SUCCESS, ACKNOWLEDGED, "");
+    let made =
+        "create a.ack\nwrite a.ack\nwrite a.ack\nwrite a.ack\nsync a.ack\nlink a.ack\nremove a.ack\nsync .\n";
+    let held = ("a.ack", Text::Answer("AS"));
+    expect_calls(&rt, &["--no-clobber", "a"], &disk, done, made, held)?;
+    expect_draft(&disk, "a.ack", "a draft", false)
+}
+
+#[test]
+fn keeps_the_draft_of_what_it_cannot_link(rt: HostRuntime) -> Result<(), Fail> {
+    let disk = disk(rt.alloc(), &[("a.ack", b"")], 6, "")?;
+    let refused = (ExitCode::FAILURE, ACKNOWLEDGED, "a.ack: not in place\n");
+    let made = "create a.ack\nwrite a.ack\nwrite a.ack\nwrite a.ack\nsync a.ack\nlink a.ack\n";
+    let held = ("a.ack", Text::Bytes(b""));
+    expect_calls(&rt, &["--no-clobber", "a"], &disk, refused, made, held)?;
+    expect_draft(&disk, "a.ack", "a draft", true)
+}
+
+/// With `--no-clobber` the register replaces none either, but the one that the run begins with.
+#[test]
+fn leaves_a_register_that_is_there(rt: HostRuntime) -> Result<(), Fail> {
+    let mut disk = disk(rt.alloc(), &[("a.ack", b""), ("book", OLDER)], 0, "")?;
+    disk.nodes.push(("book", Metadata::of_file(24)))?;
+    let refused = (ExitCode::FAILURE, "", "book: is there already\n");
+    let held = ("book", Text::Bytes(OLDER));
+    let words = ["--no-clobber", "--to", "book", "a"];
+    expect_calls(&rt, &words, &disk, refused, "", held)
+}
+
+#[test]
+fn replaces_the_register_that_it_begins_with(rt: HostRuntime) -> Result<(), Fail> {
+    let book = register(rt.alloc(), 1)?;
+    let mut disk = disk(
+        rt.alloc(),
+        &[("a.ack", b""), ("book", book.as_bytes())],
+        0,
+        "",
+    )?;
+    disk.nodes.push(("book", Metadata::of_file(186)))?;
+    let words = ["--no-clobber", "--from", "book", "--to", "book", "a"];
+    run_over(&rt, &words, &disk, (ExitCode::SUCCESS, ACKNOWLEDGED, ""))?;
+    expect_text(rt.alloc(), &disk, "book", Text::Register(2))?;
+    expect_text(rt.alloc(), &disk, "a.ack", Text::Answer("DU"))
+}
+
+#[test]
+fn links_a_register_that_replaces_none(rt: HostRuntime) -> Result<(), Fail> {
+    let disk = disk(rt.alloc(), &[("a.ack", b""), ("book", b"")], 0, "")?;
+    let done = (ExitCode::SUCCESS, ACKNOWLEDGED, "");
+    let made =
+        "lock book.lock\ncreate a.ack\nwrite a.ack\nwrite a.ack\nwrite a.ack\nsync a.ack\ncreate book\nwrite book\nsync book\nlink book\nremove book\nsync .\nlink a.ack\nremove a.ack\nsync .\n";
+    let held = ("book", Text::Register(1));
+    let words = ["--no-clobber", "--to", "book", "a"];
+    expect_calls(&rt, &words, &disk, done, made, held)
+}
+
+/// A register that another program makes meanwhile stays, and the acknowledgement is withheld.
+#[test]
+fn leaves_a_register_that_comes_in_between(rt: HostRuntime) -> Result<(), Fail> {
+    let disk = disk(rt.alloc(), &[("a.ack", b""), ("book", OLDER)], 0, "")?;
+    let stopped = "register: stopped: write after 186 bytes\n";
+    let words = ["--no-clobber", "--to", "book", "a"];
+    run_over(
+        &rt,
+        &words,
+        &disk,
+        (ExitCode::FAILURE, ACKNOWLEDGED, stopped),
+    )?;
+    expect_text(rt.alloc(), &disk, "book", Text::Bytes(OLDER))?;
+    expect_text(rt.alloc(), &disk, "a.ack", Text::Bytes(b""))?;
+    expect_draft(&disk, "a.ack", "a draft", false)?;
+    expect_draft(&disk, "book", "another", false)
+}
+
+/// It has no draft and no lock.
+#[test]
+fn writes_a_register_that_is_a_device_itself(rt: HostRuntime) -> Result<(), Fail> {
+    let device = fs::metadata(&rt, "/dev/null")?;
+    let mut disk = disk(rt.alloc(), &[("a.ack", OLDER), ("device", b"")], 0, "")?;
+    disk.nodes.push(("device", device))?;
+    let done = (ExitCode::SUCCESS, ACKNOWLEDGED, "");
+    let made =
+        "create a.ack\nwrite a.ack\nwrite a.ack\nwrite a.ack\nsync a.ack\nopen device\nsync device\nrename a.ack\nsync .\n";
+    let held = ("device", Text::Register(1));
+    expect_calls(&rt, &["--to", "device", "a"], &disk, done, made, held)
+}
+
+/// What is replaced is the register that the link leads to, and its lock and its draft lie beside that.
+#[test]
+fn follows_a_link_to_a_register(rt: HostRuntime) -> Result<(), Fail> {
+    let disk = disk(rt.alloc(), &[("a.ack", OLDER), ("book", b"older")], 0, "")?;
+    let done = (ExitCode::SUCCESS, ACKNOWLEDGED, "");
+    let made =
+        "lock book.lock\ncreate a.ack\nwrite a.ack\nwrite a.ack\nwrite a.ack\nsync a.ack\ncreate book\nwrite book\nsync book\nrename book\nsync .\nrename a.ack\nsync .\n";
+    let held = ("book", Text::Register(1));
+    expect_calls(&rt, &["--to", "linked", "a"], &disk, done, made, held)
+}
+
+/// Runs the file `a` and another over a disk that refuses the call of this number: what it complains of, and how its calls
+/// end must be these. There are eight calls that write the drafts, and two that put them on the disk, on threads.
+fn expect_two<T: AllocGlobal + Threads + Wait + Sync>(
+    rt: &T,
+    other: (&str, &str),
+    refused: usize,
+    complained: &str,
+    end: &str,
+) -> Result<(), Fail> {
+    let alloc = rt.alloc();
+    let (file, answer) = other;
+    let disk = disk(alloc, &[("a.ack", OLDER), (answer, OLDER)], refused, "")?;
+    let input = plain_file(alloc)?;
+    let files = [
+        ("a", FakeFile::Holds(&input)),
+        (file, FakeFile::Holds(&input)),
+    ];
+    let words = run_with(alloc, &["--in-turn", "a", file])?;
+    let printed = format!(in alloc; "a: acknowledged 1\n{file}: acknowledged 1\n")?;
+    let status = if refused == 0 {
+        ExitCode::SUCCESS
+    } else {
+        ExitCode::FAILURE
+    };
+    expect_on(
+        rt,
+        &words,
+        &files,
+        &disk,
+        (status, printed.as_str(), complained),
+    )?;
+    expect_both(alloc, &disk, answer)?;
+    expect_end(&disk, end)
+}
+
+/// Both acknowledgements must have their names, and no draft.
+fn expect_both(alloc: Global, disk: &Disk, other: &str) -> Result<(), Fail> {
+    expect_text(alloc, disk, "a.ack", Text::Answer("AS"))?;
+    expect_text(alloc, disk, other, Text::Answer("DU"))?;
+    expect_draft(disk, "a.ack", "a draft", false)?;
+    expect_draft(disk, other, "another", false)
+}
+
+/// These must be the calls behind the first ten.
+fn expect_end(disk: &Disk, end: &str) -> Result<(), Fail> {
+    let made = disk.calls.made()?;
+    let calls = 10usize.saturating_add(end.lines().count());
+    same("the number of calls", &made.lines().count(), &calls)?;
+    same("the last calls", &made.ends_with(end), &true)
+}
+
+/// The names of one folder are put on the disk together.
+#[test]
+fn puts_a_folder_on_the_disk_once(rt: HostRuntime) -> Result<(), Fail> {
+    let other = ("b", "b.ack");
+    let end = "rename a.ack\nrename b.ack\nsync .\n";
+    expect_two(&rt, other, 0, "", end)?;
+    let refused = "a.ack: not in place\nb.ack: not in place\n";
+    expect_two(&rt, other, 13, refused, end)
+}
+
+/// Where one of two folders cannot be put on the disk, that is told of the names in it alone.
+#[test]
+fn puts_each_folder_on_the_disk(rt: HostRuntime) -> Result<(), Fail> {
+    let other = ("in/b", "in/b.ack");
+    let end = "rename a.ack\nrename in/b.ack\nsync .\nsync .\n";
+    expect_two(&rt, other, 0, "", end)?;
+    expect_two(&rt, other, 13, "a.ack: not in place\n", end)?;
+    expect_two(&rt, other, 14, "in/b.ack: not in place\n", end)
+}
