@@ -1,16 +1,16 @@
 -- Followers in memory that are put on the disk one after another, each unless its call fails, and what a crash leaves of them.
-use Rattle.std.proofs.Common.{◌≡◌, ◌⊎◌, ℕ, zero, suc, ◌+◌, ◌<◌, ◌≤◌, List, ◌∷◌, set, map, get_or, length, true, false, Bool, refl, sym, ◌∙◌, ap, subst, inl, inr, arith}
+use Rattle.std.proofs.Common.{◌≡◌, ◌≢◌, ◌⊎◌, ℕ, zero, suc, ◌+◌, ◌<◌, ◌≤◌, List, ◌∷◌, set, map, get_or, length, true, false, Bool, refl, sym, ◌∙◌, ap, subst, inl, inr, arith}
 use Rattle.std.specs.Prelude.{None, []}
-use Rattle.std.proofs.lemmas.List.{get_or-set_same, length-map, ext_get_or}
+use Rattle.std.proofs.lemmas.List.{get_or-set_same, length-map, ext_get_or, get_or-set_other}
 use borrow.Author.Count.{below_more}
 use Rattle.kept_file.specs.declared.memory.MemoryFile.{MemoryFile}
 use Rattle.kept_file.specs.declared.memory.Shelf.{Shelf}
 use Rattle.kept_file.specs.Names.{Lying, Names, State, refusing_follower, IsRefused, IsSynced}
 use Rattle.kept_file.specs.Looking.{Only}
 use Rattle.kept_file.specs.Keeping.{follower, HaveSynced, MayRefuse, AreSettled}
-use Rattle.kept_file.specs.Memory.{lies, left, draft_of, names_of, state_of, may_be, IsSettled, AllSettled, Changes, syncing_slot, settling_slot, undoing_slot, refusing_slot}
+use Rattle.kept_file.specs.Memory.{lies, left, draft_of, names_of, state_of, may_be, IsSettled, AllSettled, Changes, syncing_slot, settling_slot, undoing_slot, refusing_slot, lies_at}
 use Rattle.kept_file.proofs.Followers.{SetOrSame, set_or_same}
-use Rattle.kept_file.proofs.Slots.{Within, Within-same, Within-refusing, Within-syncing, Within-settling, Within-undoing, Within-stays, lies_at, left_at, kept, changed, state-refusing, state-syncing, state-settling, undone_lies}
+use Rattle.kept_file.proofs.Slots.{Within, Within-same, Within-refusing, Within-syncing, Within-settling, Within-undoing, Within-stays, left_at, kept, changed, state-refusing, state-syncing, state-settling, undone_lies}
 
 -- one more told as refused
 refused_more : (at k : ℕ) (xs : List Bool) → get_or xs k false ≡ true → SetOrSame xs at true k false → get_or (set xs at true) k false ≡ true
@@ -261,3 +261,32 @@ Only-first shelf names only = λ c found. by c found where
   by : (c : Names) → may_be shelf c ⊎ ⊥ → c ≡ names
   by c (inl may) = only c may
   by c (inr never) = absurd never
+
+-- the names of the followers that stayed, and of those from n on, are as they were
+abbrev pub Staying : {A : Type 0} → ℕ → List Bool → Shelf A → Shelf A → Type 0
+Staying n stayed old new = (k : ℕ) → (get_or stayed k false ≡ true) ⊎ (n ≤ k) → lies_at k new ≡ lies_at k old
+
+pub Staying-none : {A : Type 0} (stayed : List Bool) (old new : Shelf A) → new.followers ≡ old.followers → Staying 0 stayed old new
+Staying-none stayed old new same = λ k said. ap (λ v. get_or (map lies v.items) k None) same
+
+said_less : (at k : ℕ) (stayed : List Bool) → (get_or stayed k false ≡ true) ⊎ (at + 1 ≤ k) → (get_or stayed k false ≡ true) ⊎ (at ≤ k)
+said_less at k stayed (inl said) = inl said
+said_less at k stayed (inr above) = inr (omega (arith, above))
+
+-- one more is there to stay
+pub Staying-settled : {A : Type 0} (at : ℕ) (stayed : List Bool) (old mid new : Shelf A) → Staying at stayed old mid → Changes settling_slot at mid new →
+    Staying (at + 1) stayed old new
+Staying-settled at stayed old mid new so one =
+    λ k said. ap (λ ys. get_or ys k None) (kept settling_slot at mid new one lies (λ x. refl)) ∙ so k (said_less at k stayed said)
+
+is_other : (at k : ℕ) (stayed : List Bool) → get_or stayed at false ≡ false → (get_or stayed k false ≡ true) ⊎ (at + 1 ≤ k) → k ≢ at
+is_other at k stayed lost (inl said) e = let here : get_or stayed at false ≡ true = ap (λ j. get_or stayed j false) (sym e) ∙ said in cc
+is_other at k stayed lost (inr above) e = omega (arith, above, e)
+
+-- one that did not stay is undone
+pub Staying-undone : {A : Type 0} (at : ℕ) (stayed : List Bool) (old mid new : Shelf A) → get_or stayed at false ≡ false → Staying at stayed old mid →
+    Changes undoing_slot at mid new → Staying (at + 1) stayed old new
+Staying-undone at stayed old mid new lost so one =
+    λ k said. ap (λ ys. get_or ys k None) (changed undoing_slot at mid new one lies)
+    ∙ get_or-set_other (map lies mid.followers.items) at k (lies (undoing_slot one.slot)) None (is_other at k stayed lost said)
+    ∙ so k (said_less at k stayed said)

@@ -8,7 +8,7 @@ use Rattle.kept_file.specs.declared.memory.Shelf.{Shelf}
 use Rattle.kept_file.specs.Names.{Lying, Names, with_file, with_follower, placing_follower, refusing_follower, dropping_follower, IsSynced, waiting_text}
 use Rattle.kept_file.specs.Looking.{Renames, Stays}
 use Rattle.kept_file.specs.Keeping.{follower}
-use Rattle.kept_file.specs.Memory.{lies, left, draft_of, state_of, may_be, Changes, placing_slot, syncing_slot, settling_slot, undoing_slot, refusing_slot, dropping_slot}
+use Rattle.kept_file.specs.Memory.{lies, left, draft_of, state_of, may_be, Changes, placing_slot, syncing_slot, settling_slot, undoing_slot, refusing_slot, dropping_slot, lies_at}
 use Rattle.kept_file.proofs.Followers.{SetOrSame, set_or_same}
 
 pub same_or_other : (m n : ℕ) → (m ≡ n) ⊎ (m ≢ n)
@@ -24,10 +24,7 @@ same_or_other (suc m) (suc n) = by (same_or_other m n) where
 abbrev pub IsFound : {A : Type 0} → MemoryFile A → Lying → Type 0
 IsFound slot x = (x ≡ lies slot) ⊎ (x ≡ left slot)
 
--- what lies under the name of a follower, and what a crash leaves there
-abbrev pub lies_at : {A : Type 0} → ℕ → Shelf A → Lying
-lies_at k shelf = get_or (map lies shelf.followers.items) k None
-
+-- what a crash leaves under the name of a follower
 abbrev pub left_at : {A : Type 0} → ℕ → Shelf A → Lying
 left_at k shelf = get_or (map left shelf.followers.items) k None
 

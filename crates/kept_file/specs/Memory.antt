@@ -25,6 +25,10 @@ draft_of slot = slot.draft.items
 abbrev pub names_of : {A : Type 0} → Shelf A → Names
 names_of shelf = record { file = lies shelf.file; followers = map lies shelf.followers.items }
 
+-- what lies under the name of that follower
+abbrev pub lies_at : {A : Type 0} → ℕ → Shelf A → Lying
+lies_at k shelf = get_or (map lies shelf.followers.items) k None
+
 -- what a reader finds now, or whoever comes after a crash now, which undoes each name that is not on the disk or leaves it
 pub record may_be {A : Type 0} (shelf : Shelf A) (c : Names) : Type 0 where
   pub file : (c.file ≡ lies shelf.file) ⊎ (c.file ≡ left shelf.file)

@@ -1,9 +1,9 @@
-ghost use Rattle.std.specs.Prelude.{◌<◌, slice_set, ◌≡◌, ◌⊎◌, ◌↔◌, is_err, ◌++◌, ◌∷◌, [], Some, None, true, false, map, length, get_or, IfSome, MatchOption, IsTrue};
+ghost use Rattle.std.specs.Prelude.{ℕ, ◌<◌, slice_set, ◌≡◌, ◌⊎◌, ◌↔◌, is_err, ◌++◌, ◌∷◌, [], Some, None, true, false, map, length, get_or, IfSome, MatchOption, IsTrue};
 ghost use Rattle.std.specs.List.{list_any};
 ghost use Rattle.kept_file.specs.Names.{Names, State, with_file};
 ghost use Rattle.kept_file.specs.Looking.{Only};
 ghost use Rattle.kept_file.specs.Keeping.{follower};
-ghost use Rattle.kept_file.specs.Memory.{lying, lies, draft_of, has_drafts, names_of, state_of, may_be, had_been, AllSettled, Changes, placing_slot, syncing_slot, settling_slot, undoing_slot, refusing_slot, dropping_slot};
+ghost use Rattle.kept_file.specs.Memory.{lying, lies, lies_at, draft_of, has_drafts, names_of, state_of, may_be, had_been, AllSettled, Changes, placing_slot, syncing_slot, settling_slot, undoing_slot, refusing_slot, dropping_slot};
 
 use crate::{CallFailed, Place};
 use std::alloc::{Allocator, Global};
@@ -98,6 +98,16 @@ impl<A: Allocator> MemoryFile<A> {
             self.is_placed = false;
             self.is_settled = true;
         }
+    }
+}
+
+/// Whether it is said of that follower that its name stayed.
+fn has_stayed(stayed: &[bool], at: usize) -> bool
+    ensures { result ≡ get_or stayed.now at false }
+{
+    match stayed.get(at) {
+        Some(told) => *told,
+        None => false,
     }
 }
 
@@ -245,13 +255,15 @@ impl<A: Allocator + Copy> MemoryPlace<A> {
         ensures fails { ⟦<MemoryPlace<A> as Place>⟧.has_failed self.new ≡ ⟦<MemoryPlace<A> as Place>⟧.has_failed self.old }
         ensures left { IfSome (⟦<MemoryPlace<A> as Place>⟧.told self.new) (λ s. ⟦<MemoryPlace<A> as Place>⟧.may_find self.old s.names) }
         ensures stays { IfSome (⟦<MemoryPlace<A> as Place>⟧.told self.new) (λ s. Only s.names (⟦<MemoryPlace<A> as Place>⟧.may_find self.new)) }
+        ensures stayed { (k : ℕ) → get_or stayed.now k false ≡ true → lies_at k self.new.shelf ≡ lies_at k self.old.shelf }
     {
         self.remember();
         self.shelf.file.undo();
         for at in 0..self.shelf.followers.len() {
-            match stayed.get(at) {
-                Some(true) => self.shelf.settle_follower(at),
-                Some(false) | None => self.shelf.undo_follower(at),
+            if has_stayed(stayed, at) {
+                self.shelf.settle_follower(at)
+            } else {
+                self.shelf.undo_follower(at)
             }
         }
     }

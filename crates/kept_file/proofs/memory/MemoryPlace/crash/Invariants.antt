@@ -1,7 +1,7 @@
 use Rattle.std.proofs.Common.{◌≡◌, ◌⊎◌, ◌↔◌, true}
 use Rattle.kept_file.specs.Names.{Names}
 use Rattle.kept_file.specs.Memory.{may_be, had_been}
-use Rattle.kept_file.proofs.OneByOne.{Crashing}
+use Rattle.kept_file.proofs.OneByOne.{Crashing, Staying}
 use Rattle.kept_file.proofs.memory.MemoryPlace.crash.Given as goal
 
 -- of the names so far each is left or undone, and there to stay
@@ -9,6 +9,7 @@ abbrev pub invariant-loop-at : goal.invariant-loop-at
 invariant-loop-at g l = record {
   so_far : Crashing l.at l.fn.self.shelf l.self.shelf;
   file : l.self.shelf.file.is_settled ≡ true;
+  stayed : Staying l.at l.stayed l.fn.self.shelf l.self.shelf;
   past : (c : Names) → had_been l.self.past c ↔ (may_be l.fn.self.shelf c ⊎ had_been l.fn.self.past c);
   failed : l.self.failed ≡ l.fn.self.failed;
 }
