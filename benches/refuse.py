@@ -252,8 +252,8 @@ def told_commands(program):
         (["--help"], b"Usage: purvilgo [COMMAND]\n"),
         (["help"], b"Usage: purvilgo [COMMAND]\n"),
         (["help", "run"], b"Usage: purvilgo run "),
-        (["check", "--help"], b"Usage: purvilgo check <FILE>\n"),
-        (["check"], b"<FILE>\n"),
+        (["check", "--help"], b"Usage: purvilgo check [OPTIONS] <FILE>...\n"),
+        (["check"], b"<FILE>...\n"),
         (["run", "--society"], b"--society"),
         (["audit", "a", "b"], b"'b'"),
     ]:

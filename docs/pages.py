@@ -15,8 +15,8 @@ What is tried of a page:
 - A block after a line `<!-- file: PATH -->` is that file of the repository, byte for byte.
 - Any other block of commands (`sh`, `bash`) must say why nobody runs it: `<!-- not run: REASON -->`.
 - A link leads to a file that is there; one with `#L20` to a line that has its text, and any other `#` to a heading.
-- The tables of rules in the guides have a row for each rule, with what `purvilgo explain` tells of it.
-- Each paragraph that `purvilgo help` and `purvilgo help COMMAND` print stands in the manual page docs/purvilgo.1.
+- The tables of rules and answers in the guides have a row for each, with what `purvilgo explain` tells of it.
+- The manual page docs/purvilgo.1 is the one that docs/manual.py makes of what `purvilgo help` and `purvilgo help COMMAND` print.
 
 It says what differs, and the status is 1 then; 2 where there is nothing to try with; else 0."""
 import argparse
@@ -36,7 +36,7 @@ FENCE = re.compile(r"^```(\w*)\s*$")
 NOTE = re.compile(r"^<!-- (file|not run): (.*) -->$")
 LINK = re.compile(r"\[((?:[^\[\]]|\[[^\]]*\])*)\]\(([^()\s]+)\)")
 COMMAND = re.compile(r"^(\$|purvilgo|rt|\(cd) ")
-RULE_ROW = re.compile(r"^\| ([FJG]\d+) \| (.*) \| (.*) \| (.*) \|$")
+RULE_ROW = re.compile(r"^\| ([FJG]\d+|AS|DU|CO|RJ) \| (.*) \| (.*) \| (.*) \|$")
 RULE_PAGES = ("docs/guide/checking.md", "docs/guide/auditing.md")
 END = "\x01"
 
@@ -216,27 +216,15 @@ def mend_lines(page):
 
 
 def manual_faults(program):
-    """What `purvilgo help` and its pages say and the manual page docs/purvilgo.1 does not, paragraph by paragraph."""
-    manual = []
-    for line in open(os.path.join(TOP, "docs/purvilgo.1"), encoding="utf-8").read().split("\n"):
-        macro = re.match(r"\.(?:B|SH|TH) (.*)", line)
-        if macro or not line.startswith("."):
-            manual.append(macro[1] if macro else line)
-    manual = " ".join(" ".join(manual).replace("\\-", "-").replace("\\(aq", "'").replace("\\e", "\\").split())
-    pages, faults = [[]], []
-    for page in pages:
-        helped = subprocess.run([program, "help", *page], stdout=subprocess.PIPE, stderr=subprocess.STDOUT).stdout.decode()
-        for paragraph in helped.split("\n\n"):
-            words = " ".join(paragraph.split())
-            if words.removeprefix("Usage: ") not in manual:
-                faults.append(f"docs/purvilgo.1 lacks what purvilgo help {' '.join(page)} says: {words[:80]}")
-            if not page and words.startswith("Commands: "):
-                pages += [[name] for name in re.findall(r"^  (\w+)", paragraph, re.M) if name != "help"]
-    return pages, faults
+    """How the manual page docs/purvilgo.1 differs from the one that docs/manual.py makes of what the program tells as help."""
+    made = subprocess.run([os.path.join(TOP, "docs/manual.py"), "--program", program], stdout=subprocess.PIPE, check=True).stdout.decode()
+    kept = open(os.path.join(TOP, "docs/purvilgo.1"), encoding="utf-8").read()
+    differing = [line for line in difflib.ndiff(kept.splitlines(), made.splitlines()) if line[0] in "-+"]
+    return made.count("\n"), [f"docs/purvilgo.1, and docs/manual.py: {line}" for line in differing]
 
 
 def rule_faults(program):
-    """The rules of which the guides' tables have no row, more than one, or another than `purvilgo explain` tells."""
+    """The rules and answers of which the guides' tables have no row, more than one, or another than `purvilgo explain` tells."""
     told, rows, rule = {}, {}, None
     pages = subprocess.run([program, "explain"], stdout=subprocess.PIPE, stderr=subprocess.STDOUT).stdout.decode()
     for line in pages.splitlines():
@@ -252,7 +240,7 @@ def rule_faults(program):
                 cells = [LINK.sub(r"\1", cell).replace("`", "") for cell in row.groups()[1:]]
                 rows.setdefault(row[1], []).append(cells)
     names = sorted(set(told) | set(rows))
-    faults = [f"the tables of rules have {rows.get(name)} of {name}, and purvilgo explain tells {told.get(name)}"
+    faults = [f"the tables of the guides have {rows.get(name)} of {name}, and purvilgo explain tells {told.get(name)}"
               for name in names if rows.get(name) != [told.get(name)]]
     return told, faults
 
@@ -283,12 +271,12 @@ def main():
         every_fault += faults
         print(f"{page}: {commands} commands, {files} files, {links} links" + "".join(f"; not run: {why}" for why in untried))
     if not words.pages:
-        helped, faults = manual_faults(words.program)
+        lines, faults = manual_faults(words.program)
         every_fault += faults
-        print(f"docs/purvilgo.1: {len(helped)} pages of help")
+        print(f"docs/purvilgo.1: {lines} lines of help")
         told, faults = rule_faults(words.program)
         every_fault += faults
-        print(f"{', '.join(RULE_PAGES)}: {len(told)} rules")
+        print(f"{', '.join(RULE_PAGES)}: {len(told)} rules and answers")
     for fault in every_fault:
         print(fault)
     if not words.pages and not all_commands:

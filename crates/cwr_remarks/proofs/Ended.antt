@@ -14,7 +14,8 @@ use Rattle.cwr_remarks.specs.HighBytes.{high_bytes}
 use Rattle.cwr_remarks.specs.Layouts.{layout_of, past_layout}
 use Rattle.cwr_remarks.specs.Types.{unknown_type}
 use Rattle.cwr_remarks.specs.Territories.{has_territories, are_excluded, only_excluded}
-use Rattle.cwr_remarks.specs.Remarks.{remark_on, remarks_on, remarks_from, remarks_to}
+use Rattle.cwr_remarks.specs.OnLine.{remark_on}
+use Rattle.cwr_remarks.specs.Remarks.{remarks_on, remarks_from, remarks_to}
 use Rattle.cwr_remarks.specs.Typed.{left, looked_at, IsTyped}
 use Rattle.cwr_remarks.specs.declared.typed.Typed.{Typed}
 use Rattle.cwr_remarks.specs.declared.remark.Remark.{Remark}

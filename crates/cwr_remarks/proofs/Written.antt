@@ -7,3 +7,10 @@ three out b c new x y z p q r = then out c new (x ++ y) z (then out b c x y p q)
 
 pub four : (out b c d new x y z w : List ℕ) → b ≡ out ++ x → c ≡ b ++ y → d ≡ c ++ z → new ≡ d ++ w → new ≡ out ++ (x ++ y ++ z ++ w)
 four out b c d new x y z w p q r s = then out d new (x ++ y ++ z) w (three out b c d x y z p q r) s
+
+pub eight : (out b c d e f g h new x y z w v u t s : List ℕ) → b ≡ out ++ x → c ≡ b ++ y → d ≡ c ++ z → e ≡ d ++ w → f ≡ e ++ v → g ≡ f ++ u → h ≡ g ++ t → new ≡ h ++ s → new ≡ out ++ (x ++ y ++ z ++ w ++ v ++ u ++ t ++ s)
+eight out b c d e f g h new x y z w v u t s p q r k l m n o =
+    then out h new (x ++ y ++ z ++ w ++ v ++ u ++ t) s
+    (then out g h (x ++ y ++ z ++ w ++ v ++ u) t
+    (then out f g (x ++ y ++ z ++ w ++ v) u
+    (then out e f (x ++ y ++ z ++ w) v (four out b c d e x y z w p q r k) l) m) n) o

@@ -5,7 +5,7 @@ use Rattle.serde_json.specs.Written.{compact_text}
 use Rattle.cwr_report.specs.Json.{text_data, option_data}
 use Rattle.cwr_remarks.specs.declared.remark.Remark.{Remark}
 use Rattle.cwr_remarks.specs.declared.remark.Remarked.{Remarked}
-use Rattle.cwr_remarks.specs.Json.{kind_text, first_in, count_in, length_in, layout_in}
+use Rattle.cwr_remarks.specs.Json.{kind_text, first_in, count_in, length_in, layout_in, record_data}
 use Rattle.cwr_remarks.specs.Texts.{what_text}
 
 abbrev pub number_text : Option ℕ → List ℕ
@@ -35,7 +35,7 @@ remark_text r =
     ++ codes ",\"line\":"
     ++ decimal r.line
     ++ codes ",\"record\":"
-    ++ string_text r.rtype
+    ++ compact_text (record_data r.rtype)
     ++ codes ",\"text\":"
     ++ string_text (what_text r.what)
     ++ codes "}"

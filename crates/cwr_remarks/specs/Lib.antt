@@ -4,6 +4,10 @@ pub mod Types
 pub mod Typed
 pub mod Territories
 pub mod Told
+pub mod OnLine
+pub mod Beginnings
+pub mod Headers
+pub mod SecondFile
 pub mod Remarks
 pub mod Texts
 pub mod Json

@@ -1,18 +1,13 @@
 -- The remarks on the lines of a text.
-use Rattle.std.specs.Prelude.{ℕ, ◌+◌, nat_lt, List, [], ◌∷◌, ◌++◌, length, Option, Some, None, if◌then◌else◌}
+use Rattle.std.specs.Prelude.{ℕ, ◌+◌, nat_lt, List, [], ◌∷◌, ◌++◌, length, if◌then◌else◌}
 use Rattle.cwr_record.specs.Columns.{field_at, every_record_type}
 use Rattle.cwr_record.specs.RecordTypes.{type_of}
 use Rattle.cwr_remarks.specs.declared.remark.Remark.{Remark}
-use Rattle.cwr_remarks.specs.declared.remark.Remarked.{Remarked}
 use Rattle.cwr_remarks.specs.HighBytes.{high_bytes}
 use Rattle.cwr_remarks.specs.Layouts.{layout_of, past_layout}
+use Rattle.cwr_remarks.specs.OnLine.{remark_on}
 use Rattle.cwr_remarks.specs.Types.{unknown_type}
 use Rattle.cwr_remarks.specs.Territories.{only_excluded}
-
--- a remark on a line with this number, where there is something to remark
-abbrev pub remark_on : ℕ → List ℕ → Option Remarked → List Remark
-remark_on number line None = []
-remark_on number line (Some what) = record { line = number; rtype = field_at line every_record_type; what = what } ∷ []
 
 -- the remarks on a line with this number, before these lines
 abbrev pub remarks_on : ℕ → List ℕ → List (List ℕ) → List Remark

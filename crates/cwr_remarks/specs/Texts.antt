@@ -1,12 +1,11 @@
 -- What is told of remarks: a line for each, with LF at its end.
-use Rattle.std.specs.Prelude.{ℕ, ◌||◌, List, ◌++◌, codes, map, if◌then◌else◌}
+use Rattle.std.specs.Prelude.{ℕ, List, [], ◌++◌, codes, Option, Some, None}
 use Rattle.std.specs.List.{flat_map}
 use Rattle.std.specs.Fmt.{decimal}
-use Rattle.cwr_field.specs.Layout.{is_control}
+use Rattle.cwr_report.specs.Shown.{shown_text}
 use Rattle.cwr_remarks.specs.declared.remark.Remark.{Remark}
 use Rattle.cwr_remarks.specs.declared.remark.Remarked.{Remarked}
-use Rattle.cwr_remarks.specs.declared.remark.Remarked.TheVariants.{HighBytes, PastLayout, UnknownType, OnlyExcluded}
-use Rattle.cwr_remarks.specs.HighBytes.{is_high}
+use Rattle.cwr_remarks.specs.declared.remark.Remarked.TheVariants.{ByteOrderMark, Utf16, Gzip, SecondFile, CwrVersion, SenderType, HighBytes, PastLayout, UnknownType, OnlyExcluded}
 
 abbrev pub high_text : ℕ → ℕ → List ℕ
 high_text first count =
@@ -24,26 +23,47 @@ past_text size layout =
     ++ decimal layout
     ++ codes "; what stands after that is not read"
 
--- what is remarked
+-- the version of HDR, with bytes that are told so
+abbrev pub version_text : List ℕ → List ℕ
+version_text told = codes "CWR version \"" ++ told ++ codes "\"; the file is read as CWR 2.2"
+
+-- the sender type of HDR, with bytes that are told so
+abbrev pub sender_text : List ℕ → List ℕ
+sender_text told =
+    codes "sender type \""
+    ++ told
+    ++ codes "\"; CWR has PB, AA, SO or WR there, or the first two digits of a number of more than nine"
+
+-- what is remarked, with bytes of the file as they stand
 abbrev pub what_text : Remarked → List ℕ
+what_text ByteOrderMark = codes "the file begins with a byte order mark of UTF-8, which is no part of CWR; write it without one"
+what_text Utf16 = codes "the file is UTF-16, which has two bytes for a letter; write it in ASCII, with one byte for a letter"
+what_text Gzip = codes "the file is compressed by gzip; unpack it, and send what is in it"
+what_text SecondFile = codes "a second file begins here; send each file by itself"
+what_text (CwrVersion version) = version_text version
+what_text (SenderType kind) = sender_text kind
 what_text (HighBytes first count) = high_text first count
 what_text (PastLayout size layout) = past_text size layout
 what_text UnknownType = codes "CWR 2.2 has no record of this type; it is carried, and nothing more of it is read"
 what_text OnlyExcluded = codes "all its territories are exclusions, and none is an inclusion: it collects nowhere"
 
--- a byte of a record type; one that is not printed is shown as a question mark
-abbrev pub shown : ℕ → ℕ
-shown byte = if is_control byte || is_high byte then 63 else byte
+-- the same, with bytes of the file as they are shown
+abbrev pub shown_what : Remarked → List ℕ
+shown_what (CwrVersion version) = version_text (shown_text version)
+shown_what (SenderType kind) = sender_text (shown_text kind)
+shown_what what = what_text what
 
 abbrev pub line_text : ℕ → List ℕ
 line_text number = codes "remark, line " ++ decimal number ++ codes ": "
 
-abbrev pub type_text : List ℕ → List ℕ
-type_text rtype = map shown rtype ++ codes ": "
+-- the record type, where the remark is on a record
+abbrev pub type_text : Option (List ℕ) → List ℕ
+type_text None = []
+type_text (Some rtype) = shown_text rtype ++ codes ": "
 
 -- the line, the record type, and what is remarked
 abbrev pub remark_text : Remark → List ℕ
-remark_text r = line_text r.line ++ type_text r.rtype ++ what_text r.what ++ codes "\n"
+remark_text r = line_text r.line ++ type_text r.rtype ++ shown_what r.what ++ codes "\n"
 
 abbrev pub remarks_text : List Remark → List ℕ
 remarks_text remarks = flat_map remark_text remarks

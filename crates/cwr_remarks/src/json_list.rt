@@ -1,6 +1,6 @@
 ghost use Rattle.std.specs.Prelude.{◌≡◌, ◌++◌, OnOk};
 ghost use Rattle.serde_json.specs.Written.{comma_if, compact_text};
-ghost use Rattle.cwr_remarks.specs.Json.{kind_text, first_in, count_in, length_in, layout_in, remark_data, remarks_data};
+ghost use Rattle.cwr_remarks.specs.Json.{kind_text, first_in, count_in, length_in, layout_in, record_data, remark_data, remarks_data};
 ghost use Rattle.cwr_remarks.specs.JsonText.{number_text, string_text, amounts_text, remark_text};
 ghost use Rattle.cwr_remarks.specs.Texts.{what_text};
 
@@ -56,14 +56,25 @@ fn put_remark(out: &mut Vec<u8>, room: &mut Vec<u8>, remark: &Remark) -> Result<
     out.extend_from_slice(b",\"line\":")?;
     put_decimal(out, remark.line)?;
     out.extend_from_slice(b",\"record\":")?;
-    put_json_text(out, &remark.rtype)?;
+    put_record(out, remark.rtype)?;
     out.extend_from_slice(b",\"text\":")?;
     put_told(out, room, remark.what)?;
     out.extend_from_slice(b"}")?;
     Ok(())
 }
 
-/// Appends the numbers of a remark, with null for each that it does not have, and between them what it is, in two words.
+/// Appends a record type, or null.
+fn put_record(out: &mut Vec<u8>, rtype: Option<[u8; 3]>) -> Result<(), Memory>
+    ensures { OnOk result (out.new.items ≡ out.old.items ++ compact_text (record_data rtype)) }
+{
+    match rtype {
+        None => put_words(out, b"null"),
+        Some(rtype) => put_json_text(out, &rtype),
+    }
+}
+
+/// Appends the numbers of a remark, with null for each that it does not have, and between them what it is, in a word or a
+/// few.
 fn put_amounts(out: &mut Vec<u8>, what: Remarked) -> Result<(), Memory>
     ensures { OnOk result (out.new.items ≡ out.old.items ++ amounts_text what) }
 {
@@ -80,7 +91,7 @@ fn put_amounts(out: &mut Vec<u8>, what: Remarked) -> Result<(), Memory>
     Ok(())
 }
 
-/// Appends what is remarked, in words, which are put together in a room for texts.
+/// Appends what is remarked, in words, which are put together in a room for texts; bytes of the file as they stand.
 fn put_told(out: &mut Vec<u8>, room: &mut Vec<u8>, what: Remarked) -> Result<(), Memory>
     ensures { OnOk result (out.new.items ≡ out.old.items ++ string_text (what_text what)) }
 {
@@ -100,11 +111,17 @@ fn put_number(out: &mut Vec<u8>, number: Option<u64>) -> Result<(), Memory>
     }
 }
 
-/// What is remarked, in two words.
+/// What is remarked, in a word or a few.
 fn kind_text(what: Remarked) -> &'static [u8]
     ensures { result.now ≡ kind_text what }
 {
     match what {
+        Remarked::ByteOrderMark => b"byte order mark",
+        Remarked::Utf16 => b"UTF-16",
+        Remarked::Gzip => b"gzip",
+        Remarked::SecondFile => b"second file",
+        Remarked::CwrVersion(_) => b"CWR version",
+        Remarked::SenderType(_) => b"sender type",
         Remarked::HighBytes { .. } => b"high bytes",
         Remarked::PastLayout { .. } => b"past layout",
         Remarked::UnknownType => b"unknown type",

@@ -1,11 +1,13 @@
 //! What a check of a submission file remarks: what is no fault, and is seldom meant.
 //!
-//! [`remarks`] lists them: bytes above 126 in a line, lines that go past the layout of their record, record types that
-//! CWR 2.2 does not have, and publishers and writers all of whose territories are exclusions. They change no status and
-//! no decision.
+//! [`remarks`] lists those on lines: bytes above 126 in a line, lines that go past the layout of their record, record types
+//! that CWR 2.2 does not have, and publishers and writers all of whose territories are exclusions. A check tells before them
+//! what is to be remarked of the file as a whole: that it is no plain text of CWR, or that a second one begins behind it, and
+//! what its HDR says that the profile does not know. They change no status and no decision.
 #![tactic(auto)]
 
 mod checks;
+mod front;
 mod high_bytes;
 mod json_list;
 mod layouts;
@@ -17,9 +19,9 @@ mod texts;
 mod typed;
 mod types;
 
-pub use checks::{remarked_json, remarked_long};
+pub use checks::{remarked_json, remarked_json_of_file, remarked_long};
 pub use cwr_field::Memory;
-pub use cwr_report::Checked;
+pub use cwr_report::{Checked, check_faults, put_fault_lines, put_named_lines, put_shown};
 pub use remark::{Remark, Remarked};
 pub use remarking::{remarks, remarks_before};
 pub use texts::put_remarks;

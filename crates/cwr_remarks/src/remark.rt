@@ -1,17 +1,31 @@
-/// What is remarked of a line. It is no fault: nothing is refused or rejected for it.
+/// What is remarked of a line, or of a file as a whole at one of its lines. It is no fault: nothing is refused or rejected
+/// for it.
 #[derive(Clone, Copy, Debug, PartialEq, Eq)]
 pub struct Remark {
     /// The line of the file, counted from 1.
     pub line: u64,
-    /// Its first three bytes, which name the type of its record; blanks follow where the line has fewer.
-    pub rtype: [u8; 3],
+    /// Its first three bytes, which name the type of its record; blanks follow where the line has fewer. `None` where what
+    /// is remarked is of no record: of a byte order mark, UTF-16 and gzip.
+    pub rtype: Option<[u8; 3]>,
     /// What is remarked.
     pub what: Remarked,
 }
 
-/// What may be remarked of a line.
+/// What may be remarked of a line. The first six are of the file as a whole.
 #[derive(Clone, Copy, Debug, PartialEq, Eq)]
 pub enum Remarked {
+    /// The file begins with the byte order mark of UTF-8, EF BB BF.
+    ByteOrderMark,
+    /// The file begins with a byte order mark of UTF-16, FF FE or FE FF.
+    Utf16,
+    /// The file begins as one that is compressed by gzip, with 1F 8B.
+    Gzip,
+    /// A line with HDR, after TRL.
+    SecondFile,
+    /// The version of CWR that HDR names, in its bytes 102 to 104: neither blank nor `2.2`.
+    CwrVersion([u8; 3]),
+    /// The sender type of HDR, its bytes 4 and 5: none of `PB`, `AA`, `SO` and `WR`, and no two digits.
+    SenderType([u8; 2]),
     /// Bytes above 126, as those of a letter outside ASCII are.
     HighBytes {
         /// The position of the first of them in the line, counted from 1.

@@ -1,7 +1,8 @@
 ghost use Rattle.std.specs.Prelude.{◌≡◌, ◌≤◌, ◌++◌, ℕ, IfOk, OnOk, Some};
 ghost use Rattle.std.specs.Str.Lines.{lines};
 ghost use Rattle.cwr_record.specs.RecordTypes.{type_of};
-ghost use Rattle.cwr_remarks.specs.Remarks.{remark_on, remarks_on, remarks_from, remarks_to};
+ghost use Rattle.cwr_remarks.specs.OnLine.{remark_on};
+ghost use Rattle.cwr_remarks.specs.Remarks.{remarks_on, remarks_from, remarks_to};
 ghost use Rattle.cwr_remarks.specs.Typed.{left, looked_at, IsTyped};
 
 use crate::high_bytes::high_bytes;
@@ -20,11 +21,14 @@ use std::alloc::Allocator;
 /// Of a line they are told in this order: bytes above 126 (where the first is, and how many), a length past the layout of
 /// its record, a record type that CWR 2.2 does not have, and of an SPU with SPT, or an SWR with SWT, that all of these
 /// are exclusions. The SPT of an SPU are those after it, up to the next SPU or the end of the transaction, as for rule
-/// J8; and the SWT of an SWR likewise. Where memory is refused nothing is told.
+/// J8; and the SWT of an SWR likewise. What a check remarks of the file as a whole is not among them. Where memory is
+/// refused nothing is told.
 pub fn remarks<A: Allocator>(alloc: A, text: &[u8]) -> Result<Vec<Remark, A>, Memory>
     ensures { IfOk result (λ found. found.items ≡ remarks_from 1 (lines text.now)) }
 {
-    remarks_before(alloc, text, u64::MAX)
+    let mut found = Vec::new(alloc);
+    push_remarks(&mut found, text)?;
+    Ok(found)
 }
 
 /// The remarks on the lines of a text before the one with this number, counted from 1.
@@ -39,16 +43,38 @@ pub fn remarks_before<A: Allocator>(
     ensures { IfOk result (λ found. found.items ≡ remarks_to end 1 (lines text.now)) }
 {
     let mut found = Vec::new(alloc);
+    push_remarks_before(&mut found, text, end)?;
+    Ok(found)
+}
+
+/// Appends the remarks on the lines of a text.
+pub(crate) fn push_remarks<A: Allocator>(
+    found: &mut Vec<Remark, A>,
+    text: &[u8],
+) -> Result<(), Memory>
+    ensures { OnOk result (found.new.items ≡ found.old.items ++ remarks_from 1 (lines text.now)) }
+{
+    push_remarks_before(found, text, u64::MAX)
+}
+
+/// Appends those on the lines before the one with this number.
+pub(crate) fn push_remarks_before<A: Allocator>(
+    found: &mut Vec<Remark, A>,
+    text: &[u8],
+    end: u64,
+) -> Result<(), Memory>
+    ensures { OnOk result (found.new.items ≡ found.old.items ++ remarks_to end 1 (lines text.now)) }
+{
     if end <= 1 {
-        return Ok(found);
+        return Ok(());
     }
     let mut rest = Lines::of(text);
     let first = next_typed(&mut rest);
-    let (last, rest) = push_remarks_to(&mut found, 1, end - 1, first, rest)?;
+    let (last, rest) = push_remarks_to(found, 1, end - 1, first, rest)?;
     // What is behind the last line that is asked for may be long, and is seldom needed.
     let rest = looked_at(last, rest);
-    push_remarks_to(&mut found, end - 1, end, last, rest)?;
-    Ok(found)
+    push_remarks_to(found, end - 1, end, last, rest)?;
+    Ok(())
 }
 
 /// Appends the remarks on the lines from the first of these numbers up to the last, without that one: the first line was
@@ -116,7 +142,7 @@ fn push_remarks_on<A: Allocator>(
 
 /// Appends a remark on a line with this number, where there is something to remark.
 #[inline(always)]
-fn push_remark<A: Allocator>(
+pub(crate) fn push_remark<A: Allocator>(
     found: &mut Vec<Remark, A>,
     number: u64,
     line: &[u8],
@@ -141,7 +167,7 @@ fn push_remarked<A: Allocator>(
 {
     found.push(Remark {
         line: number,
-        rtype: field_at(line, RecordType::COLUMN).bytes(),
+        rtype: Some(field_at(line, RecordType::COLUMN).bytes()),
         what,
     })?;
     Ok(())

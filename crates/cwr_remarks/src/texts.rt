@@ -1,14 +1,17 @@
 ghost use Rattle.std.specs.Prelude.{◌≡◌, ◌++◌, OnOk};
-ghost use Rattle.cwr_remarks.specs.Texts.{high_text, past_text, what_text, shown, line_text, type_text, remark_text, remarks_text};
+ghost use Rattle.cwr_report.specs.Shown.{shown_text};
+ghost use Rattle.cwr_remarks.specs.Texts.{high_text, past_text, version_text, sender_text, what_text, shown_what, line_text, type_text, remark_text, remarks_text};
 
 use crate::remark::{Remark, Remarked};
-use cwr_field::{LEAST_PRINTABLE, Memory, put_decimal};
+use cwr_field::{Memory, put_decimal};
+use cwr_report::put_shown;
 use std::alloc::Allocator;
 
-/// Appends a line for each remark, with LF at its end: the line of the file, the record type, and what is remarked.
+/// Appends a line for each remark, with LF at its end: the line of the file, the record type where there is one, and what is
+/// remarked.
 ///
-/// A byte of a record type below 32 or above 126 is a question mark there. A refusal may leave some of the lines, and a
-/// part of the next.
+/// A byte of the file below 32 or above 126 is shown as `\xEF` there, as by [`put_shown`]. A refusal may leave some of the
+/// lines, and a part of the next.
 pub fn put_remarks<A: Allocator>(out: &mut Vec<u8, A>, remarks: &[Remark]) -> Result<(), Memory>
     ensures { OnOk result (out.new.items ≡ out.old.items ++ remarks_text remarks.now) }
 {
@@ -24,7 +27,7 @@ fn put_remark<A: Allocator>(out: &mut Vec<u8, A>, remark: &Remark) -> Result<(),
 {
     put_line(out, remark.line)?;
     put_type(out, remark.rtype)?;
-    put_what(out, remark.what)?;
+    put_shown_what(out, remark.what)?;
     out.extend_from_slice(b"\n")?;
     Ok(())
 }
@@ -39,30 +42,72 @@ fn put_line<A: Allocator>(out: &mut Vec<u8, A>, number: u64) -> Result<(), Memor
     Ok(())
 }
 
-/// Appends a record type.
-fn put_type<A: Allocator>(out: &mut Vec<u8, A>, rtype: [u8; 3]) -> Result<(), Memory>
+/// Appends a record type, where there is one.
+fn put_type<A: Allocator>(out: &mut Vec<u8, A>, rtype: Option<[u8; 3]>) -> Result<(), Memory>
     ensures { OnOk result (out.new.items ≡ out.old.items ++ type_text rtype) }
 {
-    out.extend_from_slice(&[shown(rtype[0]), shown(rtype[1]), shown(rtype[2])])?;
+    let Some(rtype) = rtype else {
+        return Ok(());
+    };
+    put_shown(out, &rtype)?;
     out.extend_from_slice(b": ")?;
     Ok(())
 }
 
-fn shown(byte: u8) -> u8
-    ensures { result ≡ shown byte }
+/// Appends what is remarked, in words, with bytes of the file as they are shown.
+fn put_shown_what<A: Allocator>(out: &mut Vec<u8, A>, what: Remarked) -> Result<(), Memory>
+    ensures { OnOk result (out.new.items ≡ out.old.items ++ shown_what what) }
 {
-    if byte < LEAST_PRINTABLE || byte > 126 {
-        b'?'
-    } else {
-        byte
+    match what {
+        Remarked::CwrVersion(version) => put_shown_version(out, version),
+        Remarked::SenderType(kind) => put_shown_sender(out, kind),
+        _ => put_what(out, what),
     }
 }
 
-/// Appends what is remarked, in words.
+fn put_shown_version<A: Allocator>(out: &mut Vec<u8, A>, version: [u8; 3]) -> Result<(), Memory>
+    ensures { OnOk result (out.new.items ≡ out.old.items ++ version_text (shown_text version)) }
+{
+    out.extend_from_slice(b"CWR version \"")?;
+    put_shown(out, &version)?;
+    out.extend_from_slice(b"\"; the file is read as CWR 2.2")?;
+    Ok(())
+}
+
+fn put_shown_sender<A: Allocator>(out: &mut Vec<u8, A>, kind: [u8; 2]) -> Result<(), Memory>
+    ensures { OnOk result (out.new.items ≡ out.old.items ++ sender_text (shown_text kind)) }
+{
+    out.extend_from_slice(b"sender type \"")?;
+    put_shown(out, &kind)?;
+    out.extend_from_slice(
+        b"\"; CWR has PB, AA, SO or WR there, or the first two digits of a number of more than nine",
+    )?;
+    Ok(())
+}
+
+/// Appends what is remarked, in words, with bytes of the file as they stand.
 pub(crate) fn put_what<A: Allocator>(out: &mut Vec<u8, A>, what: Remarked) -> Result<(), Memory>
     ensures { OnOk result (out.new.items ≡ out.old.items ++ what_text what) }
 {
     match what {
+        Remarked::ByteOrderMark => put_words(
+            out,
+            b"the file begins with a byte order mark of UTF-8, which is no part of CWR; write it without one",
+        ),
+        Remarked::Utf16 => put_words(
+            out,
+            b"the file is UTF-16, which has two bytes for a letter; write it in ASCII, with one byte for a letter",
+        ),
+        Remarked::Gzip => put_words(
+            out,
+            b"the file is compressed by gzip; unpack it, and send what is in it",
+        ),
+        Remarked::SecondFile => put_words(
+            out,
+            b"a second file begins here; send each file by itself",
+        ),
+        Remarked::CwrVersion(version) => put_version(out, version),
+        Remarked::SenderType(kind) => put_sender(out, kind),
         Remarked::HighBytes { first, count } => put_high(out, first, count),
         Remarked::PastLayout { length, layout } => put_past(out, length, layout),
         Remarked::UnknownType => put_words(
@@ -74,6 +119,26 @@ pub(crate) fn put_what<A: Allocator>(out: &mut Vec<u8, A>, what: Remarked) -> Re
             b"all its territories are exclusions, and none is an inclusion: it collects nowhere",
         ),
     }
+}
+
+fn put_version<A: Allocator>(out: &mut Vec<u8, A>, version: [u8; 3]) -> Result<(), Memory>
+    ensures { OnOk result (out.new.items ≡ out.old.items ++ version_text version) }
+{
+    out.extend_from_slice(b"CWR version \"")?;
+    out.extend_from_slice(&version)?;
+    out.extend_from_slice(b"\"; the file is read as CWR 2.2")?;
+    Ok(())
+}
+
+fn put_sender<A: Allocator>(out: &mut Vec<u8, A>, kind: [u8; 2]) -> Result<(), Memory>
+    ensures { OnOk result (out.new.items ≡ out.old.items ++ sender_text kind) }
+{
+    out.extend_from_slice(b"sender type \"")?;
+    out.extend_from_slice(&kind)?;
+    out.extend_from_slice(
+        b"\"; CWR has PB, AA, SO or WR there, or the first two digits of a number of more than nine",
+    )?;
+    Ok(())
 }
 
 pub(crate) fn put_words<A: Allocator>(out: &mut Vec<u8, A>, words: &[u8]) -> Result<(), Memory>

@@ -1,5 +1,5 @@
 -- What is told of the first fault of a file: lines for a person, each with LF at its end.
-use Rattle.std.specs.Prelude.{ℕ, ◌-◌, ◌==◌, List, [], ◌++◌, Option, Some, None, codes, map, if◌then◌else◌}
+use Rattle.std.specs.Prelude.{ℕ, ◌-◌, ◌==◌, List, [], ◌++◌, Option, Some, None, codes, if◌then◌else◌}
 use Rattle.std.specs.Fmt.{decimal}
 use Rattle.cwr_record.specs.Kinds.{work_kind_code}
 use Rattle.cwr_record.specs.declared.works.WorkKind.{WorkKind}
@@ -10,7 +10,8 @@ use Rattle.cwr_report.specs.declared.file_finding.RecordPlace.TheVariants as pla
 use Rattle.cwr_report.specs.declared.file_finding.WrongByte.{WrongByte}
 use Rattle.cwr_report.specs.declared.file_finding.FileExpected.{FileExpected}
 use Rattle.cwr_report.specs.declared.file_finding.FileExpected.TheVariants as wants
-use Rattle.cwr_report.specs.LongText.{shown, spots_text}
+use Rattle.cwr_report.specs.LongText.{spots_text}
+use Rattle.cwr_report.specs.Shown.{shown_text}
 use Rattle.cwr_report.specs.Walks.{line_at}
 
 -- the text of the rule with this number
@@ -36,7 +37,7 @@ counted words number = words ++ decimal number
 -- a record of a transaction
 abbrev pub detail_text : List ℕ → ℕ → ℕ → ℕ → List ℕ
 detail_text rtype group transaction detail =
-    map shown rtype
+    shown_text rtype
     ++ counted (codes " ") detail
     ++ counted (codes " of transaction ") transaction
     ++ counted (codes " in group ") group
@@ -46,8 +47,8 @@ abbrev pub place_text : List ℕ → RecordPlace → List ℕ
 place_text rtype place.End = codes "end of the file"
 place_text rtype place.AfterTrailer = codes "after TRL"
 place_text rtype place.Nameless = codes "no record type"
-place_text rtype place.File = map shown rtype
-place_text rtype (place.Group group) = map shown rtype ++ counted (codes " of group ") group
+place_text rtype place.File = shown_text rtype
+place_text rtype (place.Group group) = shown_text rtype ++ counted (codes " of group ") group
 place_text rtype (place.Transaction group transaction detail) = detail_text rtype group transaction detail
 
 -- the byte that is wrong

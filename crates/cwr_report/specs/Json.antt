@@ -131,6 +131,11 @@ report_members lines findings all faulty refused =
 abbrev pub report_data : List (List ℕ) → List Finding → ℕ → ℕ → Option FileFinding → Data
 report_data lines findings all faulty refused = object (report_members lines findings all faulty refused)
 
+-- members with the name of a file, a text, where there is one
+abbrev pub with_file : Option (List ℕ) → Members → Members
+with_file None ms = ms
+with_file (Some name) ms = put (codes "file") (string name) ms
+
 -- a value as a text, and LF
 abbrev pub json_line : Data → List ℕ
 json_line value = compact_text value ++ 10 ∷ []

@@ -4,7 +4,7 @@ use Rattle.std.specs.Fmt.{decimal}
 use Rattle.std.specs.Ordering.{nat_cmp, match_ordering}
 use Rattle.std.specs.Cmp.Lexicographic.{slice_cmp}
 use Rattle.json.specs.Print.{quoted}
-use Rattle.serde_json.specs.Data.{Data, null, array, Members, no_members, member}
+use Rattle.serde_json.specs.Data.{Data, null, string, array, Members, no_members, member}
 use Rattle.serde_json.specs.View.{items_of}
 use Rattle.serde_json.specs.Written.{compact_text, comma_if, members_text}
 use Rattle.cwr_report.specs.declared.finding.Finding.{Finding}
@@ -135,15 +135,22 @@ abbrev pub left_text : Bool → Option Member → Members → List ℕ
 left_text later None ms = members_text later ms
 left_text later (Some more) ms = with_text later more.name.now more.text.now ms
 
+-- members behind the name of a file, where there is one
+abbrev pub behind_file : Option (List ℕ) → Members → Members
+behind_file None ms = ms
+behind_file (Some name) ms = member (codes "file") (string name) ms
+
 -- the members of a report
 abbrev pub own_name : ReportMember → List ℕ
 own_name own.Faults = codes "faults"
 own_name own.Faulty = codes "faulty"
+own_name (own.File name) = codes "file"
 own_name own.Refused = codes "refused"
 own_name own.Transactions = codes "transactions"
 
 abbrev pub own_data : List (List ℕ) → List Finding → ℕ → ℕ → Option FileFinding → ReportMember → Data
 own_data lines findings all faulty refused own.Faults = array (items_of (faults_data lines findings refused))
 own_data lines findings all faulty refused own.Faulty = count_data faulty
+own_data lines findings all faulty refused (own.File name) = string name.now
 own_data lines findings all faulty refused own.Refused = refused_data refused
 own_data lines findings all faulty refused own.Transactions = count_data all

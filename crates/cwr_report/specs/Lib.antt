@@ -3,6 +3,7 @@ pub mod Latest
 pub mod Walks
 pub mod Findings
 pub mod Added
+pub mod Shown
 pub mod LongText
 pub mod Before
 pub mod BytesBefore
@@ -13,3 +14,4 @@ pub mod Json
 pub mod JsonText
 pub mod Report
 pub mod Told
+pub mod ToldLines

@@ -1,9 +1,8 @@
 -- What is told of findings: lines for a person, each with LF at its end.
-use Rattle.std.specs.Prelude.{ℕ, ◌-◌, ◌/◌, ◌%◌, ◌&&◌, ◌||◌, ◌==◌, nat_le, List, [], ◌++◌, Option, Some, None, codes, drop, take, map, if◌then◌else◌}
+use Rattle.std.specs.Prelude.{ℕ, ◌-◌, ◌/◌, ◌%◌, ◌&&◌, ◌==◌, nat_le, List, [], ◌++◌, Option, Some, None, codes, drop, take, if◌then◌else◌}
 use Rattle.std.specs.List.{flat_map}
 use Rattle.std.specs.Fmt.{decimal}
 use Rattle.std.specs.Str.{bytes_eq}
-use Rattle.cwr_field.specs.Layout.{is_control}
 use Rattle.cwr_field.specs.Number.{number_text}
 use Rattle.cwr_record.specs.declared.columns.Column.{Column}
 use Rattle.cwr_acknowledgement.specs.Messages.{message_text}
@@ -16,6 +15,7 @@ use Rattle.cwr_report.specs.declared.finding.FieldName.{FieldName}
 use Rattle.cwr_report.specs.declared.finding.FieldName.TheVariants as name
 use Rattle.cwr_report.specs.declared.finding.Expected.{Expected}
 use Rattle.cwr_report.specs.declared.finding.Expected.TheVariants.{Rule, FollowerOf, CheckDigit, Party, Ownership, Collection}
+use Rattle.cwr_report.specs.Shown.{shown_text}
 use Rattle.cwr_report.specs.Walks.{line_at}
 
 -- what a field is called
@@ -47,10 +47,6 @@ name_text name.GroupCount = codes "group count"
 name_text name.TransactionCount = codes "transaction count"
 name_text name.RecordCount = codes "record count"
 
--- a byte below 32, and 127, is shown as a question mark
-abbrev pub shown : ℕ → ℕ
-shown byte = if is_control byte || (byte == 127) then 63 else byte
-
 -- the bytes that a line has in a column
 abbrev pub stands_at : List ℕ → Column → List ℕ
 stands_at line at = take at.width (drop (at.start - 1) line)
@@ -66,7 +62,7 @@ spot_text line (Some spot) =
     ++ codes ", length "
     ++ decimal spot.column.width
     ++ codes ": \""
-    ++ map shown (stands_at line spot.column)
+    ++ shown_text (stands_at line spot.column)
     ++ codes "\"\n"
 
 -- a sum of shares in per cent, with two places
@@ -119,24 +115,31 @@ abbrev pub collection_text : Over → List ℕ
 collection_text over =
     codes "at most 100.06 per cent; in territory " ++ decimal over.territory ++ codes " the shares add up to " ++ collected_text over.totals
 
-abbrev pub after_text : List ℕ → List ℕ
-after_text leading = codes "after " ++ leading ++ codes ": " ++ followers_text leading
+-- after a record whose type is told so
+abbrev pub after_text : List ℕ → List ℕ → List ℕ
+after_text told followers = codes "after " ++ told ++ codes ": " ++ followers
 
--- what the rule with this number asked for
+-- what the rule with this number asked for, with bytes of the file as they stand
 abbrev pub wanted_text : ℕ → Expected → List ℕ
 wanted_text number Rule = rule_text number
-wanted_text number (FollowerOf leading) = after_text leading
+wanted_text number (FollowerOf leading) = after_text leading (followers_text leading)
 wanted_text number (CheckDigit digit) = digit_text digit
 wanted_text number (Party party) = party_text party
 wanted_text number (Ownership total) = ownership_text total
 wanted_text number (Collection over) = collection_text over
 
+-- the same, with bytes of the file as they are shown
+abbrev pub shown_wanted : ℕ → Expected → List ℕ
+shown_wanted number (FollowerOf leading) = after_text (shown_text leading) (followers_text leading)
+shown_wanted number (Party party) = party_text (shown_text party)
+shown_wanted number expected = wanted_text number expected
+
 abbrev pub expected_text : ℕ → Expected → List ℕ
-expected_text number expected = codes "  expected: " ++ wanted_text number expected ++ codes "\n"
+expected_text number expected = codes "  expected: " ++ shown_wanted number expected ++ codes "\n"
 
 -- the faulty record
 abbrev pub record_text : Finding → List ℕ
-record_text f = codes "line " ++ decimal f.line ++ codes ": " ++ f.fault.rtype ++ codes " " ++ decimal f.fault.sequence
+record_text f = codes "line " ++ decimal f.line ++ codes ": " ++ shown_text f.fault.rtype ++ codes " " ++ decimal f.fault.sequence
 
 -- its transaction
 abbrev pub transaction_text : Finding → List ℕ

@@ -15,24 +15,27 @@ pub(crate) struct Member<'a> {
 
 /// The members of a report, in the order of their names.
 #[derive(Clone, Copy)]
-pub(crate) enum ReportMember {
+pub(crate) enum ReportMember<'a> {
     /// The faults.
     Faults,
     /// How many transactions have faults.
     Faulty,
+    /// The name of the file.
+    File(&'a str),
     /// The file is refused.
     Refused,
     /// How many transactions there are.
     Transactions,
 }
 
-impl ReportMember {
+impl ReportMember<'_> {
     pub(crate) fn name(self) -> &'static str
-        ensures { result.now ≡ own_name self }
+        ensures { result.now ≡ own_name self.entry }
     {
         match self {
             ReportMember::Faults => "faults",
             ReportMember::Faulty => "faulty",
+            ReportMember::File(_) => "file",
             ReportMember::Refused => "refused",
             ReportMember::Transactions => "transactions",
         }

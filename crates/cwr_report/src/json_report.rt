@@ -1,10 +1,10 @@
-ghost use Rattle.std.specs.Prelude.{◌≡◌, ◌-◌, ◌∷◌, ◌++◌, [], map, true, false, IfOk, OnOk};
+ghost use Rattle.std.specs.Prelude.{◌≡◌, ◌-◌, ◌∷◌, ◌++◌, [], map, true, false, codes, option_map, IfOk, OnOk};
 ghost use Rattle.std.specs.Str.Lines.{lines};
-ghost use Rattle.serde_json.specs.Data.{Data, Members, member, array, object, put as with_member};
+ghost use Rattle.serde_json.specs.Data.{Data, Members, member, string, array, object, put as with_member};
 ghost use Rattle.serde_json.specs.View.{view, items_of};
 ghost use Rattle.serde_json.specs.Written.{compact_text, comma_if, items_text, has_float};
-ghost use Rattle.cwr_report.specs.Json.{json_line, finding_data, file_data, faults_data, report_members, report_json};
-ghost use Rattle.cwr_report.specs.JsonText.{member_text, left_text, line_with_text, own_name, own_data};
+ghost use Rattle.cwr_report.specs.Json.{json_line, finding_data, file_data, faults_data, report_members, with_file, report_json};
+ghost use Rattle.cwr_report.specs.JsonText.{member_text, left_text, line_with_text, behind_file, own_name, own_data};
 ghost use Rattle.cwr_report.specs.Report.{IsJsonCheck};
 ghost use Rattle.cwr_report.specs.Walks.{IsLineWalk};
 
@@ -12,6 +12,7 @@ use crate::file_finding::FileFinding;
 use crate::finding::Finding;
 use crate::json_faults::{put_file_at, put_finding_at};
 use crate::json_members::{Member, ReportMember, put_last, put_member, put_member_name};
+use crate::json_strings::put_string;
 use crate::json_values::{put_bool, put_comma};
 use crate::line_walk::LineWalk;
 use crate::reporting::{Report, report_on};
@@ -42,7 +43,7 @@ pub fn json_text(alloc: Global, bytes: &[u8], report: &Report) -> Result<Vec<u8>
     ensures { IfOk result (λ text. text.items ≡ report_json (lines bytes.now) report.now.findings.items report.now.transactions report.now.faulty report.now.refused) }
 {
     let mut text = Vec::new(alloc);
-    put_line(alloc, &mut text, bytes, report, None)?;
+    put_line(alloc, &mut text, bytes, report, None, None)?;
     Ok(text)
 }
 
@@ -85,23 +86,45 @@ pub fn json_text_with_text(
         &mut text,
         bytes,
         report,
+        None,
         Some(Member { name, text: more }),
     )?;
     Ok(text)
 }
 
-/// Appends what is told of a report, with one member more where there is one: an object, and LF.
+/// What [`json_text_with_text`] tells of a report on a file of this name, which stands there as a member `file`, a text.
+pub fn json_text_of_file(
+    alloc: Global,
+    bytes: &[u8],
+    report: &Report,
+    file: &str,
+    name: &str,
+    more: &[u8],
+) -> Result<Vec<u8>, Memory>
+    ensures text { IfOk result (λ text. text.items ≡ line_with_text name.now more.now
+        (with_member (codes "file") (string file.now) (report_members (lines bytes.now) report.now.findings.items report.now.transactions report.now.faulty report.now.refused))) }
+    ensures value { (value : Data) → more.now ≡ compact_text value → IfOk result (λ text. text.items ≡ json_line (object (with_member name.now value
+        (with_member (codes "file") (string file.now) (report_members (lines bytes.now) report.now.findings.items report.now.transactions report.now.faulty report.now.refused))))) }
+{
+    let mut text = Vec::new(alloc);
+    let member = Member { name, text: more };
+    put_line(alloc, &mut text, bytes, report, Some(file), Some(member))?;
+    Ok(text)
+}
+
+/// Appends what is told of a report, with the file's name and one member more where there are such: an object, and LF.
 fn put_line(
     alloc: Global,
     out: &mut Vec<u8>,
     bytes: &[u8],
     report: &Report,
+    file: Option<&str>,
     more: Option<Member>,
 ) -> Result<(), Memory>
-    ensures { OnOk result (out.new.items ≡ out.old.items ++ 123 ∷ (left_text false more.entry (report_members (lines bytes.now) report.now.findings.items report.now.transactions report.now.faulty report.now.refused) ++ 10 ∷ [])) }
+    ensures { OnOk result (out.new.items ≡ out.old.items ++ 123 ∷ (left_text false more.entry (with_file (option_map (λ name. name.now) file.entry) (report_members (lines bytes.now) report.now.findings.items report.now.transactions report.now.faulty report.now.refused)) ++ 10 ∷ [])) }
 {
     out.push(b'{')?;
-    put_members(alloc, out, bytes, report, more)?;
+    put_members(alloc, out, bytes, report, file, more)?;
     out.push(b'\n')?;
     Ok(())
 }
@@ -112,9 +135,10 @@ fn put_members(
     out: &mut Vec<u8>,
     bytes: &[u8],
     report: &Report,
+    file: Option<&str>,
     more: Option<Member>,
 ) -> Result<(), Memory>
-    ensures { OnOk result (out.new.items ≡ out.old.items ++ left_text false more.entry (report_members (lines bytes.now) report.now.findings.items report.now.transactions report.now.faulty report.now.refused)) }
+    ensures { OnOk result (out.new.items ≡ out.old.items ++ left_text false more.entry (with_file (option_map (λ name. name.now) file.entry) (report_members (lines bytes.now) report.now.findings.items report.now.transactions report.now.faulty report.now.refused))) }
 {
     let mut room = Vec::new(alloc);
     let more = put_next(
@@ -135,6 +159,7 @@ fn put_members(
         more,
         ReportMember::Faulty,
     )?;
+    let more = put_file(out, &mut room, bytes, report, file, more)?;
     let more = put_next(
         out,
         &mut room,
@@ -156,6 +181,33 @@ fn put_members(
     put_last(out, more)
 }
 
+/// Appends the name of the file, where there is one, and before it or in its stead the one more. Gives what is left of the
+/// one more.
+fn put_file<'a>(
+    out: &mut Vec<u8>,
+    room: &mut Vec<u8>,
+    bytes: &[u8],
+    report: &Report,
+    file: Option<&str>,
+    more: Option<Member<'a>>,
+) -> Result<Option<Member<'a>>, Memory>
+    ensures { (ms : Members) → IfOk result (λ left. out.new.items ++ left_text true left ms ≡ out.old.items ++ left_text true more.entry
+        (behind_file (option_map (λ name. name.now) file.entry) ms)) }
+{
+    match file {
+        None => Ok(more),
+        Some(name) => put_next(
+            out,
+            room,
+            bytes,
+            report,
+            true,
+            more,
+            ReportMember::File(name),
+        ),
+    }
+}
+
 /// Appends a member of a report, and the one more where its place is before that, or in its stead. Gives what is left of
 /// the one more.
 fn put_next<'a>(
@@ -168,7 +220,7 @@ fn put_next<'a>(
     own: ReportMember,
 ) -> Result<Option<Member<'a>>, Memory>
     ensures { (ms : Members) → IfOk result (λ left. out.new.items ++ left_text true left ms ≡ out.old.items ++ left_text later more.entry
-        (member (own_name own) (own_data (lines bytes.now) report.now.findings.items report.now.transactions report.now.faulty report.now.refused own) ms)) }
+        (member (own_name own.entry) (own_data (lines bytes.now) report.now.findings.items report.now.transactions report.now.faulty report.now.refused own.entry) ms)) }
 {
     let Some(member) = more else {
         put_own(out, room, bytes, report, later, own)?;
@@ -200,8 +252,8 @@ fn put_own(
     later: bool,
     own: ReportMember,
 ) -> Result<(), Memory>
-    ensures { OnOk result (out.new.items ≡ out.old.items ++ member_text later (own_name own)
-        (compact_text (own_data (lines bytes.now) report.now.findings.items report.now.transactions report.now.faulty report.now.refused own))) }
+    ensures { OnOk result (out.new.items ≡ out.old.items ++ member_text later (own_name own.entry)
+        (compact_text (own_data (lines bytes.now) report.now.findings.items report.now.transactions report.now.faulty report.now.refused own.entry))) }
 {
     put_member_name(out, later, own.name())?;
     put_value(out, room, bytes, report, own)?;
@@ -217,11 +269,12 @@ fn put_value(
     own: ReportMember,
 ) -> Result<(), Memory>
     ensures { OnOk result (out.new.items ≡ out.old.items
-        ++ compact_text (own_data (lines bytes.now) report.now.findings.items report.now.transactions report.now.faulty report.now.refused own)) }
+        ++ compact_text (own_data (lines bytes.now) report.now.findings.items report.now.transactions report.now.faulty report.now.refused own.entry)) }
 {
     match own {
         ReportMember::Faults => put_faults(out, room, bytes, &report.findings, &report.refused),
         ReportMember::Faulty => put_decimal(out, report.faulty),
+        ReportMember::File(name) => put_string(out, name),
         ReportMember::Refused => put_bool(out, report.refused.is_some()),
         ReportMember::Transactions => put_decimal(out, report.transactions),
     }

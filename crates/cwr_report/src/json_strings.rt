@@ -159,9 +159,18 @@ fn hex_digit(digit: u8) -> u8
 pub(crate) fn put_name(out: &mut Vec<u8>, name: &str) -> Result<(), Memory>
     ensures { OnOk result (out.new.items ≡ out.old.items ++ quoted name.now ++ 58 ∷ []) }
 {
+    put_string(out, name)?;
+    out.push(b':')?;
+    Ok(())
+}
+
+/// Appends a text in UTF-8, between quotes.
+pub(crate) fn put_string(out: &mut Vec<u8>, text: &str) -> Result<(), Memory>
+    ensures { OnOk result (out.new.items ≡ out.old.items ++ quoted text.now) }
+{
     out.push(b'"')?;
-    put_bytes(out, name.as_bytes())?;
-    out.extend_from_slice(b"\":")?;
+    put_bytes(out, text.as_bytes())?;
+    out.push(b'"')?;
     Ok(())
 }
 

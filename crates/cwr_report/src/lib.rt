@@ -24,7 +24,9 @@ mod line_walk;
 mod long_lines;
 mod numbers;
 mod reporting;
+mod shown;
 mod telling;
+mod told_lines;
 mod walk;
 mod words;
 
@@ -36,8 +38,12 @@ pub use cwr_rules::{Over, Totals};
 pub use file_finding::{FileExpected, FileFinding, RecordPlace, WrongByte};
 pub use file_words::file_rule_text;
 pub use finding::{Expected, FieldName, Finding, Spot};
-pub use json_report::{check_json, json_text, json_text_with, json_text_with_text};
+pub use json_report::{
+    check_json, json_text, json_text_of_file, json_text_with, json_text_with_text,
+};
 pub use json_strings::put_json_text;
 pub use json_values::text_value;
 pub use reporting::{Report, report_on};
-pub use telling::{check_long, long_text};
+pub use shown::put_shown;
+pub use telling::{check_faults, check_long, long_text};
+pub use told_lines::{put_fault_lines, put_named_lines};

@@ -1,11 +1,13 @@
-ghost use Rattle.std.specs.Prelude.{◌≡◌, ◌++◌, map, OnOk};
-ghost use Rattle.cwr_report.specs.LongText.{shown, stands_at, spot_text, spots_text, percent_text, after_text, digit_text, party_text, ownership_text, collection_text, collected_text, wanted_text, expected_text, record_text, transaction_text, message_of, broken_text, told_of};
+ghost use Rattle.std.specs.Prelude.{◌≡◌, ◌++◌, OnOk};
+ghost use Rattle.cwr_report.specs.LongText.{stands_at, spot_text, spots_text, percent_text, followers_text, after_text, digit_text, party_text, ownership_text, collection_text, collected_text, wanted_text, shown_wanted, expected_text, record_text, transaction_text, message_of, broken_text, told_of};
+ghost use Rattle.cwr_report.specs.Shown.{shown_text};
 
 use crate::finding::{Expected, Finding, Spot};
 use crate::numbers::put_number;
+use crate::shown::put_shown;
 use crate::words::{followers_text, name_text, rule_text};
 use cwr_acknowledgement::message_text;
-use cwr_field::{LEAST_PRINTABLE, Memory, put_decimal, put_digits};
+use cwr_field::{Memory, put_decimal, put_digits};
 use cwr_record::Column;
 use cwr_rules::{Over, Totals};
 use std::alloc::Allocator;
@@ -33,7 +35,7 @@ fn put_record<A: Allocator>(out: &mut Vec<u8, A>, finding: &Finding) -> Result<(
     out.extend_from_slice(b"line ")?;
     put_decimal(out, finding.line)?;
     out.extend_from_slice(b": ")?;
-    out.extend_from_slice(&finding.fault.rtype)?;
+    put_shown(out, &finding.fault.rtype)?;
     out.extend_from_slice(b" ")?;
     put_decimal(out, finding.fault.sequence as u64)?;
     Ok(())
@@ -116,27 +118,7 @@ pub(crate) fn stands_at(line: &[u8], column: Column) -> &[u8]
     rest.get(..column.width).unwrap_or(rest)
 }
 
-/// Appends bytes, with a question mark for each below 32 and each 127.
-pub(crate) fn put_shown<A: Allocator>(out: &mut Vec<u8, A>, bytes: &[u8]) -> Result<(), Memory>
-    ensures { OnOk result (out.new.items ≡ out.old.items ++ map shown bytes.now) }
-{
-    for byte in bytes {
-        out.push(shown(*byte))?;
-    }
-    Ok(())
-}
-
-fn shown(byte: u8) -> u8
-    ensures { result ≡ shown byte }
-{
-    if byte < LEAST_PRINTABLE || byte == 127 {
-        b'?'
-    } else {
-        byte
-    }
-}
-
-/// Appends what the rule with this number asked for.
+/// Appends what the rule with this number asked for, with bytes of the file as they are shown.
 fn put_expected<A: Allocator>(
     out: &mut Vec<u8, A>,
     number: u8,
@@ -145,11 +127,45 @@ fn put_expected<A: Allocator>(
     ensures { OnOk result (out.new.items ≡ out.old.items ++ expected_text number expected.now) }
 {
     out.extend_from_slice(b"  expected: ")?;
-    put_wanted(out, number, expected)?;
+    put_shown_wanted(out, number, expected)?;
     out.extend_from_slice(b"\n")?;
     Ok(())
 }
 
+fn put_shown_wanted<A: Allocator>(
+    out: &mut Vec<u8, A>,
+    number: u8,
+    expected: &Expected,
+) -> Result<(), Memory>
+    ensures { OnOk result (out.new.items ≡ out.old.items ++ shown_wanted number expected.now) }
+{
+    match *expected {
+        Expected::FollowerOf(leading) => put_shown_followers(out, leading),
+        Expected::Party(party) => put_shown_party(out, party),
+        _ => put_wanted(out, number, expected),
+    }
+}
+
+fn put_shown_followers<A: Allocator>(out: &mut Vec<u8, A>, leading: [u8; 3]) -> Result<(), Memory>
+    ensures { OnOk result (out.new.items ≡ out.old.items ++ after_text (shown_text leading) (followers_text leading)) }
+{
+    out.extend_from_slice(b"after ")?;
+    put_shown(out, &leading)?;
+    out.extend_from_slice(b": ")?;
+    out.extend_from_slice(followers_text(leading))?;
+    Ok(())
+}
+
+fn put_shown_party<A: Allocator>(out: &mut Vec<u8, A>, party: [u8; 9]) -> Result<(), Memory>
+    ensures { OnOk result (out.new.items ≡ out.old.items ++ party_text (shown_text party)) }
+{
+    out.extend_from_slice(b"\"")?;
+    put_shown(out, &party)?;
+    out.extend_from_slice(b"\"")?;
+    Ok(())
+}
+
+/// Appends what the rule with this number asked for, with bytes of the file as they stand.
 pub(crate) fn put_wanted<A: Allocator>(
     out: &mut Vec<u8, A>,
     number: u8,
@@ -175,7 +191,7 @@ pub(crate) fn put_text<A: Allocator>(out: &mut Vec<u8, A>, text: &[u8]) -> Resul
 }
 
 fn put_followers<A: Allocator>(out: &mut Vec<u8, A>, leading: [u8; 3]) -> Result<(), Memory>
-    ensures { OnOk result (out.new.items ≡ out.old.items ++ after_text leading) }
+    ensures { OnOk result (out.new.items ≡ out.old.items ++ after_text leading (followers_text leading)) }
 {
     out.extend_from_slice(b"after ")?;
     out.extend_from_slice(&leading)?;

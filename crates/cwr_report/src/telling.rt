@@ -4,7 +4,7 @@ ghost use Rattle.std.specs.Str.Lines.{lines};
 ghost use Rattle.cwr_check.specs.CheckText.{total_line};
 ghost use Rattle.cwr_report.specs.FileText.{file_text};
 ghost use Rattle.cwr_report.specs.LongText.{finding_text, long_text};
-ghost use Rattle.cwr_report.specs.Report.{report_text, IsLongCheck};
+ghost use Rattle.cwr_report.specs.Report.{report_text, faults_text, IsLongCheck, IsFaultsCheck};
 ghost use Rattle.cwr_report.specs.Walks.{IsLineWalk};
 
 use crate::file_finding::FileFinding;
@@ -30,6 +30,35 @@ pub fn check_long<A: Allocator + Copy>(alloc: A, bytes: &[u8]) -> Result<Checked
         text,
         clean: report.refused.is_none() && report.faulty == 0,
     })
+}
+
+/// Checks a file as [`check_long`] does, and tells its faults alone: of a well-formed file no last line, so that nothing is
+/// told of one without faults.
+///
+/// It is clean where `check_text` finds it so. Where memory is refused nothing is told.
+pub fn check_faults<A: Allocator + Copy>(alloc: A, bytes: &[u8]) -> Result<Checked<A>, Memory>
+    ensures { IfOk result (λ checked. IsFaultsCheck bytes.now checked.text.items checked.clean) }
+{
+    let report = report_on(alloc, bytes)?;
+    let text = faults_text(alloc, bytes, &report)?;
+    let clean = report.refused.is_none() && report.faulty == 0;
+    Ok(Checked { text, clean })
+}
+
+/// What is told of the faults of a report.
+fn faults_text<A: Allocator + Copy>(
+    alloc: A,
+    bytes: &[u8],
+    report: &Report<A>,
+) -> Result<Vec<u8, A>, Memory>
+    ensures { IfOk result (λ text. text.items ≡ faults_text (lines bytes.now) report.now.findings.items report.now.refused) }
+{
+    let mut text = Vec::new(alloc);
+    match &report.refused {
+        Some(refused) => put_refused(&mut text, bytes, refused)?,
+        None => put_findings(&mut text, bytes, &report.findings)?,
+    }
+    Ok(text)
 }
 
 /// What is told of a report to a person, with what stands in the file that it is a report on.

@@ -1,5 +1,7 @@
 //! A runtime of the tests' own: words, standard input, files, and what was printed. Threads are those of another one.
 
+ghost use Rattle.std.specs.Prelude.{◌≤◌, length, IfOk};
+
 use crate::calls::{Calls, Disk};
 use crate::fake_files::{FakeFile, KeptFile, NO_SUCH_FILE};
 use cwr_sheets::{same, same_bytes, same_text};
@@ -13,11 +15,16 @@ use std::sync::{Mutex, Wait};
 use std::test::Fail;
 use std::thread::Threads;
 
+/// The number by which the system tells that there is no space left.
+const NO_SPACE: i32 = 28;
+
 /// What the program finds when it is run, and what it leaves.
 pub struct Fake<'a, T> {
     /// The runtime that starts threads and waits.
     pub(crate) rt: &'a T,
     pub(crate) words: &'a [&'a str],
+    /// The word that is not text: its number, behind the program's name, and its bytes.
+    pub(crate) strange: Option<(usize, &'a [u8])>,
     pub(crate) input: &'a [u8],
     /// The files that can only be read, by name.
     pub(crate) files: &'a [(&'a str, FakeFile<'a>)],
@@ -33,6 +40,8 @@ pub struct Fake<'a, T> {
     pub(crate) calls: Option<&'a Calls>,
     /// Whether a file was opened that can only be read.
     pub(crate) has_read: Mutex<bool>,
+    /// How many bytes standard output takes before a write fails.
+    pub(crate) takes: usize,
     pub(crate) alloc: Global,
     pub(crate) printed: Mutex<Vec<u8>>,
     pub(crate) complained: Mutex<String>,
@@ -45,6 +54,7 @@ impl<'a, T: AllocGlobal> Fake<'a, T> {
         Fake {
             rt,
             words,
+            strange: None,
             input,
             files: &[],
             kept: &[],
@@ -53,6 +63,7 @@ impl<'a, T: AllocGlobal> Fake<'a, T> {
             locked: &[],
             calls: None,
             has_read: Mutex::new(false),
+            takes: usize::MAX,
             alloc,
             printed: Mutex::new(Vec::new(alloc)),
             complained: Mutex::new(String::new(alloc)),
@@ -68,6 +79,7 @@ impl<'a, T: AllocGlobal> Fake<'a, T> {
         let Fake {
             rt,
             words,
+            strange,
             input,
             files: _,
             kept: _,
@@ -76,6 +88,7 @@ impl<'a, T: AllocGlobal> Fake<'a, T> {
             locked,
             calls,
             has_read,
+            takes,
             alloc,
             printed,
             complained,
@@ -83,6 +96,7 @@ impl<'a, T: AllocGlobal> Fake<'a, T> {
         Fake {
             rt,
             words,
+            strange,
             input,
             files,
             kept,
@@ -91,6 +105,7 @@ impl<'a, T: AllocGlobal> Fake<'a, T> {
             locked,
             calls,
             has_read,
+            takes,
             alloc,
             printed,
             complained,
@@ -106,6 +121,7 @@ impl<'a, T: AllocGlobal> Fake<'a, T> {
         let Fake {
             rt,
             words,
+            strange,
             input,
             files,
             kept,
@@ -114,6 +130,7 @@ impl<'a, T: AllocGlobal> Fake<'a, T> {
             locked,
             calls,
             has_read,
+            takes,
             alloc,
             printed,
             complained,
@@ -121,6 +138,7 @@ impl<'a, T: AllocGlobal> Fake<'a, T> {
         Fake {
             rt,
             words,
+            strange,
             input,
             files,
             kept,
@@ -129,6 +147,7 @@ impl<'a, T: AllocGlobal> Fake<'a, T> {
             locked,
             calls,
             has_read,
+            takes,
             alloc,
             printed,
             complained,
@@ -144,6 +163,7 @@ impl<'a, T: AllocGlobal> Fake<'a, T> {
         let Fake {
             rt,
             words,
+            strange,
             input,
             files: _,
             kept: _,
@@ -152,6 +172,7 @@ impl<'a, T: AllocGlobal> Fake<'a, T> {
             locked: _,
             calls: _,
             has_read,
+            takes,
             alloc,
             printed,
             complained,
@@ -159,6 +180,7 @@ impl<'a, T: AllocGlobal> Fake<'a, T> {
         Fake {
             rt,
             words,
+            strange,
             input,
             files,
             kept: &disk.files,
@@ -167,10 +189,25 @@ impl<'a, T: AllocGlobal> Fake<'a, T> {
             locked: disk.locked,
             calls: Some(&disk.calls),
             has_read,
+            takes,
             alloc,
             printed,
             complained,
         }
+    }
+
+    /// The same runtime, whose standard output takes at most so many bytes.
+    pub fn taking(self, most: usize) -> Fake<'a, T> {
+        let mut fake = self;
+        fake.takes = most;
+        fake
+    }
+
+    /// The same runtime, of whose words the one with this number has these bytes.
+    pub fn with_word(self, number: usize, bytes: &'a [u8]) -> Fake<'a, T> {
+        let mut fake = self;
+        fake.strange = Some((number, bytes));
+        fake
     }
 
     /// What went to standard output and to standard error.
@@ -178,6 +215,7 @@ impl<'a, T: AllocGlobal> Fake<'a, T> {
         let Fake {
             rt: _,
             words: _,
+            strange: _,
             input: _,
             files: _,
             kept: _,
@@ -186,6 +224,7 @@ impl<'a, T: AllocGlobal> Fake<'a, T> {
             locked: _,
             calls: _,
             has_read: _,
+            takes: _,
             alloc: _,
             printed,
             complained,
@@ -210,12 +249,29 @@ pub fn expect_program<T: AllocGlobal + Threads + Wait + Sync>(
 }
 
 impl<T> Fake<'_, T> {
-    /// Prints bytes.
+    /// Prints bytes, or as many as standard output takes.
     pub(crate) fn put(&self, bytes: &[u8]) -> io::Result<()> {
-        if let Some(mut printed) = self.printed.try_lock() {
-            printed.extend_from_slice(bytes)?;
+        let n = self.put_some(bytes)?;
+        if n < bytes.len() {
+            self.put_some(&bytes[n..])?;
         }
         Ok(())
+    }
+
+    /// Prints the first bytes: as many as standard output takes.
+    pub(crate) fn put_some(&self, bytes: &[u8]) -> io::Result<usize>
+        ensures bound { IfOk result (λ n. n ≤ length bytes.now) }
+    {
+        let Some(mut printed) = self.printed.try_lock() else {
+            return Ok(bytes.len());
+        };
+        let left = self.takes.saturating_sub(printed.len());
+        if left == 0 && !bytes.is_empty() {
+            return Err(io::Error::from_raw_os_error(NO_SPACE));
+        }
+        let n = bytes.len().min(left);
+        printed.extend_from_slice(&bytes[..n])?;
+        Ok(n)
     }
 
     /// Writes a value to standard error.
@@ -235,6 +291,14 @@ impl<'a, T> Fake<'a, T> {
         match self.calls {
             Some(calls) => calls.make(what, name),
             None => Ok(()),
+        }
+    }
+
+    /// The word with this number, behind the program's name.
+    pub(crate) fn word(&self, number: usize) -> Option<&'a [u8]> {
+        match self.strange {
+            Some((strange, bytes)) if strange == number => Some(bytes),
+            Some(_) | None => Some(self.words.get(number)?.as_bytes()),
         }
     }
 

@@ -24,18 +24,14 @@ impl<T: Wait> Wait for Fake<'_, T> {}
 
 impl<T> Env for Fake<'_, T> {
     fn arg(&self, i: usize, buf: &mut [u8]) -> Result<usize, FillError> {
-        match self.words.get(i) {
-            Some(word) => {
-                let text = word.as_bytes();
-                if text.len() <= buf.len() {
-                    buf[..text.len()].copy_from_slice(text);
-                    Ok(text.len())
-                } else {
-                    Err(FillError::TooLong)
-                }
-            }
-            None => Err(FillError::NotPresent),
+        let Some(word) = self.word(i) else {
+            return Err(FillError::NotPresent);
+        };
+        if word.len() > buf.len() {
+            return Err(FillError::TooLong);
         }
+        buf[..word.len()].copy_from_slice(word);
+        Ok(word.len())
     }
 
     fn var(&self, _name: &str, _buf: &mut [u8]) -> Result<usize, FillError> {
@@ -85,6 +81,10 @@ impl<T> Print for Fake<'_, T> {
 
     fn write_all(&self, bytes: &[u8]) -> io::Result<()> {
         self.put(bytes)
+    }
+
+    fn write_some(&self, bytes: &[u8]) -> io::Result<usize> {
+        self.put_some(bytes)
     }
 }
 

@@ -1,7 +1,8 @@
 //! Plays: commands over files, one after the other, with what each must print and leave.
 
+use crate::fake::{Fake, expect_program};
 use crate::fake_files::{FakeFile, KeptFile};
-use crate::runs::{expect_fed, expect_held, keeping};
+use crate::runs::{expect_held, keeping};
 use crate::step::Step;
 use crate::text::Text;
 use std::alloc::Global;
@@ -128,16 +129,10 @@ fn expect_step<T: AllocGlobal + Threads + Wait + Sync>(
     let input = step.input.bytes(alloc)?;
     let printed = step.printed.bytes(alloc)?;
     let status = ExitCode::from(step.status);
-    expect_fed(
-        rt,
-        &words,
-        &input,
-        files,
-        kept,
-        status,
-        &printed,
-        step.complained,
-    )?;
+    let fake = Fake::new(rt, &words, &input)
+        .with_files(files, kept)
+        .taking(step.takes);
+    expect_program(fake, status, &printed, step.complained)?;
     for (name, text) in step.held {
         expect_text(alloc, kept, name, *text)?;
     }

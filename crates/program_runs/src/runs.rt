@@ -43,23 +43,8 @@ pub fn expect<T: AllocGlobal + Threads + Wait + Sync>(
     printed: &str,
     complained: &str,
 ) -> Result<(), Fail> {
-    let printed = printed.as_bytes();
-    expect_fed(rt, words, b"", files, kept, status, printed, complained)
-}
-
-/// The same with this standard input.
-pub(crate) fn expect_fed<T: AllocGlobal + Threads + Wait + Sync>(
-    rt: &T,
-    words: &[&str],
-    input: &[u8],
-    files: &[(&str, FakeFile)],
-    kept: &[KeptFile],
-    status: ExitCode,
-    printed: &[u8],
-    complained: &str,
-) -> Result<(), Fail> {
-    let fake = Fake::new(rt, words, input).with_files(files, kept);
-    expect_program(fake, status, printed, complained)
+    let fake = Fake::new(rt, words, b"").with_files(files, kept);
+    expect_program(fake, status, printed.as_bytes(), complained)
 }
 
 /// A file of this name that holds this text so far, and takes at most so many bytes.

@@ -12,6 +12,8 @@ pub struct Step<'a> {
     /// Whether the words stand behind those of a run with the stamp of all acknowledgements.
     is_run: bool,
     pub(crate) input: Text<'a>,
+    /// How many bytes standard output takes.
+    pub(crate) takes: usize,
     pub(crate) status: u8,
     pub(crate) printed: Text<'a>,
     pub(crate) complained: &'a str,
@@ -26,6 +28,7 @@ impl<'a> Step<'a> {
             words,
             is_run: false,
             input: Text::Bytes(b""),
+            takes: usize::MAX,
             status: 0,
             printed: Text::Bytes(b""),
             complained: "",
@@ -44,6 +47,13 @@ impl<'a> Step<'a> {
     pub fn reads(self, input: Text<'a>) -> Step<'a> {
         let mut step = self;
         step.input = input;
+        step
+    }
+
+    /// The same, whose standard output takes at most so many bytes.
+    pub fn taking(self, most: usize) -> Step<'a> {
+        let mut step = self;
+        step.takes = most;
         step
     }
 
@@ -79,6 +89,7 @@ impl<'a> Step<'a> {
             words,
             is_run,
             input,
+            takes,
             status,
             printed,
             complained,
@@ -88,6 +99,7 @@ impl<'a> Step<'a> {
             words,
             is_run,
             input,
+            takes,
             status,
             printed,
             complained,

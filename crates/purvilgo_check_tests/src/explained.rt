@@ -1,11 +1,13 @@
-//! What `explain` tells of rules.
+//! What `explain` tells of rules and answers.
 
 use cwr_sheets::{same, same_bytes};
 use program_runs::{Fake, expect_program};
 use purvilgo_command::run_program;
 use std::process::ExitCode;
 use std::str::Lines;
+use std::sync::Wait;
 use std::test::Fail;
+use std::thread::Threads;
 
 /// The pages of a rule of each kind, in the order of the words.
 #[test]
@@ -35,6 +37,72 @@ mended by: mend the shares, first those that J6 names: these count nothing\n",
     )
 }
 
+/// The page of each answer, whatever the case of the word.
+#[test]
+fn tells_the_answers_that_are_named(rt: HostRuntime) -> Result<(), Fail> {
+    let words = ["purvilgo", "explain", "co", "AS", "Rj", "dU"];
+    let fake = Fake::new(&rt, &words, b"");
+    expect_program(
+        fake,
+        ExitCode::SUCCESS,
+        b"CO conflict\n  \
+means: nothing is registered: claims on a work meet that cannot stand beside one another, and the registry does not choose\n  \
+given for: shares that come to more than 100.06 per cent in a right, with those of the other claims on the work; \
+or an ISWC that is another than the work's, or that of another work\n  \
+then: ask the society which claims meet, by the work number of the ACK record (purvilgo history --work N REGISTER tells it); \
+settle it with the other submitter, and send it again\n\
+AS accepted\n  \
+means: the claim is registered, as the current one under its submitter and submitter work number\n  \
+given for: a transaction that breaks no rule, is no duplicate, and meets no claim that it cannot stand beside\n  \
+then: keep the work number of the ACK record; to change the claim, send REV under the same submitter work number\n\
+RJ rejected\n  \
+means: nothing is registered: the transaction breaks rules\n  \
+given for: faults of J1 to J15, for each of which an MSG record stands behind the ACK record\n  \
+then: see what the numbers of the MSG records ask (purvilgo explain 011) and what stands in the file \
+(purvilgo check --long FILE); mend it, and send it again\n\
+DU duplicate\n  \
+means: nothing is changed: what was registered before stands\n  \
+given for: an NWR under a submitter work number that this submitter has registered already\n  \
+then: nothing, where it was sent twice; to change the claim, send REV; \
+a work of its own needs a submitter work number of its own\n",
+        "",
+    )
+}
+
+/// A rule is named in either case, with zeros before its number, and by the number that an MSG record has.
+#[test]
+fn takes_the_words_that_people_have(rt: HostRuntime) -> Result<(), Fail> {
+    let cases = [
+        (["j8", "J08", "J008", "8"], "J8 "),
+        (["011", "11", "j11", "J011"], "J11 "),
+        (["f9", "F09", "f009", "F9"], "F9 "),
+        (["g3", "G03", "G003", "g003"], "G3 "),
+        (["1", "01", "001", "j1"], "J1 "),
+        (["15", "015", "j015", "J15"], "J15 "),
+    ];
+    for (words, heading) in cases {
+        for word in words {
+            let words = ["purvilgo", "explain", word];
+            let fake = Fake::new(&rt, &words, b"");
+            expect_heading(fake, heading)?;
+        }
+    }
+    Ok(())
+}
+
+/// The program must end with status 0, and print one page, with this heading.
+fn expect_heading<T: AllocGlobal + Threads + Wait + Sync>(
+    fake: Fake<T>,
+    heading: &str,
+) -> Result<(), Fail> {
+    let ended = run_program(&fake);
+    let (printed, _) = fake.into_texts();
+    same(heading, &ended, &ExitCode::SUCCESS)?;
+    let text = str::from_utf8(&printed)?;
+    same(heading, &text.starts_with(heading), &true)?;
+    same(heading, &text.lines().count(), &4)
+}
+
 /// A word that is no rule is told alone, also after rules.
 #[test]
 fn tells_what_is_no_rule(rt: HostRuntime) -> Result<(), Fail> {
@@ -43,8 +111,14 @@ fn tells_what_is_no_rule(rt: HostRuntime) -> Result<(), Fail> {
         ("F0", "no rule F0\n"),
         ("J16", "no rule J16\n"),
         ("G5", "no rule G5\n"),
-        ("J011", "no rule J011\n"),
-        ("j4", "no rule j4\n"),
+        ("J0011", "no rule J0011\n"),
+        ("016", "no rule 016\n"),
+        ("0", "no rule 0\n"),
+        ("0011", "no rule 0011\n"),
+        ("H1", "no rule H1\n"),
+        ("j", "no rule j\n"),
+        ("AC", "no rule AC\n"),
+        ("ASS", "no rule ASS\n"),
         ("", "no rule \n"),
     ];
     for (word, complained) in cases {
@@ -60,7 +134,7 @@ fn tells_what_is_no_rule(rt: HostRuntime) -> Result<(), Fail> {
 }
 
 /// The first lines of all pages. Those of J1 to J15 end with the texts of their MSG records, as the profile has them.
-const HEADINGS: [&str; 31] = [
+const HEADINGS: [&str; 35] = [
     "F1 ",
     "F2 ",
     "F3 ",
@@ -92,13 +166,27 @@ const HEADINGS: [&str; 31] = [
     "G2 ",
     "G3 ",
     "G4 ",
+    "AS accepted",
+    "DU duplicate",
+    "CO conflict",
+    "RJ rejected",
 ];
+
+/// What the further lines of the page with this heading begin with.
+fn labels_of(heading: &str) -> [&'static str; 3] {
+    match heading {
+        "AS accepted" | "DU duplicate" | "CO conflict" | "RJ rejected" => {
+            ["  means: ", "  given for: ", "  then: "]
+        }
+        _ => ["  asks: ", "  broken by: ", "  mended by: "],
+    }
+}
 
 /// The next lines must be the page of this heading.
 fn expect_page(lines: &mut Lines, heading: &str) -> Result<(), Fail> {
     let line = lines.next().ok_or("a heading")?;
     same(heading, &line.starts_with(heading), &true)?;
-    for label in ["  asks: ", "  broken by: ", "  mended by: "] {
+    for label in labels_of(heading) {
         let line = lines.next().ok_or("a line of a page")?;
         same(heading, &line.starts_with(label), &true)?;
     }
@@ -117,6 +205,7 @@ fn expect_pages(ended: ExitCode, printed: &[u8], complained: &str) -> Result<(),
     same("a line more", &lines.next(), &None)
 }
 
+/// Without words all rules and then all answers are told.
 #[test]
 fn tells_every_rule(rt: HostRuntime) -> Result<(), Fail> {
     let fake = Fake::new(&rt, &["purvilgo", "explain"], b"");

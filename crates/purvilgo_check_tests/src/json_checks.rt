@@ -64,15 +64,17 @@ fn tells_the_place_of_a_byte(rt: HostRuntime) -> Result<(), Fail> {
 
 #[test]
 fn tells_each_byte_as_the_character_with_its_number(rt: HostRuntime) -> Result<(), Fail> {
-    let cases: [(&[u8], &str); 3] = [
-        (b"\xef\xbb\xbfHDR", "\u{ef}\u{bb}\u{bf}"),
-        (b"\xff\x80\x7fHDR", "\u{ff}\u{80}\u{7f}"),
-        (b"H\t\"HDR", "H\\t\\\""),
+    let mark =
+        "{\"count\":null,\"first\":null,\"kind\":\"byte order mark\",\"layout\":null,\"length\":null,\"line\":1,\"record\":null,\"text\":\"the file begins with a byte order mark of UTF-8, which is no part of CWR; write it without one\"}";
+    let cases: [(&[u8], &str, &str); 3] = [
+        (b"\xef\xbb\xbfHDR", "\u{ef}\u{bb}\u{bf}", mark),
+        (b"\xff\x80\x7fHDR", "\u{ff}\u{80}\u{7f}", ""),
+        (b"H\t\"HDR", "H\\t\\\"", ""),
     ];
-    for (input, told) in cases {
+    for (input, told, remarked) in cases {
         let alloc = rt.alloc();
         let wanted = format!(in alloc;
-            "{{\"faults\":[{{\"byte\":null,\"expected\":\"HDR\",\"fields\":[{{\"bytes\":\"{told}\",\"length\":3,\"name\":\"record type\",\"start\":1}}],\"group\":null,\"line\":1,\"record\":null,\"rule\":\"F1\",\"sequence\":null,\"text\":\"the file does not begin with HDR\",\"transaction\":null}}],\"faulty\":0,\"refused\":true,\"remarks\":[],\"transactions\":0}}\n"
+            "{{\"faults\":[{{\"byte\":null,\"expected\":\"HDR\",\"fields\":[{{\"bytes\":\"{told}\",\"length\":3,\"name\":\"record type\",\"start\":1}}],\"group\":null,\"line\":1,\"record\":null,\"rule\":\"F1\",\"sequence\":null,\"text\":\"the file does not begin with HDR\",\"transaction\":null}}],\"faulty\":0,\"refused\":true,\"remarks\":[{remarked}],\"transactions\":0}}\n"
         )?;
         expect_json(&rt, input, ExitCode::FAILURE, wanted.as_str())?;
     }
@@ -87,10 +89,13 @@ fn expect_not_taken(ended: ExitCode, printed: &[u8], told: &str) -> Result<(), F
 }
 
 #[test]
-fn is_not_taken_with_the_long_check(rt: HostRuntime) -> Result<(), Fail> {
-    let words = ["purvilgo", "check", "--long", "--json", "-"];
-    let fake = Fake::new(&rt, &words, b"");
-    let ended = run_program(&fake);
-    let (printed, told) = fake.into_texts();
-    expect_not_taken(ended, &printed, &told)
+fn is_not_taken_with_the_other_forms(rt: HostRuntime) -> Result<(), Fail> {
+    for form in ["--long", "--quiet"] {
+        let words = ["purvilgo", "check", form, "--json", "-"];
+        let fake = Fake::new(&rt, &words, b"");
+        let ended = run_program(&fake);
+        let (printed, told) = fake.into_texts();
+        expect_not_taken(ended, &printed, &told)?;
+    }
+    Ok(())
 }

@@ -12,6 +12,10 @@ mod long_faults;
 #[cfg(test)]
 mod remarks;
 #[cfg(test)]
+mod several_files;
+#[cfg(test)]
 mod told_tables;
 #[cfg(test)]
 mod verified_files;
+#[cfg(test)]
+mod whole_files;

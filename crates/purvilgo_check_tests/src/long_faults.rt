@@ -56,7 +56,7 @@ fn tells_each_fault_of_a_line(rt: HostRuntime) -> Result<(), Fail> {
         (
             1,
             "\u{feff}HDRPB000000123PUBLISHER A                                  01.102024050112000020240501",
-            "line 1: no record type: F1 the file does not begin with HDR\n  record type, start 1, length 3: \"\u{feff}\"\n  expected: HDR\nrefused F1 at line 1\n",
+            "line 1: no record type: F1 the file does not begin with HDR\n  record type, start 1, length 3: \"\\xEF\\xBB\\xBF\"\n  expected: HDR\nrefused F1 at line 1\nremark, line 1: the file begins with a byte order mark of UTF-8, which is no part of CWR; write it without one\n",
         ),
         (
             3,

@@ -58,3 +58,37 @@ fn tells_which_file_does_not_fit(rt: HostRuntime) -> Result<(), Fail> {
         ],
     )
 }
+
+/// A draft is verified in place of the acknowledgement, and is told by its own name.
+#[test]
+fn takes_another_acknowledgement(rt: HostRuntime) -> Result<(), Fail> {
+    expect_play(
+        &rt,
+        &[
+            ("register", Given::Holds(Text::Bytes(REGISTER))),
+            ("a", Given::Holds(Text::Plain)),
+            ("a.ack", Given::Holds(Text::Answer("CO"))),
+            ("a.ack.new", Given::Holds(Text::Answer("AS"))),
+            ("cut", Given::Holds(Text::Front("AS", 200))),
+            ("empty", Given::Holds(Text::Bytes(b""))),
+        ],
+        &[],
+        &[
+            Step::of(&["verify", "--ack", "a.ack.new", "register", "a"]).prints(
+                "1 transactions of 1 files\n",
+            ),
+            Step::of(&["verify", "register", "a", "--ack", "cut"])
+                .ends(1)
+                .prints("a: group 1, transaction 0: not in the register as cut tells it\n"),
+            Step::of(&["verify", "--ack", "empty", "register", "a"])
+                .ends(1)
+                .prints("empty: line 1 is another in the register\n"),
+            Step::of(&["verify", "--ack", "absent", "register", "a"])
+                .ends(1)
+                .complains("absent: stopped: read\n"),
+            Step::of(&["verify", "--ack", "a.ack.new", "register", "a", "a"])
+                .ends(2)
+                .complains("--ack goes with one FILE alone\n"),
+        ],
+    )
+}

@@ -20,22 +20,17 @@ pub(crate) enum Argument {
     Flag(&'static str, &'static str),
     /// Such an option that excludes another one, which stands before its help.
     FlagAgainst(&'static str, &'static str, &'static str),
-    /// An option without a value that the list of options leaves out.
-    HiddenFlag(&'static str, &'static str),
-    /// Such a hidden option that excludes another one, which stands before its help.
-    HiddenFlagAgainst(&'static str, &'static str, &'static str),
     /// `--verbose`, as each command takes it.
     Verbose,
-    /// The same, which the list of options leaves out.
-    HiddenVerbose,
 }
 
-/// A command: its name, what it does, and its arguments in their order.
+/// A command: its name, what it does, its arguments in their order, and what its long help tells beside that.
 #[derive(Clone, Copy)]
 pub(crate) struct CommandWords {
     pub(crate) name: &'static str,
     pub(crate) about: &'static str,
     pub(crate) arguments: &'static [Argument],
+    pub(crate) more: &'static str,
 }
 
 /// The command lines of commands.
@@ -54,6 +49,7 @@ fn command_line_of<'a>(alloc: Global, words: CommandWords) -> Result<Command<'a>
     let arguments = arguments_of(alloc, words.arguments)?;
     Command::new(alloc, words.name)
         .about(words.about)
+        .after_long_help(words.more)
         .args(arguments)
 }
 
@@ -74,12 +70,7 @@ fn argument_of<'a>(alloc: Global, argument: Argument) -> Result<Arg<'a>, AllocEr
         Argument::NeededValue(name, value, help) => Ok(needed_option(alloc, name, value, help)),
         Argument::Flag(name, help) => Ok(flag(alloc, name, help)),
         Argument::FlagAgainst(name, other, help) => flag(alloc, name, help).conflicts_with(other),
-        Argument::HiddenFlag(name, help) => Ok(hidden_flag(alloc, name, help)),
-        Argument::HiddenFlagAgainst(name, other, help) => {
-            hidden_flag(alloc, name, help).conflicts_with(other)
-        }
         Argument::Verbose => Ok(verbose_flag(alloc)),
-        Argument::HiddenVerbose => Ok(verbose_flag(alloc).hide(true)),
     }
 }
 
@@ -120,10 +111,11 @@ fn flag<'a>(alloc: Global, name: &'a str, help: &'a str) -> Arg<'a> {
         .help(help)
 }
 
-fn hidden_flag<'a>(alloc: Global, name: &'a str, help: &'a str) -> Arg<'a> {
-    flag(alloc, name, help).hide(true)
-}
-
 fn verbose_flag<'a>(alloc: Global) -> Arg<'a> {
-    flag(alloc, "verbose", "tell steps and reasons on standard error").short('v')
+    flag(
+        alloc,
+        "verbose",
+        "tell steps and the system's reasons on standard error",
+    )
+    .short('v')
 }

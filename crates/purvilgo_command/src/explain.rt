@@ -1,47 +1,54 @@
-//! What the rules ask.
+//! What the rules ask, and what the answers mean.
 
 use crate::arguments::{Argument, CommandWords};
+use crate::help::EXPLAIN_HELP;
+use crate::printing::is_printed;
 use crate::status::{BAD_WORDS, no_memory};
 use clap::ArgMatches;
-use rule_pages::{Rule, every_rule, pages_text, rule_named};
+use rule_pages::{Page, every_page, page_named, texts_of_pages};
 use std::process::ExitCode;
 
 /// `explain [RULE..]`.
 pub(crate) const EXPLAIN: CommandWords = CommandWords {
     name: "explain",
-    about: "Tells what rules ask, and how to mend what breaks them",
-    arguments: &[Argument::AnyWords("RULE", "a rule, such as F9, J11 or G3; else all of them")],
+    about: "Tells what rules ask and what answers mean, and what to do then",
+    arguments: &[Argument::AnyWords(
+        "RULE",
+        "a rule, such as F9 or 011, or an answer, such as CO; else all of them",
+    )],
+    more: EXPLAIN_HELP,
 };
 
-/// Tells on standard output the pages of the rules that the words name, or of all rules where they name none. A word that
-/// names no rule is told on standard error, and then nothing else is told.
+/// Tells on standard output the pages that the words name, or all pages where there are no words. A word that names none is
+/// told on standard error, and then nothing else is told.
 pub(crate) fn explain_rules<R: AllocGlobal + Print + Eprint>(
     rt: &R,
     given: &ArgMatches,
 ) -> ExitCode {
-    let mut rules = Vec::new(rt.alloc());
+    let mut pages = Vec::new(rt.alloc());
     for word in given.get_strs("RULE").unwrap_or(&[]) {
-        let Some(rule) = rule_named(word.as_bytes()) else {
+        let Some(page) = page_named(word.as_bytes()) else {
             let _ = eprintln!(rt; "no rule {word}");
             return ExitCode::from(BAD_WORDS);
         };
-        if rules.push(rule).is_err() {
+        if pages.push(page).is_err() {
             return no_memory(rt);
         }
     }
-    if rules.is_empty() {
-        tell_pages(rt, every_rule())
+    if pages.is_empty() {
+        tell_pages(rt, every_page())
     } else {
-        tell_pages(rt, &rules)
+        tell_pages(rt, &pages)
     }
 }
 
-fn tell_pages<R: AllocGlobal + Print + Eprint>(rt: &R, rules: &[Rule]) -> ExitCode {
-    let Ok(text) = pages_text(rt.alloc(), rules) else {
+fn tell_pages<R: AllocGlobal + Print + Eprint>(rt: &R, pages: &[Page]) -> ExitCode {
+    let Ok(text) = texts_of_pages(rt.alloc(), pages) else {
         return no_memory(rt);
     };
-    match rt.write_all(&text) {
-        Ok(()) => ExitCode::SUCCESS,
-        Err(_) => ExitCode::FAILURE,
+    if is_printed(rt, &text) {
+        ExitCode::SUCCESS
+    } else {
+        ExitCode::FAILURE
     }
 }

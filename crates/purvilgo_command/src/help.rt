@@ -1,92 +1,21 @@
-//! The pages of `purvilgo help`: what a command does, reads and writes, its options and statuses, and an example.
+//! What the long help of a command, `purvilgo help COMMAND` or `--help`, tells beside its options: what it reads and writes,
+//! its statuses, and an example. The manual page `docs/purvilgo.1` has the same words.
 
-/// The page of help that the words ask for behind the program's name: `help`, or `help` and a command.
-///
-/// The manual page `docs/purvilgo.1` has the same words.
-pub(crate) fn page_asked_for(words: &[String]) -> Option<&'static str> {
-    match words {
-        [_, help] if help.as_str() == "help" => Some(PROGRAM),
-        [_, help, command] if help.as_str() == "help" => page_of(command.as_str()),
-        _ => None,
-    }
-}
-
-/// The page of a command.
-fn page_of(command: &str) -> Option<&'static str> {
-    for (name, page) in PAGES {
-        if name == command {
-            return Some(page);
-        }
-    }
-    None
-}
-
-/// Each command, and its page.
-const PAGES: [(&str, &str); 9] = [
-    ("run", RUN),
-    ("check", CHECK),
-    ("audit", AUDIT),
-    ("explain", EXPLAIN),
-    ("claims", CLAIMS),
-    ("works", WORKS),
-    ("history", HISTORY),
-    ("summary", SUMMARY),
-    ("verify", VERIFY),
-];
-
-const PROGRAM: &str = "\
-Keeps a copyright society's registry of musical works.
-
-Usage: purvilgo [COMMAND]
-
-Without a command it acknowledges a CWR 2.2 file from standard input to standard
-output, with a fixed stamp and into an empty history.
-
-Commands:
-  run      acknowledges CWR 2.2 files into one history
-  check    tells which rules a CWR 2.2 file breaks
-  explain  tells what a rule asks, and how to mend what breaks it
-  audit    checks every decision of a register
-  claims   tells the current claims of a register, in CSV
-  works    tells the works of a register, in CSV
-  history  tells every entry of a register, in CSV
-  summary  tells how much of what is in a register
-  verify   checks a register against files and their acknowledgements
-  help     prints this page, or the page of a command
-
-Options:
-  -h, --help     the words in short
-  -V, --version  the version, on standard output
-
+/// Of `purvilgo`.
+pub(crate) const PROGRAM_HELP: &str = "\
 Reads: standard input.
 Writes: the acknowledgement on standard output; on standard error why there is none.
 Status: 0 acknowledged; 1 refused or stopped; 2 the words are not taken, or help.
 
 Example:
-  purvilgo < in/a.v22 > in/a.v22.ack
-";
+  purvilgo < in/a.v22 > in/a.v22.ack";
 
-const RUN: &str = "\
-Acknowledges CWR 2.2 files into one history, each to FILE.ack.
-
-Usage: purvilgo run [OPTIONS] --society NNN --name TEXT --date YYYYMMDD --time HHMMSS FILE..
-
-Options:
-  --society NNN    number of the society that acknowledges, three digits
-  --name TEXT      its name, 1 to 45 bytes
-  --date YYYYMMDD  date of the run
-  --time HHMMSS    time of the run
-  --from REGISTER  the register to go on from; else the history begins empty
-  --to REGISTER    the register to write, in place of a file that is there
-  --in-order       files are read on threads and decided in the order of the words,
-                   so that the same files give the same bytes each time; else they
-                   are decided at once too
-  --in-turn        the same on one thread, one file after another: with less memory,
-                   and mostly slower. The two are not taken together
-  --no-clobber     write over no acknowledgement, and over no register but that of
-                   --from: where one is there already, nothing is read or written
-  -v, --verbose    tell steps and the system's reasons on standard error
-  -h, --help       the words in short
+/// Of `run`.
+pub(crate) const RUN_HELP: &str = "\
+In order, the same files give the same bytes each time; else they are decided at once too. In
+turn it takes less memory, and is mostly slower. With --no-clobber nothing is read or
+written where such a file is there already. Without --from the history begins empty: a
+register of --to then takes the place of one that is there, with nothing of it inside.
 
 Reads: 1 to 63 files, and the register of --from.
 Writes: FILE.ack of each file that is acknowledged, the register of --to, and on standard
@@ -101,81 +30,48 @@ help; 1 else.
 
 Example:
   purvilgo run --society 007 --name 'MY SOCIETY' --date 20240601 --time 090000 \\
-    --from 0041.register --to 0042.register --in-order --no-clobber in/a.v22 in/b.v22
-";
+    --from 0041.register --to 0042.register --in-order --no-clobber in/a.v22 in/b.v22";
 
-const CHECK: &str = "\
-Tells which rules a CWR 2.2 file breaks, before it is sent. Nothing is registered.
-
-Usage: purvilgo check [OPTIONS] FILE
-
-Options:
-  --long         tell of each fault its line, its field, what stands there and
-                 what was expected
-  --json         tell the same as one JSON object, on one line
-  -v, --verbose  tell steps and the system's reasons on standard error
-  -h, --help     the words in short
-
-Reads: FILE, or standard input where FILE is -.
-Writes: on standard output a line for each transaction, or the file's first fault.
-With --long some lines for each fault, and none for a transaction without; with --json
-one object. The two are not taken together. Both tell remarks too, which are no faults
-and leave the status as it is: bytes above 126, a line past its layout, a record type
-that CWR 2.2 does not have, territories that are only excluded.
-Status: 0 no fault; 2 the words are not taken, or help; 1 else.
+/// Of `check`.
+pub(crate) const CHECK_HELP: &str = "\
+Reads: each FILE, one after another; standard input where FILE is -.
+Writes: on standard output a line for each transaction, or the file's first fault. With
+--long some lines for each fault, and none for a transaction without; with --json one
+object a file. Of several files each line begins with the file's name, or its object has
+the member file; one that cannot be read stops no other.
+Remarks: --long and --json tell them too. They are no faults, and leave the status as it
+is: a file that begins with a byte order mark, is UTF-16 or gzip, or has a second one
+behind it; a CWR version that is not 2.2, another sender type; bytes above 126, a line
+past its layout, a record type that CWR 2.2 does not have, territories that are only
+excluded.
+Status: 0 no fault in any FILE; 2 the words are not taken, or help; 1 else.
 
 Example:
-  purvilgo check --long in/a.v22
-";
+  purvilgo check --long in/a.v22";
 
-const AUDIT: &str = "\
-Decides on every entry of a register anew, and compares.
-
-Usage: purvilgo audit [OPTIONS] REGISTER
-
-Options:
-  -v, --verbose  tell steps and the system's reasons on standard error
-  -h, --help     the words in short
-
+/// Of `audit`.
+pub(crate) const AUDIT_HELP: &str = "\
 Reads: REGISTER, or standard input where REGISTER is -.
 Writes: on standard output the number of entries, or the first fault.
 Status: 0 no fault; 2 the words are not taken, or help; 1 else.
 
 Example:
-  purvilgo audit 0042.register
-";
+  purvilgo audit 0042.register";
 
-const EXPLAIN: &str = "\
-Tells what a rule asks, an example of what breaks it, and how to mend that.
-
-Usage: purvilgo explain [RULE]...
-
-Options:
-  -h, --help  the words in short
-
-Rules: F1 to F12 of a file, J1 to J15 of a transaction, G1 to G4 of a register. Without
-words all of them are told.
-Writes: on standard output some lines for each rule, in the order of the words.
-Status: 0 told; 2 the words are not taken (a word that is no rule, as F13), or help; 1
+/// Of `explain`.
+pub(crate) const EXPLAIN_HELP: &str = "\
+Rules: F1 to F12 of a file, J1 to J15 of a transaction, G1 to G4 of a register; j8 and J08
+are J8, and 011, the number of an MSG record, is J11.
+Answers of an acknowledgement: AS, DU, CO, RJ. Without words all rules and answers are told.
+Writes: on standard output some lines for each, in the order of the words.
+Status: 0 told; 2 the words are not taken (a word that is neither, as F13), or help; 1
 else.
 
 Example:
-  purvilgo explain F9 J11
-";
+  purvilgo explain F9 011 CO";
 
-const CLAIMS: &str = "\
-Tells the current claims of a register, in CSV: of each submitter's number of a work the
-last transaction that was accepted.
-
-Usage: purvilgo claims [OPTIONS] REGISTER
-
-Options:
-  --work N       those of this work alone: its number in the registry, as 1
-  --submitter S  those of this submitter alone: its type and ID, as PB000000123
-  --number W     those of this submitter work number alone, as W1
-  -v, --verbose  tell steps and the system's reasons on standard error
-  -h, --help     the words in short
-
+/// Of `claims`.
+pub(crate) const CLAIMS_HELP: &str = "\
 Reads: REGISTER, or standard input where REGISTER is -.
 Writes: on standard output a header line, and a line for each claim, in the order of the
 entries; or the register's first fault.
@@ -185,19 +81,10 @@ the register has them, blanks included.
 Status: 0 told; 2 the words are not taken, or help; 1 else.
 
 Example:
-  purvilgo claims --work 1 0042.register
-";
+  purvilgo claims --work 1 0042.register";
 
-const WORKS: &str = "\
-Tells the works of a register, in CSV.
-
-Usage: purvilgo works [OPTIONS] REGISTER
-
-Options:
-  --work N       this work alone: its number in the registry, as 1
-  -v, --verbose  tell steps and the system's reasons on standard error
-  -h, --help     the words in short
-
+/// Of `works`.
+pub(crate) const WORKS_HELP: &str = "\
 Reads: REGISTER, or standard input where REGISTER is -.
 Writes: on standard output a header line, and a line for each work, by number; or the
 register's first fault.
@@ -207,23 +94,10 @@ current ones there are.
 Status: 0 told; 2 the words are not taken, or help; 1 else.
 
 Example:
-  purvilgo works 0042.register
-";
+  purvilgo works 0042.register";
 
-const HISTORY: &str = "\
-Tells every entry of a register, in CSV.
-
-Usage: purvilgo history [OPTIONS] REGISTER
-
-Options:
-  --work N            those of this work alone: its number in the registry, as 1
-  --submitter S       those of this submitter alone: its type and ID, as PB000000123
-  --number W          those of this submitter work number alone, as W1
-  --status AS|DU|CO|RJ
-                      those with this status alone
-  -v, --verbose       tell steps and the system's reasons on standard error
-  -h, --help          the words in short
-
+/// Of `history`.
+pub(crate) const HISTORY_HELP: &str = "\
 Reads: REGISTER, or standard input where REGISTER is -.
 Writes: on standard output a header line, and a line for each entry, in order; or the
 register's first fault.
@@ -233,18 +107,10 @@ a rule, as 4:J8.
 Status: 0 told; 2 the words are not taken, or help; 1 else.
 
 Example:
-  purvilgo history --status RJ 0042.register
-";
+  purvilgo history --status RJ 0042.register";
 
-const SUMMARY: &str = "\
-Tells how much of what is in a register, as a page to read.
-
-Usage: purvilgo summary [OPTIONS] REGISTER
-
-Options:
-  -v, --verbose  tell steps and the system's reasons on standard error
-  -h, --help     the words in short
-
+/// Of `summary`.
+pub(crate) const SUMMARY_HELP: &str = "\
 Reads: REGISTER, or standard input where REGISTER is -.
 Writes: on standard output how many entries there are, and how many with each status; how
 many works, current claims, and submitters of entries; for each right the works by what is
@@ -256,20 +122,10 @@ without any is not told.
 Status: 0 told; 2 the words are not taken, or help; 1 else.
 
 Example:
-  purvilgo summary 0042.register
-";
+  purvilgo summary 0042.register";
 
-const VERIFY: &str = "\
-Checks a register against files that were sent, and against their acknowledgements: the
-transactions of each file, judged anew, stand in the register in the order of the file,
-each with the reply that the acknowledgement tells, and no entry answers two of them.
-
-Usage: purvilgo verify [OPTIONS] REGISTER FILE..
-
-Options:
-  -v, --verbose  tell steps and the system's reasons on standard error
-  -h, --help     the words in short
-
+/// Of `verify`.
+pub(crate) const VERIFY_HELP: &str = "\
 Reads: REGISTER, or standard input where REGISTER is -; each FILE, and FILE.ack beside it.
 Give the files in the order in which they were run.
 Writes: on standard output how many transactions of how many files are verified; or the
@@ -278,5 +134,4 @@ transaction, or the line of FILE.ack.
 Status: 0 verified; 2 the words are not taken, or help; 1 else.
 
 Example:
-  purvilgo verify 0042.register in/a.v22 in/b.v22
-";
+  purvilgo verify 0042.register in/a.v22 in/b.v22";

@@ -3,13 +3,16 @@
 #![tactic(auto)]
 
 mod arguments;
+mod checking;
 mod command_line;
 mod explain;
+mod file_names;
 mod files;
-mod further_commands;
+mod given_words;
 mod help;
 mod keeping;
 mod output;
+mod printing;
 mod program;
 mod registers;
 mod run_command;

@@ -4,15 +4,32 @@ ghost use Rattle.std.specs.Prelude.{◌≡◌, true, IfSome};
 ghost use Rattle.work_registry.specs.Numbers.{most_entries};
 ghost use Rattle.work_registry.specs.Replay.{is_opening};
 
+use crate::arguments::{Argument, CommandWords};
 use crate::files::{InputFile, Reading, read_named};
+use crate::help::AUDIT_HELP;
+use crate::printing::StandardOutput;
+use crate::telling::tell_reason;
 use byte_streams::{ReadRefused, Source};
 use kept_file::{CallFailed, Exclusive, FileNames, lock, takes_draft};
 pub use kept_register::MOST_REGISTER_BYTES;
 use kept_register::{NoBook, REGISTER_WINDOW, audit_source, new_book, read_book};
 use std::alloc::Global;
+use std::fs::File;
+use std::io::Write;
 use std::process::ExitCode;
 use std::rt::Files;
 use work_registry::{Book, RegisterRefusal};
+
+/// `audit [--verbose] REGISTER`.
+pub(crate) const AUDIT: CommandWords = CommandWords {
+    name: "audit",
+    about: "Decides on every entry of a register anew, and compares",
+    arguments: &[
+        Argument::Word("REGISTER", "a register, or - for standard input"),
+        Argument::Verbose,
+    ],
+    more: AUDIT_HELP,
+};
 
 /// The book that a run begins with: an empty one, or that of a register. A refused register is told on standard error.
 pub(crate) fn opening_book<R: AllocGlobal + Eprint + Files>(
@@ -61,9 +78,10 @@ pub(crate) struct RegisterLock<F: Drop> {
 
 /// Locks the register that a run is to leave, if any, until the lock is dropped or the run is ended from outside. Where
 /// another run has it, or it cannot be locked, that is told on standard error.
-pub(crate) fn locked_register<R: Eprint + Files>(
+pub(crate) fn locked_register<R: AllocGlobal + Eprint + Files>(
     rt: &R,
     to: Option<&FileNames>,
+    verbose: bool,
 ) -> Option<RegisterLock<R::File>>
 where
     R::File: Exclusive,
@@ -79,9 +97,19 @@ where
             None
         }
         Err(CallFailed) => {
+            if verbose {
+                tell_unlocked(rt, names.lock());
+            }
             let _ = eprintln!(rt; "register: stopped: write after 0 bytes");
             None
         }
+    }
+}
+
+/// Tells on standard error why the system does not open a lock. It is asked once more; where it opens it then, nothing is told.
+fn tell_unlocked<R: AllocGlobal + Eprint + Files>(rt: &R, name: &str) {
+    if let Err(error) = File::options().write(true).create(true).open(rt, name) {
+        tell_reason(rt, name, &error);
     }
 }
 
@@ -92,16 +120,24 @@ pub(crate) fn audit_file<R: AllocGlobal + Input + Print + Eprint + Files>(
     verbose: bool,
 ) -> ExitCode {
     match read_named(rt, path, verbose, Audit { alloc: rt.alloc() }) {
-        Ok(Audited::Entries(entries)) => match println!(rt; "{entries} entries") {
+        Ok(audited) => tell_audited(rt, audited),
+        Err(unread) => {
+            let _ = eprintln!(rt; "stopped: {unread}");
+            ExitCode::FAILURE
+        }
+    }
+}
+
+/// Tells what an audit found. The status is that of a register without a fault only where that was told.
+fn tell_audited<R: Print + Eprint>(rt: &R, audited: Audited) -> ExitCode {
+    let mut out = StandardOutput::of(rt);
+    match audited {
+        Audited::Entries(entries) => match write!(out, "{entries} entries\n") {
             Ok(()) => ExitCode::SUCCESS,
             Err(_) => ExitCode::FAILURE,
         },
-        Ok(Audited::Refused(refusal)) => {
-            let _ = println!(rt; "{refusal}");
-            ExitCode::FAILURE
-        }
-        Err(unread) => {
-            let _ = eprintln!(rt; "stopped: {unread}");
+        Audited::Refused(refusal) => {
+            let _ = write!(out, "{refusal}\n");
             ExitCode::FAILURE
         }
     }

@@ -4,6 +4,8 @@ ghost use Rattle.std.specs.Prelude.{◌≡◌, ◌<◌, None, map, option_map, l
 ghost use Rattle.run_words.specs.RunFault.{words_fault, run_stamp};
 
 use crate::arguments::{Argument, CommandWords};
+use crate::file_names::empty_name;
+use crate::help::RUN_HELP;
 use crate::status::bad_words;
 use clap::ArgMatches;
 use cwr_field::{cut, date, digits, time};
@@ -15,24 +17,43 @@ use std::process::ExitCode;
 /// [--in-order | --in-turn] [--no-clobber] [--verbose] FILE..`
 pub(crate) const RUN: CommandWords = CommandWords {
     name: "run",
-    about: "Acknowledges CWR 2.2 files, the acknowledgement of FILE in FILE.ack",
+    about: "Acknowledges CWR 2.2 files into one history, the acknowledgement of FILE in FILE.ack",
     arguments: &[
-        Argument::NeededValue("society", "NNN", "number of the society"),
+        Argument::NeededValue(
+            "society",
+            "NNN",
+            "number of the society that acknowledges, three digits",
+        ),
         Argument::NeededValue("name", "TEXT", "its name, 1 to 45 bytes"),
         Argument::NeededValue("date", "YYYYMMDD", "date of the run"),
         Argument::NeededValue("time", "HHMMSS", "time of the run"),
-        Argument::Value("from", "REGISTER", "the register to go on from"),
-        Argument::Value("to", "REGISTER", "the register to write"),
-        Argument::Flag("in-order", "read at once, decided in their order"),
+        Argument::Value(
+            "from",
+            "REGISTER",
+            "the register to go on from; else the history begins empty",
+        ),
+        Argument::Value(
+            "to",
+            "REGISTER",
+            "the register to write, in place of a file that is there",
+        ),
+        Argument::Flag(
+            "in-order",
+            "files are read on threads and decided in the order of the words",
+        ),
         Argument::FlagAgainst(
             "in-turn",
             "in-order",
-            "one file after another, in their order",
+            "the same on one thread, one file after another",
         ),
-        Argument::Flag("no-clobber", "write over no acknowledgement"),
+        Argument::Flag(
+            "no-clobber",
+            "write over no acknowledgement, and over no register but that of --from",
+        ),
         Argument::Verbose,
-        Argument::Words("FILE", "a CWR 2.2 file"),
+        Argument::Words("FILE", "a CWR 2.2 file, 1 to 63 of them"),
     ],
+    more: RUN_HELP,
 };
 
 /// The words of the stamp of all acknowledgements, as they were given.
@@ -165,8 +186,11 @@ pub(crate) fn right_words<'m, 'a, R: Eprint>(
     let Some(words) = RunWords::given(matches) else {
         return Err(bad_words(rt, "the command line is not taken"));
     };
-    match words.fault() {
+    if let Some(fault) = words.fault() {
+        return Err(bad_words(rt, fault.text()));
+    }
+    match empty_name(matches) {
         None => Ok(words),
-        Some(fault) => Err(bad_words(rt, fault.text())),
+        Some(text) => Err(bad_words(rt, text)),
     }
 }

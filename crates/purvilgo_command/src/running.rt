@@ -6,6 +6,7 @@ ghost use Rattle.work_registry.specs.Replay.{is_opening};
 use crate::files::InputFile;
 use crate::keeping::{Waiting, keep_run};
 use crate::output::OutputFile;
+use crate::printing::StandardOutput;
 use crate::registers::{locked_register, opening_book};
 use crate::run_command::{RunWords, Way, right_words};
 use crate::same_files::is_one_file_twice;
@@ -86,7 +87,7 @@ where
     if let Some(status) = refusal_of(rt, words, targets) {
         return status;
     }
-    match locked_register(rt, targets.register.as_ref()) {
+    match locked_register(rt, targets.register.as_ref(), words.verbose) {
         Some(_held) => run_into(rt, words, stamp, targets),
         None => ExitCode::FAILURE,
     }
@@ -297,19 +298,29 @@ fn tell_end<R: AllocGlobal + Eprint>(rt: &R, file: &str, outcome: &FileOutcome) 
 /// Tells on standard output how each job ended, and answers whether all are acknowledged and told.
 ///
 /// A line for which there is no memory is left out.
-fn tell_outcomes<R: AllocGlobal + Print>(rt: &R, files: &[&str], outcomes: &[FileOutcome]) -> bool {
+fn tell_outcomes<R: AllocGlobal + Print + Eprint>(
+    rt: &R,
+    files: &[&str],
+    outcomes: &[FileOutcome],
+) -> bool {
+    let mut out = StandardOutput::of(rt);
     let mut all = true;
     for (file, outcome) in files.iter().zip(outcomes) {
-        let told = tell_outcome(rt, file, outcome);
+        let told = is_told(rt.alloc(), &mut out, file, outcome);
         all = all && told && is_acknowledged(outcome);
     }
     all
 }
 
 /// Tells how a job ended, and answers whether it is told.
-fn tell_outcome<R: AllocGlobal + Print>(rt: &R, file: &str, outcome: &FileOutcome) -> bool {
-    match outcome_line(rt.alloc(), file.as_bytes(), outcome) {
-        Ok(line) => rt.write_all(&line).is_ok(),
+fn is_told<R: Print + Eprint>(
+    alloc: Global,
+    out: &mut StandardOutput<R>,
+    file: &str,
+    outcome: &FileOutcome,
+) -> bool {
+    match outcome_line(alloc, file.as_bytes(), outcome) {
+        Ok(line) => out.put(&line),
         Err(_) => false,
     }
 }

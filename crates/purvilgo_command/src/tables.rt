@@ -2,13 +2,15 @@
 
 use crate::arguments::{Argument, CommandWords};
 use crate::files::bytes_of;
+use crate::help::{CLAIMS_HELP, HISTORY_HELP, SUMMARY_HELP, WORKS_HELP};
+use crate::printing::StandardOutput;
 use crate::registers::MOST_REGISTER_BYTES;
 use crate::status::{bad_words, no_memory};
 use clap::ArgMatches;
 use cwr_desk::MOST_ENTRIES;
 use cwr_field::{cut, digits, filled};
 use register_tables::{Unwritten, Wanted, claims_text, history_text, summary_text, works_text};
-use std::io;
+use std::io::Write;
 use std::process::ExitCode;
 use std::rt::Files;
 use work_registry::{Book, RegisterRefusal, Status, read_register};
@@ -27,48 +29,60 @@ pub(crate) enum Table {
 /// `claims [--work N] [--submitter S] [--number W] [--verbose] REGISTER`.
 pub(crate) const CLAIMS: CommandWords = CommandWords {
     name: "claims",
-    about: "Tells the current claims of a register",
-    arguments: &[REGISTER, Argument::Verbose, WORK, SUBMITTER, NUMBER],
+    about: "Tells the current claims of a register, in CSV",
+    arguments: &[REGISTER, WORK, SUBMITTER, NUMBER, Argument::Verbose],
+    more: CLAIMS_HELP,
 };
 
 /// `works [--work N] [--verbose] REGISTER`.
 pub(crate) const WORKS: CommandWords = CommandWords {
     name: "works",
-    about: "Tells the works of a register",
-    arguments: &[REGISTER, Argument::Verbose, WORK],
+    about: "Tells the works of a register, in CSV",
+    arguments: &[REGISTER, WORK, Argument::Verbose],
+    more: WORKS_HELP,
 };
 
 /// `history [--work N] [--submitter S] [--number W] [--status AS|DU|CO|RJ] [--verbose] REGISTER`.
 pub(crate) const HISTORY: CommandWords = CommandWords {
     name: "history",
-    about: "Tells every entry of a register",
+    about: "Tells every entry of a register, in CSV",
     arguments: &[
         REGISTER,
-        Argument::Verbose,
         WORK,
         SUBMITTER,
         NUMBER,
         Argument::Value("status", "AS|DU|CO|RJ", "those with this status alone"),
+        Argument::Verbose,
     ],
+    more: HISTORY_HELP,
 };
 
 /// `summary [--verbose] REGISTER`.
 pub(crate) const SUMMARY: CommandWords = CommandWords {
     name: "summary",
-    about: "Tells how much of what is in a register",
+    about: "Tells how much of what is in a register, as a page to read",
     arguments: &[REGISTER, Argument::Verbose],
+    more: SUMMARY_HELP,
 };
 
-const REGISTER: Argument = Argument::Word("REGISTER", "a register");
+const REGISTER: Argument = Argument::Word("REGISTER", "a register, or - for standard input");
 
-const WORK: Argument = Argument::Value("work", "N", "those of this work alone");
+const WORK: Argument = Argument::Value(
+    "work",
+    "N",
+    "those of this work alone: its number in the registry, as 1",
+);
 
-const SUBMITTER: Argument = Argument::Value("submitter", "S", "those of this submitter alone");
+const SUBMITTER: Argument = Argument::Value(
+    "submitter",
+    "S",
+    "those of this submitter alone: its type and ID, as PB000000123",
+);
 
 const NUMBER: Argument = Argument::Value(
     "number",
     "W",
-    "those of this submitter work number alone",
+    "those of this submitter work number alone, as W1",
 );
 
 /// What is told of a register.
@@ -124,7 +138,7 @@ fn tell_register<R: AllocGlobal + Input + Print + Eprint + Files>(
 fn tell_book<R: AllocGlobal + Print + Eprint>(rt: &R, book: &Book, told: Told) -> ExitCode {
     match told {
         Told::Rows(table, wanted) => tell_rows(rt, book, table, &wanted),
-        Told::Summary => tell_end(rt, summary_text(rt.alloc(), io::writer(rt), book)),
+        Told::Summary => tell_end(rt, summary_text(rt.alloc(), StandardOutput::of(rt), book)),
     }
 }
 
@@ -135,7 +149,7 @@ fn tell_rows<R: AllocGlobal + Print + Eprint>(
     table: Table,
     wanted: &Wanted,
 ) -> ExitCode {
-    let (alloc, to) = (rt.alloc(), io::writer(rt));
+    let (alloc, to) = (rt.alloc(), StandardOutput::of(rt));
     match table {
         Table::Claims => tell_end(rt, claims_text(alloc, to, book, wanted)),
         Table::Works => tell_end(rt, works_text(alloc, to, book, wanted)),
@@ -185,7 +199,7 @@ fn tell_refusal<R: Print + Eprint>(rt: &R, refusal: RegisterRefusal) -> ExitCode
     match refusal {
         RegisterRefusal::Memory => no_memory(rt),
         RegisterRefusal::Fault { .. } => {
-            let _ = println!(rt; "{refusal}");
+            let _ = write!(StandardOutput::of(rt), "{refusal}\n");
             ExitCode::FAILURE
         }
     }

@@ -2,38 +2,49 @@
 
 use crate::arguments::{Argument, CommandWords};
 use crate::files::InputFile;
+use crate::help::VERIFY_HELP;
+use crate::printing::StandardOutput;
 use crate::registers::MOST_REGISTER_BYTES;
-use crate::status::no_memory;
+use crate::status::{bad_words, no_memory};
 use crate::tables::book_of;
 use byte_streams::{ReadRefused, read_file};
 use clap::ArgMatches;
 use cwr_desk::MOST_BYTES;
 use cwr_verify::{SentFile, Unverified, verify};
-use std::io;
+use std::io::{self, Write};
 use std::process::ExitCode;
 use std::rt::Files;
 use work_registry::Book;
 
-/// `verify [--verbose] REGISTER FILE..`.
+/// `verify [--ack ACK] [--verbose] REGISTER FILE..`.
 pub(crate) const VERIFY: CommandWords = CommandWords {
     name: "verify",
     about: "Checks a register against files and their acknowledgements",
     arguments: &[
-        Argument::Word("REGISTER", "a register"),
+        Argument::Word("REGISTER", "a register, or - for standard input"),
         Argument::Words("FILE", "a CWR 2.2 file, whose acknowledgement is FILE.ack"),
+        Argument::Value(
+            "ack",
+            "ACK",
+            "the acknowledgement of one FILE, in place of FILE.ack",
+        ),
         Argument::Verbose,
     ],
+    more: VERIFY_HELP,
 };
 
 /// A file that was sent, and its acknowledgement.
 #[derive(Drop)]
 struct FilePair {
     text: Vec<u8>,
+    /// The name of the acknowledgement.
+    answer: String,
     acknowledgement: Vec<u8>,
 }
 
 /// Tells on standard output how many transactions of the files a register has as the acknowledgements tell them, or what
-/// does not fit. The register is that of standard input for `-`; one that is refused is told as an audit tells it.
+/// does not fit. The register is that of standard input for `-`; one that is refused is told as an audit tells it. The
+/// acknowledgement of one file alone may have another name than its own.
 pub(crate) fn verify_files<R: AllocGlobal + Input + Print + Eprint + Files>(
     rt: &R,
     register: &str,
@@ -41,8 +52,12 @@ pub(crate) fn verify_files<R: AllocGlobal + Input + Print + Eprint + Files>(
 ) -> ExitCode {
     let verbose = given.get_flag("verbose");
     let names = given.get_strs("FILE").unwrap_or(&[]);
+    let ack = given.get_str("ack");
+    if ack.is_some() && names.len() != 1 {
+        return bad_words(rt, "--ack goes with one FILE alone");
+    }
     match book_of(rt, register, verbose) {
-        Ok(book) => verify_at(rt, &book, names, verbose),
+        Ok(book) => verify_at(rt, &book, names, ack, verbose),
         Err(status) => status,
     }
 }
@@ -52,23 +67,25 @@ fn verify_at<R: AllocGlobal + Print + Eprint + Files>(
     rt: &R,
     book: &Book,
     names: &[&str],
+    ack: Option<&str>,
     verbose: bool,
 ) -> ExitCode {
-    match pairs_of(rt, names, verbose) {
+    match pairs_of(rt, names, ack, verbose) {
         Ok(pairs) => tell_verified(rt, book, names, &pairs),
         Err(status) => status,
     }
 }
 
-/// The files of these names, each with its acknowledgement.
+/// The files of these names, each with its acknowledgement, which is the one that is named if any is.
 fn pairs_of<R: AllocGlobal + Eprint + Files>(
     rt: &R,
     names: &[&str],
+    ack: Option<&str>,
     verbose: bool,
 ) -> Result<Vec<FilePair>, ExitCode> {
     let mut pairs = Vec::new(rt.alloc());
     for name in names {
-        if pairs.push(pair_of(rt, name, verbose)?).is_err() {
+        if pairs.push(pair_of(rt, name, ack, verbose)?).is_err() {
             return Err(no_memory(rt));
         }
     }
@@ -79,18 +96,28 @@ fn pairs_of<R: AllocGlobal + Eprint + Files>(
 fn pair_of<R: AllocGlobal + Eprint + Files>(
     rt: &R,
     name: &str,
+    ack: Option<&str>,
     verbose: bool,
 ) -> Result<FilePair, ExitCode> {
-    let answer = answer_to(rt, name)?;
+    let answer = answer_to(rt, name, ack)?;
     Ok(FilePair {
         text: whole_file(rt, name, MOST_BYTES, verbose)?,
         acknowledgement: whole_file(rt, &answer, MOST_REGISTER_BYTES, verbose)?,
+        answer,
     })
 }
 
-/// The name of the acknowledgement of a file.
-fn answer_to<R: AllocGlobal + Eprint>(rt: &R, name: &str) -> Result<String, ExitCode> {
-    match format!(in rt.alloc(); "{name}.ack") {
+/// The name of the acknowledgement of a file, which is the one that is given if any is.
+fn answer_to<R: AllocGlobal + Eprint>(
+    rt: &R,
+    name: &str,
+    ack: Option<&str>,
+) -> Result<String, ExitCode> {
+    let answer = match ack {
+        Some(ack) => format!(in rt.alloc(); "{ack}"),
+        None => format!(in rt.alloc(); "{name}.ack"),
+    };
+    match answer {
         Ok(answer) => Ok(answer),
         Err(_) => Err(no_memory(rt)),
     }
@@ -133,66 +160,95 @@ fn tell_verified<R: AllocGlobal + Print + Eprint>(
     match verify(rt.alloc(), book, &files) {
         Ok(owners) => tell_count(rt, &owners, files.len()),
         Err(unverified) => {
-            tell_unverified(rt, names, unverified);
+            tell_unverified(rt, names, pairs, unverified);
             ExitCode::FAILURE
         }
     }
 }
 
 /// Tells how many entries answer one of so many files.
-fn tell_count<R: Print>(rt: &R, owners: &[usize], files: usize) -> ExitCode {
+fn tell_count<R: Print + Eprint>(rt: &R, owners: &[usize], files: usize) -> ExitCode {
     let mut transactions: usize = 0;
     for owner in owners {
         if *owner < files {
             transactions = transactions.saturating_add(1);
         }
     }
-    match println!(rt; "{transactions} transactions of {files} files") {
+    let mut out = StandardOutput::of(rt);
+    match write!(out, "{transactions} transactions of {files} files\n") {
         Ok(()) => ExitCode::SUCCESS,
         Err(_) => ExitCode::FAILURE,
     }
 }
 
-/// Tells what does not fit, by the names of the files.
-fn tell_unverified<R: Print + Eprint>(rt: &R, names: &[&str], unverified: Unverified) {
+/// Tells what does not fit, by the names of the files and of their acknowledgements.
+fn tell_unverified<R: Print + Eprint>(
+    rt: &R,
+    names: &[&str],
+    pairs: &[FilePair],
+    unverified: Unverified,
+) {
+    let mut out = StandardOutput::of(rt);
     let _told = match unverified {
         Unverified::Memory => eprintln!(rt; "stopped: memory"),
-        Unverified::TooLong { file } => println!(rt; "{}: too long", name_of(names, file)),
+        Unverified::TooLong { file } => write!(out, "{}: too long\n", name_of(names, file)),
         Unverified::Refused { file, number, line } => {
-            tell_refused(rt, name_of(names, file), number, line)
+            tell_refused(&mut out, name_of(names, file), number, line)
         }
         Unverified::Transaction {
             file,
             group,
             sequence,
-        } => tell_transaction(rt, name_of(names, file), group, sequence),
+        } => {
+            let place = (group, sequence);
+            tell_transaction(
+                &mut out,
+                name_of(names, file),
+                place,
+                answer_of(pairs, file),
+            )
+        }
         Unverified::Acknowledgement { file, line } => {
-            tell_other_line(rt, name_of(names, file), line)
+            tell_other_line(&mut out, answer_of(pairs, file), line)
         }
     };
 }
 
 /// Tells the first fault of a file.
-fn tell_refused<R: Print>(rt: &R, name: &str, number: u8, line: u64) -> io::Result<()> {
-    println!(rt; "{name}: refused F{number} at line {line}")
+fn tell_refused<W: Write>(out: &mut W, name: &str, number: u8, line: u64) -> io::Result<()> {
+    write!(out, "{name}: refused F{number} at line {line}\n")
 }
 
-/// Tells which transaction of a file the register has not.
-fn tell_transaction<R: Print>(rt: &R, name: &str, group: u32, sequence: u32) -> io::Result<()> {
-    println!(rt;
-        "{name}: group {group}, transaction {sequence}: not in the register as {name}.ack tells it"
+/// Tells which transaction of a file, of this group and sequence, the register has not.
+fn tell_transaction<W: Write>(
+    out: &mut W,
+    name: &str,
+    (group, sequence): (u32, u32),
+    answer: &str,
+) -> io::Result<()> {
+    write!(
+        out,
+        "{name}: group {group}, transaction {sequence}: not in the register as {answer} tells it\n"
     )
 }
 
 /// Tells which line of an acknowledgement is another one.
-fn tell_other_line<R: Print>(rt: &R, name: &str, line: usize) -> io::Result<()> {
-    println!(rt; "{name}.ack: line {line} is another in the register")
+fn tell_other_line<W: Write>(out: &mut W, answer: &str, line: usize) -> io::Result<()> {
+    write!(out, "{answer}: line {line} is another in the register\n")
 }
 
 /// The name of a file, by its number from 0.
 fn name_of<'a>(names: &[&'a str], file: usize) -> &'a str {
     match names.get(file) {
         Some(name) => name,
+        None => "",
+    }
+}
+
+/// The name of the acknowledgement of a file, by its number from 0.
+fn answer_of<'a>(pairs: &'a [FilePair], file: usize) -> &'a str {
+    match pairs.get(file) {
+        Some(pair) => &pair.answer,
         None => "",
     }
 }

@@ -1,4 +1,26 @@
 //! The version of the program.
 
+use crate::arguments::CommandWords;
+use crate::printing::StandardOutput;
+use std::io::Write;
+use std::process::ExitCode;
+
 /// It stands here alone; CHANGELOG.md, at the top of the repository, tells what each version changed.
 pub(crate) const VERSION: &str = "0.1.0";
+
+/// `version`, the same as `--version`.
+pub(crate) const VERSION_WORD: CommandWords = CommandWords {
+    name: "version",
+    about: "Tells the version, as --version does",
+    arguments: &[],
+    more: "",
+};
+
+/// Tells the version on standard output.
+pub(crate) fn tell_version<R: Print + Eprint>(rt: &R) -> ExitCode {
+    let mut out = StandardOutput::of(rt);
+    match write!(out, "purvilgo {VERSION}\n") {
+        Ok(()) => ExitCode::SUCCESS,
+        Err(_) => ExitCode::FAILURE,
+    }
+}

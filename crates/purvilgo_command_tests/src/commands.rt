@@ -59,27 +59,18 @@ fn checks_a_file(rt: HostRuntime) -> Result<(), Fail> {
 
 #[test]
 fn refuses_other_words(rt: HostRuntime) -> Result<(), Fail> {
-    let alloc = rt.alloc();
-    let cases: [(&[&str], &str); 5] = [
+    let cases: [(&[&str], &str); 3] = [
         (
             &["purvilgo", "check"],
-            "error: the following required arguments were not provided:\n  <FILE>\n\nUsage: purvilgo check <FILE>\n\nFor more information, try '--help'.\n",
+            "error: the following required arguments were not provided:\n  <FILE>...\n\nUsage: purvilgo check <FILE>...\n\nFor more information, try '--help'.\n",
         ),
         (
-            &["purvilgo", "check", "a", "b"],
-            "error: unexpected argument 'b' found\n\nUsage: purvilgo check <FILE>\n\nFor more information, try '--help'.\n",
+            &["purvilgo", "audit", "a", "b"],
+            "error: unexpected argument 'b' found\n\nUsage: purvilgo audit [OPTIONS] <REGISTER>\n\nFor more information, try '--help'.\n",
         ),
         (
             &["purvilgo", "--verbose"],
-            "error: unexpected argument '--verbose' found\n\nUsage: purvilgo [COMMAND]\n\nFor more information, try '--help'.\n",
-        ),
-        (
-            &["purvilgo", "--help"],
-            "Acknowledges a CWR 2.2 file from standard input to standard output\n\nUsage: purvilgo [COMMAND]\n\nCommands:\n  run    Acknowledges CWR 2.2 files, the acknowledgement of FILE in FILE.ack\n  check  Tells which rules a CWR 2.2 file breaks\n  audit  Checks every decision of a register\n  help   Print this message or the help of the given subcommand(s)\n\nOptions:\n  -h, --help  Print help\n",
-        ),
-        (
-            &["purvilgo", "check", "--help"],
-            "Tells which rules a CWR 2.2 file breaks\n\nUsage: purvilgo check <FILE>\n\nArguments:\n  <FILE>  a CWR 2.2 file\n\nOptions:\n  -h, --help  Print help\n",
+            "error: unexpected argument '--verbose' found\n\n  tip: a similar argument exists: '--version'\n\nUsage: purvilgo --version\n\nFor more information, try '--help'.\n",
         ),
     ];
     for (words, complained) in cases {

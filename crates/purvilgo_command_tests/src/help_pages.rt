@@ -1,4 +1,4 @@
-//! The pages of `purvilgo help`.
+//! Help, short and long.
 
 use cwr_sheets::{same, same_bytes};
 use program_runs::Fake;
@@ -29,59 +29,95 @@ fn expect_told(ended: ExitCode, printed: &[u8], page: &str, names: &[&str]) -> R
     same("its status", &ended, &ExitCode::from(2))
 }
 
+/// Each command, and each option that it takes.
+const OPTIONS: [(&str, &[&str]); 10] = [
+    (
+        "run",
+        &[
+            "--society <NNN>",
+            "--name <TEXT>",
+            "--date <YYYYMMDD>",
+            "--time <HHMMSS>",
+            "--from <REGISTER>",
+            "--to <REGISTER>",
+            "--in-order",
+            "--in-turn",
+            "--no-clobber",
+            "-v, --verbose",
+            "<FILE>...",
+        ],
+    ),
+    (
+        "check",
+        &["--long", "--json", "--quiet", "-v, --verbose", "<FILE>..."],
+    ),
+    ("explain", &["[RULE]..."]),
+    ("audit", &["-v, --verbose", "<REGISTER>"]),
+    (
+        "claims",
+        &[
+            "--work <N>",
+            "--submitter <S>",
+            "--number <W>",
+            "-v, --verbose",
+            "<REGISTER>",
+        ],
+    ),
+    ("works", &["--work <N>", "-v, --verbose", "<REGISTER>"]),
+    (
+        "history",
+        &[
+            "--work <N>",
+            "--submitter <S>",
+            "--number <W>",
+            "--status <AS|DU|CO|RJ>",
+            "-v, --verbose",
+            "<REGISTER>",
+        ],
+    ),
+    ("summary", &["-v, --verbose", "<REGISTER>"]),
+    ("verify", &["-v, --verbose", "<REGISTER>", "<FILE>..."]),
+    ("version", &[]),
+];
+
+/// Short and long help of each command name all of its options; the long one is that of `help COMMAND`.
 #[test]
-fn tells_each_command_and_option(rt: HostRuntime) -> Result<(), Fail> {
-    let parts = ["Usage: ", "Reads: ", "Writes: ", "Status: 0 ", "Example:\n"];
-    let cases: [(&[&str], &[&str]); 4] = [
-        (
-            &["purvilgo", "help"],
-            &[
-                "  run ",
-                "  check ",
-                "  audit ",
-                "  help ",
-                "-h, --help",
-                "-V, --version",
-            ],
-        ),
-        (
-            &["purvilgo", "help", "run"],
-            &[
-                "--society NNN",
-                "--name TEXT",
-                "--date YYYYMMDD",
-                "--time HHMMSS",
-                "--from REGISTER",
-                "--to REGISTER",
-                "--in-order",
-                "--in-turn",
-                "--no-clobber",
-                "-v, --verbose",
-                "-h, --help",
-            ],
-        ),
-        (
-            &["purvilgo", "help", "check"],
-            &[
-                "--long",
-                "--json",
-                "-v, --verbose",
-                "-h, --help",
-                "standard input where FILE is -",
-            ],
-        ),
-        (
-            &["purvilgo", "help", "audit"],
-            &[
-                "-v, --verbose",
-                "-h, --help",
-                "standard input where REGISTER is -",
-            ],
-        ),
-    ];
-    for (words, names) in cases {
-        expect_page(&rt, words, names)?;
-        expect_page(&rt, words, &parts)?;
+fn tells_each_option(rt: HostRuntime) -> Result<(), Fail> {
+    for (command, options) in OPTIONS {
+        for words in [
+            ["purvilgo", command, "-h"],
+            ["purvilgo", command, "--help"],
+            ["purvilgo", "help", command],
+        ] {
+            expect_page(&rt, &words, options)?;
+            expect_page(&rt, &words, &["Usage: purvilgo ", "-h, --help"])?;
+        }
     }
     Ok(())
+}
+
+/// The program's help names each command.
+#[test]
+fn tells_each_command(rt: HostRuntime) -> Result<(), Fail> {
+    for word in ["-h", "--help", "help"] {
+        let words = ["purvilgo", word];
+        for (command, _) in OPTIONS {
+            expect_page(&rt, &words, &[command])?;
+        }
+        expect_page(&rt, &words, &["-h, --help", "-V, --version"])?;
+    }
+    Ok(())
+}
+
+/// Long help tells what a command reads and writes, its statuses, and an example.
+#[test]
+fn tells_more_in_long_help(rt: HostRuntime) -> Result<(), Fail> {
+    let parts = ["Writes: ", "Status: 0 ", "Example:\n"];
+    for command in [
+        "run", "check", "explain", "audit", "claims", "works", "history", "summary", "verify",
+    ] {
+        expect_page(&rt, &["purvilgo", "help", command], &parts)?;
+        expect_page(&rt, &["purvilgo", command, "--help"], &parts)?;
+    }
+    expect_page(&rt, &["purvilgo", "help"], &parts)
 }

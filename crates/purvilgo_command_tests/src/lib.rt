@@ -10,9 +10,13 @@ mod help_pages;
 #[cfg(test)]
 mod other_words;
 #[cfg(test)]
+mod refused_words;
+#[cfg(test)]
 mod run_options;
 #[cfg(test)]
 mod same_files;
+#[cfg(test)]
+mod standard_output;
 #[cfg(test)]
 mod steps;
 #[cfg(test)]

@@ -6,7 +6,7 @@ use std::test::Fail;
 
 #[test]
 fn tells_its_version(rt: HostRuntime) -> Result<(), Fail> {
-    for word in ["--version", "-V"] {
+    for word in ["--version", "-V", "version"] {
         let words = ["purvilgo", word];
         let fake = Fake::new(&rt, &words, b"");
         expect_program(fake, ExitCode::SUCCESS, b"purvilgo 0.1.0\n", "")?;

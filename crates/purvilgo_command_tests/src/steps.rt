@@ -1,8 +1,13 @@
 //! Steps and reasons, which `--verbose` tells before the fixed texts.
 
-use cwr_sheets::{file_of_lines, miscounted, one_answer, plain_file, same};
-use program_runs::{Given, Kept, Step, Text, expect_play};
+use cwr_sheets::{file_of_lines, miscounted, one_answer, plain_file, same, same_text};
+use program_runs::{
+    Calls, Disk, Fake, Given, Kept, Step, Text, expect_play, expect_program, run_with,
+};
+use std::process::ExitCode;
+use std::sync::Wait;
 use std::test::Fail;
+use std::thread::Threads;
 
 const NO_TRANSACTION: [&str; 1] = ["TRL000000000000000000002"];
 
@@ -126,4 +131,47 @@ fn tells_how_a_refused_file_ends(rt: HostRuntime) -> Result<(), Fail> {
             Step::run(&["a"]).ends(1).prints(told),
         ],
     )
+}
+
+/// Runs to a register whose lock some calls do not open: what is told, and the calls that change files, must be these.
+fn expect_unlocked<T: AllocGlobal + Threads + Wait + Sync>(
+    rt: &T,
+    more: &[&str],
+    calls: Calls,
+    complained: &str,
+    made: &str,
+) -> Result<(), Fail> {
+    let alloc = rt.alloc();
+    let disk = Disk {
+        files: Vec::new(alloc),
+        calls,
+        nodes: Vec::new(alloc),
+        links: &[],
+        locked: &[],
+    };
+    let words = run_with(alloc, more)?;
+    let fake = Fake::new(rt, &words, b"").with_disk(&[], &disk);
+    expect_program(fake, ExitCode::FAILURE, b"", complained)?;
+    same_text("the calls", &disk.calls.made()?, made)
+}
+
+/// The system is asked once more for the reason, and only where it is to be told.
+#[test]
+fn tells_why_a_register_is_not_locked(rt: HostRuntime) -> Result<(), Fail> {
+    let alloc = rt.alloc();
+    let stopped = "register: stopped: write after 0 bytes\n";
+    let told = "book.lock: other error\nregister: stopped: write after 0 bytes\n";
+    let once = "lock book.lock\n";
+    let twice = "lock book.lock\nlock book.lock\n";
+    let to = ["--to", "book", "a"];
+    let told_to = ["--verbose", "--to", "book", "a"];
+    expect_unlocked(&rt, &to, Calls::refusing(alloc, 0, "lock"), stopped, once)?;
+    expect_unlocked(
+        &rt,
+        &told_to,
+        Calls::refusing(alloc, 0, "lock"),
+        told,
+        twice,
+    )?;
+    expect_unlocked(&rt, &told_to, Calls::refusing(alloc, 1, ""), stopped, twice)
 }

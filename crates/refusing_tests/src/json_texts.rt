@@ -1,9 +1,11 @@
 //! What a report tells as JSON: bytes as a text, and one member more. These calls take the system's allocator.
 
+use cwr_remarks::remarked_json_of_file;
 use cwr_report::{
-    Report, json_text_with, json_text_with_text, put_json_text, report_on, text_value,
+    Report, json_text_of_file, json_text_with, json_text_with_text, put_json_text, report_on,
+    text_value,
 };
-use cwr_sheets::{plain_file, same_bytes};
+use cwr_sheets::{plain_file, same, same_bytes};
 use std::alloc::Global;
 use std::test::Fail;
 
@@ -94,9 +96,41 @@ fn expect_members(alloc: Global, file: &[u8], report: &Report) -> Result<(), Fai
     )
 }
 
+/// The name of a member, and what is told with it of a file with a name.
+const NAMED: [(&str, &[u8]); 3] = [
+    (
+        "fault",
+        b"{\"fault\":1,\"faults\":[],\"faulty\":0,\"file\":\"in/\\\"\xc3\xa9\\\".v22\",\"refused\":false,\"transactions\":1}\n",
+    ),
+    (
+        "file",
+        b"{\"faults\":[],\"faulty\":0,\"file\":1,\"refused\":false,\"transactions\":1}\n",
+    ),
+    (
+        "files",
+        b"{\"faults\":[],\"faulty\":0,\"file\":\"in/\\\"\xc3\xa9\\\".v22\",\"files\":1,\"refused\":false,\"transactions\":1}\n",
+    ),
+];
+
+/// What is told with each of these members, and by a check.
+fn expect_named(alloc: Global, file: &[u8], report: &Report) -> Result<(), Fail> {
+    for (name, wanted) in NAMED {
+        let text = json_text_of_file(alloc, file, report, "in/\"\u{e9}\".v22", name, b"1")?;
+        same_bytes(name, &text, wanted)?;
+    }
+    let checked = remarked_json_of_file(alloc, "-", file)?;
+    same("clean", &checked.clean, &true)?;
+    same_bytes(
+        "a check",
+        &checked.text,
+        b"{\"faults\":[],\"faulty\":0,\"file\":\"-\",\"refused\":false,\"remarks\":[],\"transactions\":1}\n",
+    )
+}
+
 #[test]
 fn members_of_json(rt: HostRuntime) -> Result<(), Fail> {
     let file = plain_file(rt.alloc())?;
     let report = report_on(rt.alloc(), &file)?;
-    expect_members(rt.alloc(), &file, &report)
+    expect_members(rt.alloc(), &file, &report)?;
+    expect_named(rt.alloc(), &file, &report)
 }

@@ -1,1 +1,4 @@
 pub mod Pages
+pub mod Answers
+pub mod Names
+pub mod Texts

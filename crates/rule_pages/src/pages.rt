@@ -23,7 +23,7 @@ pub fn pages_text<A: Allocator>(alloc: A, rules: &[Rule]) -> Result<Vec<u8, A>, 
 }
 
 /// Appends the page of a rule.
-fn put_page<A: Allocator>(out: &mut Vec<u8, A>, rule: Rule) -> Result<(), Memory>
+pub(crate) fn put_page<A: Allocator>(out: &mut Vec<u8, A>, rule: Rule) -> Result<(), Memory>
     ensures { OnOk result (out.new.items ≡ out.old.items ++ page_text rule) }
 {
     put_heading(out, rule)?;
@@ -45,7 +45,11 @@ fn put_heading<A: Allocator>(out: &mut Vec<u8, A>, rule: Rule) -> Result<(), Mem
 }
 
 /// Appends a line of a page.
-fn put_line<A: Allocator>(out: &mut Vec<u8, A>, label: &[u8], text: &[u8]) -> Result<(), Memory>
+pub(crate) fn put_line<A: Allocator>(
+    out: &mut Vec<u8, A>,
+    label: &[u8],
+    text: &[u8],
+) -> Result<(), Memory>
     ensures { OnOk result (out.new.items ≡ out.old.items ++ line_text label.now text.now) }
 {
     out.extend_from_slice(b"  ")?;

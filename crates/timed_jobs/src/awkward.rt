@@ -5,6 +5,7 @@ use crate::digest::Digest;
 use crate::refused::refused_file;
 use crate::reports::take;
 use crate::verified::verified;
+use cwr_check::Checked;
 use cwr_field::Memory;
 use cwr_remarks::{remarked_json, remarked_long};
 use cwr_report::{json_text_with, report_on, text_value};
@@ -34,7 +35,26 @@ pub(crate) fn awkward(alloc: Global, size: u32, chance: &mut Chance) -> Result<D
 /// The report on a file, for a program and for a person.
 fn tell(alloc: Global, text: &[u8], digest: &mut Digest) -> Result<(), Memory> {
     take(remarked_json(alloc, text)?, digest);
-    take(remarked_long(alloc, text)?, digest);
+    take_unquoted(alloc, &remarked_long(alloc, text)?, digest)
+}
+
+/// What is told to a person, each line up to its first quote. The bytes between quotes are those of the report for a program;
+/// how one that is not printed is shown here is left open.
+fn take_unquoted(alloc: Global, told: &Checked, digest: &mut Digest) -> Result<(), Memory> {
+    let mut unquoted = Vec::with_capacity(alloc, told.text.len())?;
+    let mut quoted = false;
+    for byte in &told.text {
+        match *byte {
+            b'\n' => quoted = false,
+            b'"' => quoted = true,
+            _ => {}
+        }
+        if !quoted {
+            unquoted.push(*byte)?;
+        }
+    }
+    digest.text(&unquoted);
+    digest.number(told.clean as u64);
     Ok(())
 }
 

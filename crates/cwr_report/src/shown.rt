@@ -1,0 +1,51 @@
+ghost use Rattle.std.specs.Prelude.{◌≡◌, ◌<◌, ◌++◌, OnOk};
+ghost use Rattle.cwr_report.specs.Shown.{hex_digit, is_unprinted, shown, shown_text};
+
+use cwr_field::{LEAST_PRINTABLE, Memory};
+use std::alloc::Allocator;
+
+/// Appends bytes of a file as a person is shown them, so that nothing but printable ASCII goes to a terminal.
+///
+/// A byte below 32 or above 126 is told as `\xEF`: a backslash, `x` and two digits to the base 16, in capitals. Any other
+/// stands as it is, a backslash too. A refusal may leave a part of them.
+pub fn put_shown<A: Allocator>(out: &mut Vec<u8, A>, bytes: &[u8]) -> Result<(), Memory>
+    ensures { OnOk result (out.new.items ≡ out.old.items ++ shown_text bytes.now) }
+{
+    for byte in bytes {
+        put_shown_byte(out, *byte)?;
+    }
+    Ok(())
+}
+
+/// Appends a byte, as it is shown.
+fn put_shown_byte<A: Allocator>(out: &mut Vec<u8, A>, byte: u8) -> Result<(), Memory>
+    ensures { OnOk result (out.new.items ≡ out.old.items ++ shown byte) }
+{
+    if is_unprinted(byte) {
+        let high = hex_digit(byte / 16);
+        let low = hex_digit(byte % 16);
+        out.extend_from_slice(&[b'\\', b'x', high, low])?;
+    } else {
+        out.push(byte)?;
+    }
+    Ok(())
+}
+
+/// Whether no character of ASCII is printed for a byte.
+fn is_unprinted(byte: u8) -> bool
+    ensures { result ≡ is_unprinted byte }
+{
+    byte < LEAST_PRINTABLE || byte > 126
+}
+
+/// The character of a digit below 16.
+fn hex_digit(digit: u8) -> u8
+    requires { digit < 16 }
+    ensures { result ≡ hex_digit digit }
+{
+    if digit < 10 {
+        b'0' + digit
+    } else {
+        b'A' + (digit - 10)
+    }
+}

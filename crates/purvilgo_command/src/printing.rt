@@ -1,0 +1,60 @@
+//! Standard output, which tells where it fails.
+
+use std::io::{self, ErrorKind, Write};
+
+/// Standard output. The first write that fails, or takes nothing, is told on standard error, with how many bytes were written
+/// before it. Behind it nothing more is written.
+#[derive(Drop)]
+pub(crate) struct StandardOutput<'a, R> {
+    rt: &'a R,
+    /// How many bytes were written.
+    sent: u64,
+    failed: bool,
+}
+
+impl<'a, R: Print + Eprint> StandardOutput<'a, R> {
+    /// Standard output, of which nothing is written yet.
+    pub(crate) fn of(rt: &'a R) -> StandardOutput<'a, R> {
+        StandardOutput {
+            rt,
+            sent: 0,
+            failed: false,
+        }
+    }
+
+    /// Writes all the bytes, and answers whether they went out.
+    pub(crate) fn put(&mut self, bytes: &[u8]) -> bool {
+        self.write_all(bytes).is_ok()
+    }
+
+    /// Tells that a write failed.
+    fn fail(&mut self) {
+        self.failed = true;
+        let _ = eprintln!(self.rt; "standard output: stopped: write after {} bytes", self.sent);
+    }
+}
+
+impl<R: Print + Eprint> Write for StandardOutput<'_, R> {
+    fn write(&mut self, bytes: &[u8]) -> io::Result<usize> {
+        if self.failed {
+            return Err(io::Error::from(ErrorKind::BrokenPipe));
+        }
+        let written = self.rt.write_some(bytes);
+        match &written {
+            Ok(0) if !bytes.is_empty() => self.fail(),
+            Ok(n) => self.sent = self.sent.saturating_add(*n as u64),
+            Err(error) if error.kind() == ErrorKind::Interrupted => {}
+            Err(_) => self.fail(),
+        }
+        written
+    }
+
+    fn flush(&mut self) -> io::Result<()> {
+        Ok(())
+    }
+}
+
+/// Writes bytes to standard output, and answers whether they went out.
+pub(crate) fn is_printed<R: Print + Eprint>(rt: &R, bytes: &[u8]) -> bool {
+    StandardOutput::of(rt).put(bytes)
+}
