@@ -38,8 +38,8 @@ fn tell(alloc: Global, text: &[u8], digest: &mut Digest) -> Result<(), Memory> {
     take_unquoted(alloc, &remarked_long(alloc, text)?, digest)
 }
 
-/// What is told to a person, each line up to its first quote. The bytes between quotes are those of the report for a program;
-/// how one that is not printed is shown here is left open.
+/// What is told to a person, each line up to its first quote. What is quoted is taken from the report for a program; how a
+/// byte that is not printed is shown between quotes differs from build to build.
 fn take_unquoted(alloc: Global, told: &Checked, digest: &mut Digest) -> Result<(), Memory> {
     let mut unquoted = Vec::with_capacity(alloc, told.text.len())?;
     let mut quoted = false;
