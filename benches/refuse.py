@@ -35,6 +35,11 @@ WORKS = b"""work,iswc,performing,mechanical,synchronization,claims
 CONFLICTS = b"""entry,submitter,kind,number,title,iswc,performing,mechanical,synchronization,status,work,version,faults
 2,PB000000456,NWR,W1            ,%s,T0345246801,5007,5007,5007,CO,1,,
 """ % TITLE
+PLAIN = b"""submitter,number,work,version,title,iswc,performing_control,mechanical_control,synchronization_control
+PB000000123,W1,1,1,SONG ONE,T0345246801,50.00,50.00,50.00
+"""
+OBJECTS = b'{"entry":2,"faults":[],"iswc":"T0345246801","kind":"NWR","mechanical_control":5007,"number":"W1            ","performing_control":5007,' \
+    b'"status":"CO","submitter":"PB000000456","synchronization_control":5007,"title":"%s","version":null,"work":1}\n' % TITLE
 HALF = b"  none: 0\n  up to a quarter: 0\n  up to a half: 1\n  more than a half: 0\n  all: 0\n"
 SUMMARY = b"""entries: 2
 accepted (AS): 1
@@ -50,6 +55,10 @@ works by what is left of the performing right:
 %slargest conflicts:
   work 1: 1
 """ % (HALF, HALF, HALF)
+LEFT = b'{"all":0,"more_than_half":0,"none":0,"up_to_half":1,"up_to_quarter":0}'
+SUMMARY_OBJECT = b'{"accepted":1,"conflicts":1,"current_claims":1,"duplicates":0,"entries":2,"largest_conflicts":[{"conflicts":1,"work":1}],' \
+    b'"left":{"mechanical":%s,"performing":%s,"synchronization":%s},"rejected":0,"submitters":2,"works":1}\n' % (LEFT, LEFT, LEFT)
+UNANSWERED = b": group 1, transaction 0: no entry of the register answers it\n"
 UNTOLD = b": group 1, transaction 0: not in the register as conflict-2.v22.ack tells it\n"
 
 Answer = collections.namedtuple("Answer", "status printed complained files")
@@ -90,6 +99,33 @@ class Command:
             return "line left out"
         stopped = re.fullmatch(rb"-: stopped after (\d+): memory\n", answer.complained)
         want(stopped and int(stopped[1]) <= self.transactions, "standard error")
+        return "job: memory"
+
+
+class Checks:
+    """`check` of several files: of each its name, its bytes or None where it is not there, and what is told of it on standard
+    output and on standard error. What one file has no memory for is told by its name, and the others are checked all the same."""
+
+    def __init__(self, options, checks, status):
+        self.words = ["check", *options, *(name for name, *_ in checks)]
+        self.given, self.checks, self.rounds = b"", checks, 1
+        self.files = {name: text for name, text, *_ in checks if text is not None}
+        self.ample = Answer(status, *self.told(), self.files)
+
+    def told(self, stopped=None):
+        """What is told on standard output and on standard error where one of the files is stopped."""
+        rows = [(b"", name.encode() + b": " + NO_MEMORY) if name == stopped else (printed, complained) for name, _, printed, complained in self.checks]
+        return b"".join(printed for printed, _ in rows), b"".join(complained for _, complained in rows)
+
+    def kind(self, answer):
+        if answer == self.ample:
+            return "ample"
+        want(answer.files == self.files, "a file was changed")
+        want(answer.status == 1, "status")
+        told = answer.printed, answer.complained
+        if told == (b"", NO_MEMORY):
+            return "stopped: memory"
+        want(any(told == self.told(name) for name, *_ in self.checks), "what is told")
         return "job: memory"
 
 
@@ -216,16 +252,26 @@ def commands(examples):
         ("check --long remarks.v22", Command(["check", "--long", "remarks.v22"], 0, sample("remarks.long"), files=file("remarks.v22"))),
         ("check --long mistakes.v22", Command(["check", "--long", "mistakes.v22"], 1, sample("mistakes.long"), files=file("mistakes.v22"))),
         ("check --json remarks.v22", Command(["check", "--json", "remarks.v22"], 0, sample("remarks.json"), files=file("remarks.v22"))),
+        ("check --quiet, two files", Checks(["--quiet"], [("accepted.v22", sample("accepted.v22"), b"", b""), ("rejected.v22", sample("rejected.v22"), b"rejected.v22: 00001 00000000 NWR rejected 0:J11\n", b"")], 1)),
+        ("check, two files, one absent", Checks([], [("absent", None, b"", b"absent: stopped: read\n"), ("accepted.v22", sample("accepted.v22"), b"accepted.v22: 00001 00000000 NWR ok\naccepted.v22: 1 transactions, 0 with faults\n", b"")], 1)),
         ("check absent", Command(["check", "absent"], 1, complained=b"stopped: read\n")),
         ("audit, two entries", Command(["audit", "r"], 0, b"2 entries\n", files=[("r", both)])),
         ("audit -", Command(["audit", "-"], 0, b"2 entries\n", given=both)),
+        ("audit --json, a wrong entry", Command(["audit", "--json", "r"], 1, b'{"entries":null,"fault":{"line":3,"rule":"G3"}}\n', files=[("r", wrong)])),
         ("audit, a wrong entry", Command(["audit", "r"], 1, b"refused G3 at line 3\n", files=[("r", wrong)])),
         ("claims", Command(["claims", "r"], 0, CLAIMS, files=[("r", both)], streams=True)),
+        ("claims --plain", Command(["claims", "--plain", "r"], 0, PLAIN, files=[("r", both)], streams=True)),
+        ("works --work 2", Command(["works", "--work", "2", "r"], 0, WORKS.splitlines(True)[0], b"no work matches\n", files=[("r", both)], streams=True)),
         ("works", Command(["works", "r"], 0, WORKS, files=[("r", both)], streams=True)),
         ("history --status CO", Command(["history", "--status", "CO", "r"], 0, CONFLICTS, files=[("r", both)], streams=True)),
+        ("history --json --status CO", Command(["history", "--json", "--status", "CO", "r"], 0, OBJECTS, files=[("r", both)], streams=True)),
         ("summary", Command(["summary", "r"], 0, SUMMARY, files=[("r", both)])),
+        ("summary --json", Command(["summary", "--json", "r"], 0, SUMMARY_OBJECT, files=[("r", both)])),
         ("verify, two files", Command(["verify", "r", *(name for name, *_ in pair)], 0, b"2 transactions of 2 files\n", files=sent)),
         ("verify, another's answer", Command(["verify", "r", pair[1][0]], 1, pair[1][0].encode() + UNTOLD, files=astray)),
+        ("verify --ack", Command(["verify", "--ack", "a", "r", lone[0]], 0, b"1 transactions of 1 files\n", files=[("r", both), (lone[0], lone[1]), ("a", lone[2])])),
+        ("answer", Command(["answer", *STAMP, "r", conflict[0]], 0, conflict[2], files=[("r", both), (conflict[0], conflict[1])], streams=True)),
+        ("answer, no entry", Command(["answer", *STAMP, "r", conflict[0]], 1, complained=conflict[0].encode() + UNANSWERED, files=[("r", register([first])), (conflict[0], conflict[1])])),
         ("run", Run([job("duplicate.v22", [accepted, duplicate])])),
         ("run --to", Run([lone], to=True)),
         ("run --from", Run([conflict], opening=[first])),
@@ -248,6 +294,7 @@ def told_commands(program):
     version = subprocess.run([NAME, "--version"], executable=program, capture_output=True, timeout=SECONDS).stdout
     assert re.fullmatch(rb"purvilgo \d+\.\d+\.\d+\n", version), version
     yield "--version", Command(["--version"], 0, version)
+    yield "version", Command(["version"], 0, version)
     for words, part in [
         (["--help"], b"Usage: purvilgo [COMMAND]\n"),
         (["help"], b"Usage: purvilgo [COMMAND]\n"),

@@ -1,14 +1,17 @@
-/* The registry of musical works, for C and for all that calls C: checks, acknowledgements, audits, and a registry that
- * goes on from file to file.
+/* The registry of musical works, for C and for all that calls C: checks, acknowledgements, audits, tables, and a registry
+ * that goes on from file to file.
  *
  * Bytes go in and bytes come out. No call opens a file, starts a thread, prints or waits, and none ends the process.
  *
  * What every call asks of its caller:
  *   - No pointer is null, not even one whose length is 0, and each points at as many bytes as its length says.
- *   - What a call writes (registry, out, length, clean, outcome, entries, fault) overlaps nothing else that it is given.
+ *   - What a call writes (registry, out, length, clean, outcome, entries, transactions, fault, misfit) overlaps nothing
+ *     else that it is given.
  *   - Bytes that a call reads are written by nobody while it runs.
  *   - No call is made from a signal handler, nor in the child of a fork of a process that has threads.
  *   - malloc, realloc and free belong together, and align blocks as C asks for.
+ * Nothing checks these: a call that breaks one may do anything, as anywhere in C.
+ *
  * Calls on different data may run at once, in as many threads as there are.
  *
  * What the calls of a registry ask beside that:
@@ -55,8 +58,21 @@ enum {
     /* The registry is shut: all stays as it was. */
     PURVILGO_SHUT = 6,
     /* The registry is open already: all stays as it was. */
-    PURVILGO_ALREADY_OPEN = 7
+    PURVILGO_ALREADY_OPEN = 7,
+    /* The word names no rule and no answer: all stays as it was. */
+    PURVILGO_NO_RULE = 8,
+    /* The files and the register do not fit: the first file that does not, and what of it, is told. */
+    PURVILGO_UNVERIFIED = 9
 };
+
+/* The version of the library, as 0.1.0: that of the program that was built with it.
+ * Answers PURVILGO_DONE or PURVILGO_NO_ROOM. */
+uint32_t purvilgo_version(uint8_t *out, size_t out_size, size_t *length);
+
+/* What a status means, in a few words of at most 64 bytes, as "memory was refused"; of a number that no call answers, that
+ * it is not a status.
+ * Answers PURVILGO_DONE or PURVILGO_NO_ROOM. */
+uint32_t purvilgo_status_text(uint32_t status, uint8_t *out, size_t out_size, size_t *length);
 
 /* What became of a file. */
 enum {
@@ -97,7 +113,12 @@ struct purvilgo_outcome {
     uint64_t sent;
 };
 
-/* Who acknowledges, and when. No field has a 0 at its end. */
+/* Who acknowledges, and when. No field has a 0 at its end. A name that is shorter than its field is filled up with blanks:
+ *
+ *     memset(stamp.name, ' ', sizeof stamp.name);
+ *     memcpy(stamp.name, name, strlen(name));
+ *
+ * Its bytes go out as they are. */
 struct purvilgo_stamp {
     /* The society's number (CISAC), at most 999. */
     uint16_t society;
@@ -120,9 +141,30 @@ struct purvilgo_register_fault {
 /* Checks a submission file, without a registry. The text is that of `purvilgo check`: a line for each transaction and a
  * last one with their number, or the file's first fault. `*clean` tells whether the file is well-formed and none of its
  * transactions has a fault. It is told with PURVILGO_NO_ROOM too.
+ *
+ * A check sets no limit on the file's length. `purvilgo check`, and every run, stop at a file of more than 16,777,216
+ * bytes: one that is clean here may be too long there.
+ *
  * Answers PURVILGO_DONE, PURVILGO_NO_ROOM or PURVILGO_NO_MEMORY. */
 uint32_t purvilgo_check(const uint8_t *file, size_t file_length, uint8_t *out, size_t out_size, size_t *length,
                         bool *clean);
+
+/* The same for a person. The text is that of `purvilgo check --long`: of each fault its line, its field, what stands there
+ * and what was expected, and behind that the remarks, which are no faults.
+ * Answers as purvilgo_check. */
+uint32_t purvilgo_check_long(const uint8_t *file, size_t file_length, uint8_t *out, size_t out_size, size_t *length,
+                             bool *clean);
+
+/* The same for a program. The text is that of `purvilgo check --json`: one JSON object, in UTF-8, with LF behind it.
+ * Answers as purvilgo_check. */
+uint32_t purvilgo_check_json(const uint8_t *file, size_t file_length, uint8_t *out, size_t out_size, size_t *length,
+                             bool *clean);
+
+/* Explains a rule, as F9, J11, G3, or 011 as an MSG record has it: what it asks, an example of what breaks it, and how to
+ * mend that; or an answer, AS, DU, CO or RJ: what it means, and what a publisher does then. The text is that of
+ * `purvilgo explain`. A word of no bytes asks for all of them.
+ * Answers PURVILGO_DONE, PURVILGO_NO_ROOM, PURVILGO_NO_MEMORY, or PURVILGO_NO_RULE, which leaves all as it was. */
+uint32_t purvilgo_explain(const uint8_t *word, size_t word_length, uint8_t *out, size_t out_size, size_t *length);
 
 /* Acknowledges one file into an empty registry. The text is the acknowledgement file: none of a file that is refused or
  * stopped. What became of the file stands in `*outcome`, with PURVILGO_NO_ROOM too; want of memory for the work stands
@@ -136,6 +178,83 @@ uint32_t purvilgo_acknowledge(const uint8_t *file, size_t file_length, const str
  * of a text that is no register of one registry; or PURVILGO_NO_MEMORY. What is not told stays as it was. */
 uint32_t purvilgo_audit(const uint8_t *text, size_t text_length, uint64_t *entries,
                         struct purvilgo_register_fault *fault);
+
+/* The tables of a register, as the commands of these names print them without narrowing: CSV with a header line, each line
+ * with LF at its end. Texts of the register stand as it has them, also bytes above 126 and blanks at their ends; one with
+ * a comma, a quote or a line end stands between quotes. Control of a right is in hundredths of one per cent: 5007 is 50.07
+ * per cent. docs/guide/auditing.md tells more of the columns.
+ *
+ * Each answers PURVILGO_DONE, PURVILGO_NO_ROOM, PURVILGO_NO_MEMORY, or PURVILGO_FAULTY, and tells in `*fault` the first
+ * fault of a text that is no register of one registry. `*fault` stays as it was but for that, and then, and with
+ * PURVILGO_NO_MEMORY, nothing else is written. A table is made anew by each call, from each of the register's decisions
+ * made anew, so ask with a room that may do. */
+
+/* The current claims, in the order of their entries. The columns are
+ * submitter,number,work,version,title,iswc,performing,mechanical,synchronization: the last three are the claim's control. */
+uint32_t purvilgo_claims(const uint8_t *text, size_t text_length, uint8_t *out, size_t out_size, size_t *length,
+                         struct purvilgo_register_fault *fault);
+
+/* The works, by number. The columns are work,iswc,performing,mechanical,synchronization,claims: the control of all current
+ * claims on the work together, and how many these are. */
+uint32_t purvilgo_works(const uint8_t *text, size_t text_length, uint8_t *out, size_t out_size, size_t *length,
+                        struct purvilgo_register_fault *fault);
+
+/* Every entry, in order. The columns are
+ * entry,submitter,kind,number,title,iswc,performing,mechanical,synchronization,status,work,version,faults. */
+uint32_t purvilgo_history(const uint8_t *text, size_t text_length, uint8_t *out, size_t out_size, size_t *length,
+                          struct purvilgo_register_fault *fault);
+
+/* How much of what there is, as a page and no CSV: lines of a name, a colon, a blank and a number, the later ones indented
+ * below a line that names what they count. */
+uint32_t purvilgo_summary(const uint8_t *text, size_t text_length, uint8_t *out, size_t out_size, size_t *length,
+                          struct purvilgo_register_fault *fault);
+
+/* A file that was sent, and the acknowledgement that is said to answer it. */
+struct purvilgo_sent {
+    const uint8_t *file;
+    size_t file_length;
+    const uint8_t *acknowledgement;
+    size_t acknowledgement_length;
+};
+
+/* What of a file does not fit. */
+enum {
+    /* The file has more than 16,777,216 bytes. */
+    PURVILGO_FILE_TOO_LONG = 1,
+    /* The file is not well-formed. */
+    PURVILGO_FILE_REFUSED = 2,
+    /* The register has no entry for a transaction, with the reply that the acknowledgement tells. */
+    PURVILGO_OTHER_TRANSACTION = 3,
+    /* All transactions are there, and the acknowledgement that answers them has another line. An acknowledgement whose
+     * first line is none of an acknowledgement is told, as line 1, before anything else of its file. */
+    PURVILGO_OTHER_LINE = 4
+};
+
+/* The first file that does not fit, and what of it. What does not belong to its kind is 0. */
+struct purvilgo_misfit {
+    /* PURVILGO_FILE_TOO_LONG to PURVILGO_OTHER_LINE. */
+    uint32_t kind;
+    /* Refused: the file's first fault, 1 to 12 for F1 to F12. */
+    uint32_t fault;
+    /* Which file, from 0. */
+    uint64_t file;
+    /* Refused: the line of the file that has the fault. Another line: the first one of the acknowledgement. From 1. */
+    uint64_t line;
+    /* A transaction: its group's ID, from 1, and its number in the group, from 0. */
+    uint32_t group;
+    uint32_t transaction;
+};
+
+/* Checks a register against files that were sent, and against their acknowledgements, as `purvilgo verify` does: the
+ * transactions of each file, judged anew, stand in the register in the order of the file, each with the reply that the
+ * acknowledgement tells, and no entry answers two of them. Give the files in the order in which they were run; there may
+ * be any number of them, also none: with a count of 0 `files` is any pointer that is not null.
+ * Answers PURVILGO_DONE, and tells in `*transactions` how many there are; PURVILGO_UNVERIFIED, and tells in `*misfit` the
+ * first file that does not fit; PURVILGO_FAULTY, and tells in `*fault` the first fault of a text that is no register of one
+ * registry; or PURVILGO_NO_MEMORY. What is not told stays as it was. */
+uint32_t purvilgo_verify(const uint8_t *text, size_t text_length, const struct purvilgo_sent *files, size_t file_count,
+                         uint64_t *transactions, struct purvilgo_register_fault *fault,
+                         struct purvilgo_misfit *misfit);
 
 /* Tells an outcome as `purvilgo run` prints it: the file's name, a colon, the outcome and LF.
  * Answers PURVILGO_DONE, PURVILGO_NO_ROOM, PURVILGO_NO_MEMORY, or PURVILGO_NO_OUTCOME, which leaves all as it was. */
@@ -165,6 +284,11 @@ uint32_t purvilgo_registry_open(struct purvilgo_registry *registry);
 
 /* Opens the registry that a register tells, as purvilgo_registry_register or `purvilgo run --to` wrote it. Each of its
  * decisions is made anew, and compared.
+ *
+ * The library locks nothing. Who reads a register from a file and writes it back there holds an exclusive lock of
+ * flock(2) on the empty file REGISTER.lock from before the read until the new one has its name, as `purvilgo run --to` and
+ * bindings/c/day.c do: of two at once, the decisions of one would be lost.
+ *
  * Answers PURVILGO_DONE; PURVILGO_FAULTY, and tells in `*fault` the first fault of a text that is no register of one
  * registry; PURVILGO_NO_MEMORY; both leave it shut; or PURVILGO_ALREADY_OPEN. `*fault` stays as it was but for
  * PURVILGO_FAULTY. */

@@ -2,20 +2,30 @@
  *
  *     acknowledge SOCIETY NAME YYYYMMDD HHMMSS FILE..
  *
- * The status is 0 where all files were acknowledged, else 1. */
+ * What cannot be read or written, and want of memory, is told on standard error. The status is 0 where all files were
+ * acknowledged, 2 where the words are no stamp, else 1. */
 #include "files.h"
 #include "purvilgo.h"
 #include "stamps.h"
 
-/* Acknowledges one file. 0 where it was, and its acknowledgement is written. */
-static int acknowledge(const char *path, const struct purvilgo_stamp *stamp) {
-    struct bytes file = read_file(path);
+/* Writes an acknowledgement. 0 where all of it is written. */
+static int write_answer(const char *path, const uint8_t *at, size_t length) {
+    char name[4096];
+    snprintf(name, sizeof name, "%s.ack", path);
+    if (write_file(name, at, length) == 0)
+        return 0;
+    fprintf(stderr, "%s: cannot be written\n", name);
+    return -1;
+}
+
+/* Acknowledges a file, and tells what became of it. 0 where it was acknowledged, and its acknowledgement is written. */
+static int answer(const char *path, struct bytes file, const struct purvilgo_stamp *stamp) {
     struct purvilgo_outcome outcome;
     size_t size = 2 * file.length + 4096, length = 0;
     uint8_t *out = malloc(size);
-    char name[4096];
     uint32_t status = PURVILGO_NO_MEMORY;
-    if (file.at && out)
+    int done = -1;
+    if (out)
         status = purvilgo_acknowledge(file.at, file.length, stamp, out, size, &length, &outcome);
     if (status == PURVILGO_NO_ROOM) {
         free(out);
@@ -23,13 +33,25 @@ static int acknowledge(const char *path, const struct purvilgo_stamp *stamp) {
         status = out ? purvilgo_acknowledge(file.at, file.length, stamp, out, length, &length, &outcome)
                      : PURVILGO_NO_MEMORY;
     }
-    int done = status == PURVILGO_DONE ? 0 : -1;
-    if (done == 0) {
+    if (status == PURVILGO_DONE)
         tell(path, &outcome);
-        snprintf(name, sizeof name, "%s.ack", path);
-        done = outcome.kind == PURVILGO_ACKNOWLEDGED ? write_file(name, out, length) : -1;
-    }
+    else
+        tell_status(path, status);
+    if (status == PURVILGO_DONE && outcome.kind == PURVILGO_ACKNOWLEDGED)
+        done = write_answer(path, out, length);
     free(out);
+    return done;
+}
+
+/* Reads and acknowledges one file. */
+static int acknowledge(const char *path, const struct purvilgo_stamp *stamp) {
+    struct bytes file = read_file(path);
+    int done;
+    if (!file.at) {
+        fprintf(stderr, "%s: cannot be read\n", path);
+        return -1;
+    }
+    done = answer(path, file, stamp);
     free(file.at);
     return done;
 }
@@ -39,6 +61,10 @@ int main(int argc, char **argv) {
     int worst = 0;
     if (argc < 6 || set_stamp(&stamp, argv + 1) != 0) {
         fprintf(stderr, "acknowledge SOCIETY NAME YYYYMMDD HHMMSS FILE..\n");
+        return 2;
+    }
+    if (!is_stamp(&stamp)) {
+        tell_status("acknowledge", PURVILGO_BAD_STAMP);
         return 2;
     }
     for (int i = 5; i < argc; i++)

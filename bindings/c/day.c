@@ -6,9 +6,16 @@
  * begins a second history. Tells what became of each FILE as `purvilgo run` does, and writes REGISTER anew and FILE.ack of
  * each that was acknowledged. The register takes its name first, so that nobody finds an answer that it does not know;
  * where it cannot be kept, no answer is left, and where an answer then cannot take its name, it stays in FILE.ack.new.
+ * It does not wait for the disk, as `purvilgo run` does: a crash of the system may take what was written back.
+ *
+ * REGISTER.lock is locked from before REGISTER is read until all is in place, so that of two at one register, this one or
+ * `purvilgo run`, the second tells that it is in use, and reads and writes nothing. Where REGISTER is a link, the file
+ * that it leads to is locked and replaced.
+ *
  * What cannot be read or kept is told on standard error. The status is 0 where all files were acknowledged and all was
- * written, else 1. */
+ * written; 2 where the words are no stamp, or name one file twice; else 1. */
 #include "files.h"
+#include "names.h"
 #include "purvilgo.h"
 #include "stamps.h"
 #include <unistd.h>
@@ -57,7 +64,7 @@ static int take_name(const char *path, const char *ending) {
 static void drop(const char *path, const char *ending) {
     char name[4096];
     snprintf(name, sizeof name, "%s%s.new", path, ending);
-    remove(name);
+    unlink(name);
 }
 
 /* Tells on standard error what is wrong with a file. -1 for whoever answers it. */
@@ -74,7 +81,10 @@ static int open_registry(struct purvilgo_registry *registry, const char *path, i
     if (begin) {
         if (access(path, F_OK) == 0)
             return tell_wrong(path, ": is there already");
-        return purvilgo_registry_open(registry) == PURVILGO_DONE ? 0 : tell_wrong(path, ": stopped: memory");
+        status = purvilgo_registry_open(registry);
+        if (status != PURVILGO_DONE)
+            tell_status(path, status);
+        return status == PURVILGO_DONE ? 0 : -1;
     }
     text = read_file(path);
     if (!text.at)
@@ -83,7 +93,7 @@ static int open_registry(struct purvilgo_registry *registry, const char *path, i
     if (status == PURVILGO_FAULTY)
         fprintf(stderr, "%s: refused G%u at line %llu\n", path, fault.number, (unsigned long long)fault.line);
     else if (status != PURVILGO_DONE)
-        tell_wrong(path, ": stopped: memory");
+        tell_status(path, status);
     free(text.at);
     return status == PURVILGO_DONE ? 0 : -1;
 }
@@ -97,8 +107,10 @@ static int run(struct purvilgo_registry *registry, const char *path, const struc
         return tell_wrong(path, ": cannot be read");
     status = purvilgo_registry_run(registry, file.at, file.length, stamp, &outcome);
     free(file.at);
-    if (status != PURVILGO_DONE)
-        return tell_wrong(path, ": stopped: memory");
+    if (status != PURVILGO_DONE) {
+        tell_status(path, status);
+        return -1;
+    }
     tell(path, &outcome);
     if (outcome.kind != PURVILGO_ACKNOWLEDGED)
         return -1;
@@ -142,18 +154,46 @@ static int day(struct purvilgo_registry *registry, const char *kept, const struc
     return worst;
 }
 
-int main(int argc, char **argv) {
+/* Locks the register, opens its registry, and carries it on. */
+static int locked_day(const char *kept, int begin, const struct purvilgo_stamp *stamp, char **files, int count) {
     struct purvilgo_registry registry = PURVILGO_REGISTRY_SHUT;
+    int told = 1, lock = lock_register(kept);
+    if (lock < 0) {
+        tell_wrong(kept, errno == EWOULDBLOCK ? ": in use" : ": cannot be locked");
+        return 1;
+    }
+    if (open_registry(&registry, kept, begin) == 0)
+        told = day(&registry, kept, stamp, files, count);
+    purvilgo_registry_close(&registry);
+    close(lock);
+    return told;
+}
+
+int main(int argc, char **argv) {
     struct purvilgo_stamp stamp;
-    int told = 1, begin = argc > 1 && strcmp(argv[1], "--begin") == 0;
+    struct stat found;
+    char *led_to = NULL;
+    int told, twice, begin = argc > 1 && strcmp(argv[1], "--begin") == 0;
     argv += begin;
     argc -= begin;
     if (argc < 7 || set_stamp(&stamp, argv + 2) != 0) {
         fprintf(stderr, "day [--begin] REGISTER SOCIETY NAME YYYYMMDD HHMMSS FILE..\n");
         return 2;
     }
-    if (open_registry(&registry, argv[1], begin) == 0)
-        told = day(&registry, argv[1], &stamp, argv + 6, argc - 6);
-    purvilgo_registry_close(&registry);
+    if (!is_stamp(&stamp)) {
+        tell_status("day", PURVILGO_BAD_STAMP);
+        return 2;
+    }
+    if (lstat(argv[1], &found) == 0 && S_ISLNK(found.st_mode))
+        led_to = realpath(argv[1], NULL);
+    if (led_to)
+        argv[1] = led_to;
+    twice = is_named_twice(argv[1], argv + 6, argc - 6);
+    if (twice < 0)
+        tell_status("day", PURVILGO_NO_MEMORY);
+    else if (twice)
+        fprintf(stderr, "file named twice\n");
+    told = twice < 0 ? 1 : twice ? 2 : locked_day(argv[1], begin, &stamp, argv + 6, argc - 6);
+    free(led_to);
     return told;
 }

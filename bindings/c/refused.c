@@ -1,7 +1,7 @@
 /* Refuses memory: the n-th request of a run fails, for each n until a run asks for less. Each call must answer so, leave
  * what it says it leaves, and give all memory back; what it did not refuse must be as in a run that nothing was refused.
  *
- *     refused FILE REGISTER
+ *     refused FILE REGISTER ACKNOWLEDGEMENT
  *
  * Linked with -Wl,--wrap=malloc,--wrap=realloc,--wrap=free, so that the requests of the library come here. */
 #include "files.h"
@@ -40,9 +40,11 @@ void __wrap_free(void *at) {
     __real_free(at);
 }
 
+/* The texts that are compared with those of the first run. */
+enum { CHECK, LONG, JSON, PAGE, PAGES, CLAIMS, WORKS, HISTORY, SUMMARY, ALONE, LINE, LAST, REGISTER, TEXTS };
 enum { ROOM = 1 << 16 };
-static uint8_t room[ROOM], expected[5][ROOM];
-static size_t expected_length[5];
+static uint8_t room[ROOM], expected[TEXTS][ROOM];
+static size_t expected_length[TEXTS];
 
 static void must(bool holds, const char *what) {
     if (!holds) {
@@ -87,15 +89,76 @@ static void told(int k, uint32_t status, size_t length, bool same) {
         must(room[i] == 0xA5, "the room behind the text was written");
 }
 
-static void check(struct bytes file) {
+typedef uint32_t check_call(const uint8_t *, size_t, uint8_t *, size_t, size_t *, bool *);
+
+static void check(int k, check_call *call, struct bytes file) {
     size_t length;
     bool clean = true;
     uint32_t status;
     fill(&length);
-    status = purvilgo_check(file.at, file.length, room, ROOM, &length, &clean);
-    told(0, status, length, true);
+    status = call(file.at, file.length, room, ROOM, &length, &clean);
+    told(k, status, length, true);
     must(clean || !failed, "a check that was refused told something");
     must(held == 0, "the check kept memory");
+}
+
+static void explain(int k, const char *name) {
+    size_t length;
+    uint32_t status;
+    fill(&length);
+    status = purvilgo_explain((const uint8_t *)name, strlen(name), room, ROOM, &length);
+    told(k, status, length, true);
+    must(held == 0, "a page kept memory");
+}
+
+typedef uint32_t table_call(const uint8_t *, size_t, uint8_t *, size_t, size_t *, struct purvilgo_register_fault *);
+
+/* A table of a register, or its fault: then nothing else is told. */
+static void table(int k, table_call *call, struct bytes text) {
+    struct purvilgo_register_fault fault = {77, 77};
+    size_t length;
+    uint32_t status;
+    fill(&length);
+    status = call(text.at, text.length, room, ROOM, &length, &fault);
+    counts = false;
+    must(held == 0, "a table kept memory");
+    if (status == PURVILGO_FAULTY) {
+        must(!failed && fault.number != 77 && fault.line != 77, "a fault was not told, or for want of memory");
+        must(length == 12345 && is_filled(), "a register with a fault has a table");
+        return;
+    }
+    told(k, status, length, true);
+    must(fault.number == 77 && fault.line == 77, "a fault was told beside a table");
+}
+
+/* What is told of a file and its acknowledgement in a first run is told in each other, or nothing is. */
+static void verify(struct bytes text, struct bytes file, struct bytes answer) {
+    static struct purvilgo_misfit first;
+    static uint64_t first_transactions;
+    static uint32_t first_status;
+    const struct purvilgo_sent sent = {file.at, file.length, answer.at, answer.length};
+    struct purvilgo_misfit misfit = {77, 77, 77, 77, 77, 77};
+    struct purvilgo_register_fault fault = {77, 77};
+    uint64_t transactions = 77;
+    uint32_t status;
+    failed = false;
+    counts = true;
+    status = purvilgo_verify(text.at, text.length, &sent, 1, &transactions, &fault, &misfit);
+    counts = false;
+    must(held == 0, "a verification kept memory");
+    must((status == PURVILGO_NO_MEMORY) == failed, "a verification was not refused as it is");
+    must((transactions == 77) == (status != PURVILGO_DONE), "transactions were told, or were not");
+    must((misfit.kind == 77) == (status != PURVILGO_UNVERIFIED), "a misfit was told, or was not");
+    must((fault.number == 77) == (status != PURVILGO_FAULTY), "a fault was told, or was not");
+    if (failed)
+        return;
+    if (fails_at == 0) {
+        first = misfit;
+        first_transactions = transactions;
+        first_status = status;
+    }
+    must(status == first_status && transactions == first_transactions && memcmp(&misfit, &first, sizeof first) == 0,
+         "a verification told something else");
 }
 
 static struct purvilgo_outcome acknowledge(struct bytes file, const struct purvilgo_stamp *stamp) {
@@ -111,7 +174,7 @@ static struct purvilgo_outcome acknowledge(struct bytes file, const struct purvi
         must(outcome.cause == PURVILGO_FOR_MEMORY || outcome.cause == PURVILGO_FOR_WRITE, "another cause");
         must(length == 0 && is_filled(), "part of an acknowledgement was written");
     } else {
-        told(1, status, length, true);
+        told(ALONE, status, length, true);
     }
     return outcome;
 }
@@ -121,7 +184,7 @@ static void tell_line(const struct purvilgo_outcome *outcome) {
     uint32_t status;
     fill(&length);
     status = purvilgo_outcome_line((const uint8_t *)"name", 4, outcome, room, ROOM, &length);
-    told(2, status, length, outcome->kind != PURVILGO_STOPPED);
+    told(LINE, status, length, outcome->kind != PURVILGO_STOPPED);
     must(held == 0, "the line kept memory");
 }
 
@@ -209,7 +272,7 @@ static void tell_last(struct purvilgo_registry *registry, bool stopped, bool sam
     if (stopped)
         must(status == PURVILGO_DONE && length == 0 && is_filled(), "there is an acknowledgement of a run that was stopped");
     else
-        told(3, status, length, same);
+        told(LAST, status, length, same);
     counts = false;
 }
 
@@ -221,7 +284,7 @@ static void tell_register(struct purvilgo_registry *registry, bool same) {
     uint32_t status;
     fill(&length);
     status = purvilgo_registry_register(registry, room, ROOM, &length);
-    told(4, status, length, same);
+    told(REGISTER, status, length, same);
     if (status == PURVILGO_DONE) {
         must(purvilgo_audit(room, length, &entries, &fault) == PURVILGO_DONE, "the register is none");
         must(entries == entries_of(registry), "the register has other entries");
@@ -246,10 +309,30 @@ static void carry_on(struct bytes file, struct bytes text, const struct purvilgo
     must(held == 0 && registry.at == NULL, "a registry that was closed holds memory");
 }
 
+/* What the library is and what a status means are told without a request. */
+static void about(void) {
+    size_t length, requests = asked;
+    fill(&length);
+    must(purvilgo_version(room, ROOM, &length) == PURVILGO_DONE, "there is no version");
+    must(purvilgo_status_text(PURVILGO_SHUT, room, ROOM, &length) == PURVILGO_DONE, "a status has no text");
+    must(asked == requests, "a text asked for memory");
+    counts = false;
+}
+
 /* Each call once. */
-static void calls(struct bytes file, struct bytes text, const struct purvilgo_stamp *stamp) {
+static void calls(struct bytes file, struct bytes text, struct bytes answer, const struct purvilgo_stamp *stamp) {
     struct purvilgo_outcome outcome;
-    check(file);
+    about();
+    check(CHECK, purvilgo_check, file);
+    check(LONG, purvilgo_check_long, file);
+    check(JSON, purvilgo_check_json, file);
+    explain(PAGE, "J11");
+    explain(PAGES, "");
+    table(CLAIMS, purvilgo_claims, text);
+    table(WORKS, purvilgo_works, text);
+    table(HISTORY, purvilgo_history, text);
+    table(SUMMARY, purvilgo_summary, text);
+    verify(text, file, answer);
     outcome = acknowledge(file, stamp);
     tell_line(&outcome);
     audit(text);
@@ -259,20 +342,24 @@ static void calls(struct bytes file, struct bytes text, const struct purvilgo_st
 int main(int argc, char **argv) {
     char *words[] = {"0", "CWR REGISTRY", "20240601", "090000"};
     struct purvilgo_stamp stamp;
-    struct bytes file = argc == 3 ? read_file(argv[1]) : (struct bytes){NULL, 0};
-    struct bytes text = argc == 3 ? read_file(argv[2]) : (struct bytes){NULL, 0};
+    const struct bytes none = {NULL, 0};
+    struct bytes file = argc == 4 ? read_file(argv[1]) : none;
+    struct bytes text = argc == 4 ? read_file(argv[2]) : none;
+    struct bytes answer = argc == 4 ? read_file(argv[3]) : none;
     size_t requests;
-    must(file.at && text.at && set_stamp(&stamp, words) == 0, "a file and a register are wanted");
-    calls(file, text, &stamp);
+    must(file.at && text.at && answer.at && set_stamp(&stamp, words) == 0,
+         "a file, a register and an acknowledgement are wanted");
+    calls(file, text, answer, &stamp);
     requests = asked;
     must(requests > 0, "no request was counted");
     for (fails_at = 1; fails_at <= requests; fails_at++) {
         asked = 0;
         held = 0;
-        calls(file, text, &stamp);
+        calls(file, text, answer, &stamp);
     }
     printf("refused: each of %zu requests\n", requests);
     free(file.at);
     free(text.at);
+    free(answer.at);
     return 0;
 }

@@ -6,15 +6,24 @@
 With --begin it runs them against an empty one, and REGISTER may not be there; else it must be, so that no wrong word
 begins a second history. Tells what became of each FILE as `purvilgo run` does, and writes REGISTER anew and FILE.ack of
 each that was acknowledged. The register takes its name first, so that nobody finds an answer that it does not know; where
-it cannot be kept, no answer is left, and where an answer then cannot take its name, it stays in FILE.ack.new. What cannot
-be read or kept is told on standard error. The status is 0 where all files were acknowledged and all was written, else 1.
+it cannot be kept, no answer is left, and where an answer then cannot take its name, it stays in FILE.ack.new. It does not
+wait for the disk, as `purvilgo run` does: a crash of the system may take what was written back.
+
+REGISTER.lock is locked from before REGISTER is read until all is in place, so that of two at one register, this one or
+`purvilgo run`, the second tells that it is in use, and reads and writes nothing. Where REGISTER is a link, the file that it
+leads to is locked and replaced.
+
+What cannot be read or kept is told on standard error. The status is 0 where all files were acknowledged and all was
+written; 2 where the words are no stamp, or name one file twice; else 1.
 """
 
 import contextlib
 import datetime
+import fcntl
 import os
 import pathlib
 import sys
+from typing import Iterator, List, Tuple
 
 import purvilgo
 
@@ -33,30 +42,63 @@ def drop(path: str) -> None:
         os.unlink(path + ".new")
 
 
+def place(path: str) -> Tuple[int, int, str]:
+    """Where a name leads: to a file, or, where there is none, to the folder in which it would be made, under this name."""
+    folder, name = os.path.split(path)
+    for there, name_there in ((path, ""), (folder or ".", name)):
+        with contextlib.suppress(OSError):
+            found = os.stat(there)
+            return found.st_dev, found.st_ino, name_there
+    return 0, 0, path
+
+
+def is_named_twice(kept: str, files: List[str]) -> bool:
+    """Whether one file would be read or written under two names: each FILE, FILE.ack, REGISTER, their drafts and the lock
+    are different ones, but that a draft may be one with what it is to replace."""
+    apart = [{place(kept + ".lock")}, {place(kept), place(kept + ".new")}]
+    for path in files:
+        apart += [{place(path)}, {place(path + ".ack"), place(path + ".ack.new")}]
+    return sum(map(len, apart)) > len(set().union(*apart))
+
+
+@contextlib.contextmanager
+def locked(path: str) -> Iterator[None]:
+    """Holds the lock of a register as `purvilgo run` does, by REGISTER.lock, an empty file that stays. It does not wait."""
+    with contextlib.ExitStack() as held:
+        try:
+            lock = held.enter_context(open(path + ".lock", "ab"))
+            fcntl.flock(lock, fcntl.LOCK_EX | fcntl.LOCK_NB)
+        except BlockingIOError:
+            raise Wrong(f"{path}: in use") from None
+        except OSError:
+            raise Wrong(f"{path}: cannot be locked") from None
+        yield
+
+
 def open_registry(path: str, begin: bool) -> purvilgo.Registry:
     """The registry of a register, or an empty one to `begin` it."""
     if begin and os.path.exists(path):
         raise Wrong(f"{path}: is there already")
-    if begin:
-        return purvilgo.Registry()
     try:
-        return purvilgo.Registry.open(pathlib.Path(path).read_bytes())
+        return purvilgo.Registry() if begin else purvilgo.Registry.open(pathlib.Path(path).read_bytes())
     except OSError:
         raise Wrong(f"{path}: cannot be read; --begin begins a register") from None
-    except purvilgo.RegisterError as fault:
-        raise Wrong(f"{path}: {fault}") from None
+    except (purvilgo.RegisterError, MemoryError) as error:
+        raise Wrong(f"{path}: {str(error) or 'memory was refused'}") from None
 
 
 def run(registry: purvilgo.Registry, path: str, stamp: purvilgo.Stamp) -> bool:
-    """Runs one file, and leaves its acknowledgement as a draft. Whether it was acknowledged, and is written."""
+    """Runs one file, and leaves its acknowledgement as a draft. Whether it was acknowledged, and is written. What was
+    decided of a file that is stopped stays in the registry, as in that of `purvilgo run`."""
     try:
-        file = pathlib.Path(path).read_bytes()
+        answer = registry.run(pathlib.Path(path).read_bytes(), stamp)
     except OSError:
         tell(f"{path}: cannot be read")
         return False
-    answer = registry.run(file, stamp)
+    except purvilgo.StoppedError as stopped:
+        answer = purvilgo.Acknowledgement(stopped.outcome, b"")
     sys.stdout.buffer.write(answer.outcome.line_for(path))
-    if not answer.outcome:
+    if not answer:
         return False
     try:
         pathlib.Path(path + ".ack.new").write_bytes(answer.file)
@@ -71,17 +113,20 @@ def keep(registry: purvilgo.Registry, path: str) -> None:
     try:
         pathlib.Path(path + ".new").write_bytes(registry.register())
         os.replace(path + ".new", path)
-    except OSError:
+    except (OSError, MemoryError):
         drop(path)
         raise Wrong(f"{path}: not kept") from None
 
 
-def day(registry: purvilgo.Registry, kept: str, stamp: purvilgo.Stamp, files: list[str]) -> bool:
+def day(registry: purvilgo.Registry, kept: str, stamp: purvilgo.Stamp, files: List[str]) -> bool:
     """Runs all files, and keeps the register and then the acknowledgements. Whether all of it is in place."""
-    written = [path for path in files if run(registry, path, stamp)]
+    written: List[str] = []
     try:
+        for path in files:
+            if run(registry, path, stamp):
+                written.append(path)
         keep(registry, kept)
-    except Wrong:
+    except BaseException:
         for path in written:
             drop(path + ".ack")
         raise
@@ -101,12 +146,20 @@ def main(*words: str) -> int:
         tell("day.py [--begin] REGISTER SOCIETY NAME YYYYMMDD HHMMSS FILE..")
         return 2
     kept, society, name, date, time, *files = words[begin:]
-    stamp = purvilgo.Stamp(int(society), name, datetime.datetime.strptime(date + time, "%Y%m%d%H%M%S"))
     try:
-        with open_registry(kept, begin) as registry:
+        stamp = purvilgo.Stamp(int(society), name, datetime.datetime.strptime(date + time, "%Y%m%d%H%M%S"))
+    except ValueError as error:
+        tell(f"day.py: {error}")
+        return 2
+    kept = os.path.realpath(kept) if os.path.islink(kept) else kept
+    if is_named_twice(kept, files):
+        tell("file named twice")
+        return 2
+    try:
+        with locked(kept), open_registry(kept, begin) as registry:
             return 0 if day(registry, kept, stamp, files) else 1
-    except Wrong as wrong:
-        tell(str(wrong))
+    except (Wrong, MemoryError) as wrong:
+        tell(str(wrong) or "day.py: memory was refused")
         return 1
 
 

@@ -79,8 +79,8 @@ pub turn_at : (readings : List Reading) (k number : ℕ) (reading : Reading)
     → (number ≡ k) × (k < length readings) × (reading ≡ get_or readings k reading)
 turn_at readings k number reading turn =
     let within : k < length readings = subst (λ (n : ℕ). k < n) (length-enumerate_from 0 readings) turn.0 in
-    let at : (number, reading) ≡ (0 + k, get_or readings k reading) = turn.1 ∙ get_or-enumerate_from 0 readings k (number, reading) within in
     let none : 0 + k ≡ k = omega arith in
+    let at : (number, reading) ≡ (0 + k, get_or readings k reading) = turn.1 ∙ get_or-enumerate_from 0 readings k (number, reading) within in
     (ap (λ (p : ℕ × Reading). p.0) at ∙ none, within, ap (λ (p : ℕ × Reading). p.1) at)
 
 -- what is known of it

@@ -7,3 +7,6 @@ pub mod Judging
 pub mod Telling
 pub mod Turns
 pub mod Proposing
+pub mod Runs
+pub mod FileRuns
+pub mod RunReplies

@@ -9,3 +9,5 @@ pub mod Proposed
 pub mod Verified
 pub mod Told
 pub mod Home
+pub mod Run
+pub mod Again

@@ -2,14 +2,19 @@
 //!
 //! An audit of a register takes its calls as given. [`verify`] judges the transactions of each [`SentFile`] anew, and
 //! finds for each of them the entry of the register that has its call, with the reply that the acknowledgement tells.
+//! [`answer`] is the other half: it makes the acknowledgement of a file again, from the register alone.
 #![tactic(auto)]
 
+mod answering;
 mod chains;
 mod digest;
 mod file_check;
+mod no_answer;
 mod past;
 mod proposal;
 mod reading;
+mod replied;
+mod run;
 mod same_call;
 mod sent;
 mod told;
@@ -18,6 +23,8 @@ mod verifying;
 mod waiting;
 mod wanted;
 
+pub use answering::answer;
+pub use no_answer::NoAnswer;
 pub use sent::SentFile;
 pub use unverified::Unverified;
 pub use verifying::verify;

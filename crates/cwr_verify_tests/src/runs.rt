@@ -2,8 +2,8 @@
 
 use byte_streams::{Feed, Room};
 use cwr_engine::{Job, work_alone};
-use cwr_sheets::stamp;
-use cwr_verify::{SentFile, Unverified, verify};
+use cwr_sheets::{same, same_bytes, stamp};
+use cwr_verify::{NoAnswer, SentFile, Unverified, answer, verify};
 use std::alloc::Global;
 use std::test::Fail;
 use work_registry::Book;
@@ -61,4 +61,43 @@ pub(crate) fn verified(
         },
     ];
     verify(alloc, book, &files)
+}
+
+/// How making the acknowledgement of a file again ended, and what a writer has of it that takes so many bytes.
+pub(crate) fn answered_again(
+    alloc: Global,
+    book: &Book,
+    file: &[u8],
+    entry: Option<u32>,
+    size: usize,
+) -> Result<(Result<(), NoAnswer>, Vec<u8>), Fail> {
+    let mut writer = Room::new(alloc, size, true)?;
+    let told = answer(alloc, book, file, &stamp()?, entry, &mut writer);
+    Ok((told, writer.bytes().to_vec(alloc)?))
+}
+
+/// The acknowledgement of a file, made again, is this one.
+pub(crate) fn expect_again(
+    alloc: Global,
+    book: &Book,
+    file: &[u8],
+    entry: Option<u32>,
+    wanted: &[u8],
+) -> Result<(), Fail> {
+    let (told, written) = answered_again(alloc, book, file, entry, 10000)?;
+    same("how it ended", &told, &Ok(()))?;
+    same_bytes("the acknowledgement", &written, wanted)
+}
+
+/// The acknowledgement of a file is not made again, for this reason, and nothing is written.
+pub(crate) fn expect_none(
+    alloc: Global,
+    book: &Book,
+    file: &[u8],
+    entry: Option<u32>,
+    why: NoAnswer,
+) -> Result<(), Fail> {
+    let (told, written) = answered_again(alloc, book, file, entry, 10000)?;
+    same("how it ended", &told, &Err(why))?;
+    same_bytes("what was written", &written, b"")
 }

@@ -1,8 +1,7 @@
 //! Plays: commands over files, one after the other, with what each must print and leave.
 
-use crate::fake::{Fake, expect_program};
 use crate::fake_files::{FakeFile, KeptFile};
-use crate::runs::{expect_held, keeping};
+use crate::runs::{expect_fed, expect_held, keeping};
 use crate::step::Step;
 use crate::text::Text;
 use std::alloc::Global;
@@ -129,10 +128,17 @@ fn expect_step<T: AllocGlobal + Threads + Wait + Sync>(
     let input = step.input.bytes(alloc)?;
     let printed = step.printed.bytes(alloc)?;
     let status = ExitCode::from(step.status);
-    let fake = Fake::new(rt, &words, &input)
-        .with_files(files, kept)
-        .taking(step.takes);
-    expect_program(fake, status, &printed, step.complained)?;
+    expect_fed(
+        rt,
+        &words,
+        &input,
+        files,
+        kept,
+        step.takes,
+        status,
+        &printed,
+        step.complained,
+    )?;
     for (name, text) in step.held {
         expect_text(alloc, kept, name, *text)?;
     }

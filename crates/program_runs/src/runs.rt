@@ -9,10 +9,8 @@ use std::sync::{Mutex, Wait};
 use std::test::Fail;
 use std::thread::Threads;
 
-/// The words of a run, with the stamp of all acknowledgements.
-const RUN: [&str; 10] = [
-    "purvilgo",
-    "run",
+/// The words of the stamp of all acknowledgements.
+const STAMP: [&str; 8] = [
     "--society",
     "000",
     "--name",
@@ -25,8 +23,19 @@ const RUN: [&str; 10] = [
 
 /// A run with these words behind the stamp's.
 pub fn run_with<'a>(alloc: Global, more: &[&'a str]) -> Result<Vec<&'a str>, Fail> {
+    stamped_words(alloc, "run", more)
+}
+
+/// A command with these words behind the stamp's.
+pub(crate) fn stamped_words<'a>(
+    alloc: Global,
+    command: &'a str,
+    more: &[&'a str],
+) -> Result<Vec<&'a str>, Fail> {
     let mut words = Vec::new(alloc);
-    for word in RUN {
+    words.push("purvilgo")?;
+    words.push(command)?;
+    for word in STAMP {
         words.push(word)?;
     }
     words.extend_from_slice(more)?;
@@ -45,6 +54,24 @@ pub fn expect<T: AllocGlobal + Threads + Wait + Sync>(
 ) -> Result<(), Fail> {
     let fake = Fake::new(rt, words, b"").with_files(files, kept);
     expect_program(fake, status, printed.as_bytes(), complained)
+}
+
+/// The same with this standard input, and a standard output that takes at most so many bytes.
+pub(crate) fn expect_fed<T: AllocGlobal + Threads + Wait + Sync>(
+    rt: &T,
+    words: &[&str],
+    input: &[u8],
+    files: &[(&str, FakeFile)],
+    kept: &[KeptFile],
+    takes: usize,
+    status: ExitCode,
+    printed: &[u8],
+    complained: &str,
+) -> Result<(), Fail> {
+    let fake = Fake::new(rt, words, input)
+        .with_files(files, kept)
+        .taking(takes);
+    expect_program(fake, status, printed, complained)
 }
 
 /// A file of this name that holds this text so far, and takes at most so many bytes.

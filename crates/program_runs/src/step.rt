@@ -1,6 +1,6 @@
 //! Commands, with what must become of them.
 
-use crate::runs::run_with;
+use crate::runs::stamped_words;
 use crate::text::Text;
 use std::alloc::Global;
 use std::test::Fail;
@@ -9,8 +9,8 @@ use std::test::Fail;
 #[derive(Clone, Copy)]
 pub struct Step<'a> {
     words: &'a [&'a str],
-    /// Whether the words stand behind those of a run with the stamp of all acknowledgements.
-    is_run: bool,
+    /// The command where the words stand behind it and the stamp of all acknowledgements.
+    command: Option<&'a str>,
     pub(crate) input: Text<'a>,
     /// How many bytes standard output takes.
     pub(crate) takes: usize,
@@ -26,7 +26,7 @@ impl<'a> Step<'a> {
     pub fn of(words: &'a [&'a str]) -> Step<'a> {
         Step {
             words,
-            is_run: false,
+            command: None,
             input: Text::Bytes(b""),
             takes: usize::MAX,
             status: 0,
@@ -38,8 +38,13 @@ impl<'a> Step<'a> {
 
     /// A run with these words behind the stamp's.
     pub fn run(more: &'a [&'a str]) -> Step<'a> {
+        Step::stamped("run", more)
+    }
+
+    /// A command with these words behind those of the stamp of all acknowledgements.
+    pub fn stamped(command: &'a str, more: &'a [&'a str]) -> Step<'a> {
         let mut step = Step::of(more);
-        step.is_run = true;
+        step.command = Some(command);
         step
     }
 
@@ -87,7 +92,7 @@ impl<'a> Step<'a> {
     pub fn leaves(self, held: &'a [(&'a str, Text<'a>)]) -> Step<'a> {
         let Step {
             words,
-            is_run,
+            command,
             input,
             takes,
             status,
@@ -97,7 +102,7 @@ impl<'a> Step<'a> {
         } = self;
         Step {
             words,
-            is_run,
+            command,
             input,
             takes,
             status,
@@ -109,8 +114,8 @@ impl<'a> Step<'a> {
 
     /// The whole command line.
     pub(crate) fn line(&self, alloc: Global) -> Result<Vec<&'a str>, Fail> {
-        if self.is_run {
-            return run_with(alloc, self.words);
+        if let Some(command) = self.command {
+            return stamped_words(alloc, command, self.words);
         }
         let mut line = Vec::new(alloc);
         line.push("purvilgo")?;

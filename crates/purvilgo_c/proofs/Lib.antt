@@ -1,2 +1,4 @@
 pub mod Answering
 pub mod Handles
+pub mod HandedOn
+pub mod AllPages

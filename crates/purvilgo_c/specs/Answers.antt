@@ -26,6 +26,12 @@ shut = 6
 abbrev pub already_open : ℕ
 already_open = 7
 
+abbrev pub no_rule : ℕ
+no_rule = 8
+
+abbrev pub unverified : ℕ
+unverified = 9
+
 -- the text lies at the front of the room, and what is behind it stays
 pub record IsPut (text before after : List ℕ) (status : ℕ) : Type 0 where
   pub is_done : status ≡ done

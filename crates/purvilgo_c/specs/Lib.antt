@@ -6,3 +6,7 @@ pub mod Registers
 pub mod RegistryValue
 pub mod Registries
 pub mod Ownership
+pub mod About
+pub mod Explained
+pub mod Tables
+pub mod Verified

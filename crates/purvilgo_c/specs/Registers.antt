@@ -1,6 +1,12 @@
 -- What is told of a register that is given as bytes.
-use Rattle.std.specs.Prelude.{◌≡◌, ℕ, ◌⊎◌, List}
+use Rattle.std.specs.Prelude.{◌≡◌, ℕ, ◌≤◌, ◌⊎◌, List, length, IsTrue}
+use Rattle.std.specs.List.{AllByRecursion}
+use Rattle.work_registry.specs.EntryValue.{EntryValue}
+use Rattle.work_registry.specs.History.{IsHistory}
+use Rattle.work_registry.specs.Numbers.{most_entries}
+use Rattle.work_registry.specs.Register.{register_text, IsWholeEntry}
 use Rattle.work_registry.specs.RegisterFaults.{IsLeastFault}
+use Rattle.work_registry.specs.Replay.{is_opening}
 use Rattle.purvilgo_c.specs.Answers.{done, no_memory, faulty}
 use Rattle.purvilgo_c.specs.declared.registers.RegisterFault.{RegisterFault}
 
@@ -10,3 +16,11 @@ IsFirstFault limit text fault = IsLeastFault limit text fault.line fault.number
 
 abbrev pub IsAuditStatus : ℕ → Type 0
 IsAuditStatus status = (status ≡ done) ⊎ ((status ≡ faulty) ⊎ (status ≡ no_memory))
+
+-- the text is the register of this history, which is one of a registry, all of the opening
+pub record IsRegisterOf (text : List ℕ) (history : List EntryValue) : Type 0 where
+  pub register : text ≡ register_text history
+  pub lawful : IsHistory history
+  pub opening : IsTrue (is_opening history)
+  pub whole : AllByRecursion IsWholeEntry history
+  pub few : length history ≤ most_entries

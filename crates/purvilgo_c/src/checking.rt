@@ -1,11 +1,13 @@
 ghost use Rattle.std.specs.Prelude.{◌≡◌, ◌≢◌, length};
 ghost use Rattle.std.specs.Str.Lines.{lines};
 ghost use Rattle.cwr_check.specs.CheckText.{IsCheck};
-ghost use Rattle.purvilgo_c.specs.Answers.{no_memory, IsTold};
+ghost use Rattle.cwr_remarks.specs.Checks.{IsRemarkedLong, IsRemarkedJson};
+ghost use Rattle.purvilgo_c.specs.Answers.{no_memory, IsGiven, IsTold};
 
 use crate::handing::hand_out;
 use crate::status::NO_MEMORY;
-use cwr_desk::check_text;
+use cwr_check::{Checked, check_text};
+use cwr_remarks::{remarked_json, remarked_long};
 use std::alloc::Global;
 
 /// Checks a file: the text of the check goes to the front of `out`, and `clean` tells whether the file has no fault.
@@ -24,10 +26,60 @@ pub extern "C" fn purvilgo_check(
     ensures same { result ≡ no_memory → (out.new ≡ out.old) × (length.new ≡ length.old) × (clean.new ≡ clean.old) }
 {
     match check_text(alloc, file) {
-        Ok(checked) => {
-            *clean = checked.clean;
-            hand_out(&checked.text, out, length)
-        }
+        Ok(checked) => tell_checked(&checked, out, length, clean),
         Err(_) => NO_MEMORY,
     }
+}
+
+/// Checks a file for a person: what is wrong, where, and what was expected, and then its remarks, at the front of `out`;
+/// `clean` tells whether the file has no fault.
+///
+/// `NO_ROOM` where the text does not fit: then `length` and `clean` are told, and `out` stays as it was. `NO_MEMORY`
+/// leaves all three as they were.
+#[unsafe(no_mangle)]
+pub extern "C" fn purvilgo_check_long(
+    alloc: Global,
+    file: &[u8],
+    out: &mut [u8],
+    length: &mut usize,
+    clean: &mut bool,
+) -> u32
+    ensures told { result ≢ no_memory → IsTold (λ text. IsRemarkedLong file.now text clean.new) out.old out.new length.new result }
+    ensures same { result ≡ no_memory → (out.new ≡ out.old) × (length.new ≡ length.old) × (clean.new ≡ clean.old) }
+{
+    match remarked_long(alloc, file) {
+        Ok(checked) => tell_checked(&checked, out, length, clean),
+        Err(_) => NO_MEMORY,
+    }
+}
+
+/// Checks a file for a program: its faults and remarks as one JSON object, on a line, at the front of `out`; `clean`
+/// tells whether the file has no fault.
+///
+/// `NO_ROOM` where the text does not fit: then `length` and `clean` are told, and `out` stays as it was. `NO_MEMORY`
+/// leaves all three as they were.
+#[unsafe(no_mangle)]
+pub extern "C" fn purvilgo_check_json(
+    alloc: Global,
+    file: &[u8],
+    out: &mut [u8],
+    length: &mut usize,
+    clean: &mut bool,
+) -> u32
+    ensures told { result ≢ no_memory → IsTold (λ text. IsRemarkedJson file.now text clean.new) out.old out.new length.new result }
+    ensures same { result ≡ no_memory → (out.new ≡ out.old) × (length.new ≡ length.old) × (clean.new ≡ clean.old) }
+{
+    match remarked_json(alloc, file) {
+        Ok(checked) => tell_checked(&checked, out, length, clean),
+        Err(_) => NO_MEMORY,
+    }
+}
+
+/// Hands out what was found in a file.
+fn tell_checked(checked: &Checked, out: &mut [u8], length: &mut usize, clean: &mut bool) -> u32
+    ensures clean { clean.new ≡ checked.now.clean }
+    ensures text { IsGiven checked.now.text.items out.old out.new length.new result }
+{
+    *clean = checked.clean;
+    hand_out(&checked.text, out, length)
 }

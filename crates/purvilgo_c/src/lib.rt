@@ -1,4 +1,4 @@
-//! Checks, acknowledgements, audits and a registry for C, and for all that calls C: bytes in, bytes out.
+//! Checks, acknowledgements, audits, tables and a registry for C, and for all that calls C: bytes in, bytes out.
 //!
 //! Each export calls the library below and states what that call does. `include/purvilgo.h` says to its callers what
 //! they have to keep. A call answers one of the [`status`] numbers, and writes its results through references. Where a
@@ -8,8 +8,10 @@
 //! contract sees as what is behind it. A call takes the registry out, does its work, and puts it back.
 #![tactic(auto)]
 
+mod about;
 mod bare;
 mod checking;
+mod explaining;
 mod handing;
 mod handle;
 mod laws;
@@ -21,4 +23,6 @@ mod registry;
 mod running;
 mod stamp;
 mod status;
+mod tables;
 mod telling;
+mod verifying;

@@ -7,7 +7,8 @@ use crate::handing::hand_out;
 use crate::outcome::{Outcome, numbers_of};
 use crate::stamp::{StampBytes, stamp_of};
 use crate::status::BAD_STAMP;
-use cwr_desk::{Feed, MOST_BYTES, Spool, acknowledge};
+use byte_streams::{Feed, Spool};
+use cwr_engine::{MOST_BYTES, acknowledge};
 use std::alloc::Global;
 
 /// Acknowledges one file into an empty registry: `outcome` tells what became of it, and its acknowledgement goes to the

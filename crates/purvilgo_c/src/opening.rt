@@ -8,8 +8,9 @@ use crate::handle::Handle;
 use crate::registers::{RegisterFault, tell_refusal};
 use crate::registry::Registry;
 use crate::status::{ALREADY_OPEN, DONE, NO_MEMORY};
-use cwr_desk::{Book, MOST_ENTRIES, read_register};
+use cwr_engine::MOST_ENTRIES;
 use std::alloc::Global;
+use work_registry::{Book, read_register};
 
 /// Opens an empty registry, of as many entries as a book may have, behind a handle that is shut.
 ///

@@ -7,7 +7,7 @@ ghost use Rattle.purvilgo_c.specs.Outcomes.{numbers_of, cause_of, sent_of};
 
 use crate::handing::hand_out;
 use crate::status::{NO_MEMORY, NO_OUTCOME};
-use cwr_desk::{FileOutcome, Why};
+use cwr_engine::{FileOutcome, Why};
 use std::alloc::Global;
 
 const ACKNOWLEDGED: u32 = 0;
@@ -166,7 +166,7 @@ pub extern "C" fn purvilgo_outcome_line(
     let Some(outcome) = outcome_of(outcome) else {
         return NO_OUTCOME;
     };
-    match cwr_desk::outcome_line(alloc, name, &outcome) {
+    match cwr_engine::outcome_line(alloc, name, &outcome) {
         Ok(line) => hand_out(&line, out, length),
         Err(_) => NO_MEMORY,
     }

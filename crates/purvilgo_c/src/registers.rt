@@ -6,8 +6,8 @@ ghost use Rattle.purvilgo_c.specs.Answers.{done, no_memory, faulty};
 ghost use Rattle.purvilgo_c.specs.Registers.{IsFirstFault, IsAuditStatus};
 
 use crate::status::{DONE, FAULTY, NO_MEMORY};
-use cwr_desk::{RegisterRefusal, audit};
 use std::alloc::Global;
+use work_registry::{RegisterRefusal, audit};
 
 /// Where a register is at fault.
 #[repr(C)]

@@ -4,10 +4,14 @@ ghost use Rattle.work_registry.specs.Register.{register_text};
 ghost use Rattle.purvilgo_c.specs.Registries.{IsReadable, IsRun};
 
 use crate::outcome::{Outcome, numbers_of};
-use cwr_desk::{Book, Feed, Job, MOST_BYTES, MOST_ENTRIES, Memory, Spool, Stamp, work_alone};
+use byte_streams::{Feed, Spool};
+use cwr_engine::{Job, MOST_BYTES, MOST_ENTRIES, work_alone};
+use cwr_field::Memory;
+use cwr_record::Stamp;
 use std::alloc::Global;
 use std::marker::Model;
 use std::mem;
+use work_registry::Book;
 
 /// What a handle holds: a book of as many entries as a book may have, and the acknowledgement of the last file.
 ///

@@ -1,7 +1,8 @@
 ghost use Rattle.std.specs.Prelude.{◌≡◌};
 ghost use Rattle.purvilgo_c.specs.Stamps.{stamp_in};
 
-use cwr_desk::{Stamp, cut, date, time};
+use cwr_field::{cut, date, time};
+use cwr_record::Stamp;
 
 /// Who acknowledges, and when, as bytes: a society's number, its name filled with blanks, and a date and a time as
 /// `YYYYMMDD` and `HHMMSS`.

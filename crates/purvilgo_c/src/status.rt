@@ -23,3 +23,9 @@ pub const SHUT: u32 = 6;
 
 /// The handle is open already: there is a registry behind it.
 pub const ALREADY_OPEN: u32 = 7;
+
+/// The word names no rule and no answer.
+pub const NO_RULE: u32 = 8;
+
+/// The files and the register do not fit; what does not is told.
+pub const UNVERIFIED: u32 = 9;

@@ -2,6 +2,8 @@
 #![tactic(auto)]
 
 #[cfg(test)]
+mod answered_files;
+#[cfg(test)]
 mod explained;
 #[cfg(test)]
 mod json_checks;
@@ -13,6 +15,8 @@ mod long_faults;
 mod remarks;
 #[cfg(test)]
 mod several_files;
+#[cfg(test)]
+mod told_forms;
 #[cfg(test)]
 mod told_tables;
 #[cfg(test)]

@@ -8,7 +8,7 @@ use std::test::Fail;
 use std::thread::Threads;
 
 /// Three transactions of two submitters on one work: an accepted one, a conflict, and a rejected one.
-const REGISTER: &[u8] = b"REG00000003\n\
+pub(crate) const REGISTER: &[u8] = b"REG00000003\n\
 ENT00000001PB000000123NWRSONG ONE                                                    W1            T0345246801000000006000000000006000000000006000AS0000000100000001000000000\n\
 ENT00000002PB000000456NWRSONG ONE                                                    W7            T0345246801000000005000000000005000000000005000CO0000000100000000000000000\n\
 ENT00000003PB000000456REVSONG ONE                                                    W7                       000000005000000000005000000000005000RJ00000000000000000000000010000000004REV\n";
@@ -52,33 +52,45 @@ fn joined(alloc: Global, lines: &[&str]) -> Result<String, Fail> {
     Ok(text)
 }
 
-/// What is told of the register with these words: these lines.
+/// What is told of the register with these words: these lines, and this on standard error.
 fn expect_table<T: AllocGlobal + Threads + Wait + Sync>(
     rt: &T,
     words: &[&str],
     lines: &[&str],
+    complained: &str,
 ) -> Result<(), Fail> {
     let wanted = joined(rt.alloc(), lines)?;
     let files = [("register", FakeFile::Holds(REGISTER))];
-    expect(rt, words, &files, &[], ExitCode::SUCCESS, &wanted, "")
+    expect(
+        rt,
+        words,
+        &files,
+        &[],
+        ExitCode::SUCCESS,
+        &wanted,
+        complained,
+    )
 }
 
 #[test]
 fn tells_tables(rt: HostRuntime) -> Result<(), Fail> {
-    let cases: [(&[&str], &[&str]); 15] = [
-        (&["purvilgo", "claims", "register"], &[CLAIMS, CLAIM]),
-        (&["purvilgo", "works", "register"], &[WORKS, WORK]),
+    let cases: [(&[&str], &[&str], &str); 15] = [
+        (&["purvilgo", "claims", "register"], &[CLAIMS, CLAIM], ""),
+        (&["purvilgo", "works", "register"], &[WORKS, WORK], ""),
         (
             &["purvilgo", "history", "register"],
             &[HISTORY, ACCEPTED, CONFLICT, REJECTED],
+            "",
         ),
         (
             &["purvilgo", "claims", "--work", "1", "register"],
             &[CLAIMS, CLAIM],
+            "",
         ),
         (
             &["purvilgo", "claims", "--work", "00000002", "register"],
             &[CLAIMS],
+            "no claim matches\n",
         ),
         (
             &[
@@ -91,19 +103,27 @@ fn tells_tables(rt: HostRuntime) -> Result<(), Fail> {
                 "register",
             ],
             &[CLAIMS, CLAIM],
+            "",
         ),
         (
             &["purvilgo", "claims", "--number", "W7", "register"],
             &[CLAIMS],
+            "no claim matches\n",
         ),
         (
             &["purvilgo", "works", "--work", "1", "register"],
             &[WORKS, WORK],
+            "",
         ),
-        (&["purvilgo", "works", "--work", "2", "register"], &[WORKS]),
+        (
+            &["purvilgo", "works", "--work", "2", "register"],
+            &[WORKS],
+            "no work matches\n",
+        ),
         (
             &["purvilgo", "history", "--status", "RJ", "register"],
             &[HISTORY, REJECTED],
+            "",
         ),
         (
             &[
@@ -114,25 +134,29 @@ fn tells_tables(rt: HostRuntime) -> Result<(), Fail> {
                 "register",
             ],
             &[HISTORY, CONFLICT, REJECTED],
+            "",
         ),
         (
             &["purvilgo", "history", "--work", "1", "register"],
             &[HISTORY, ACCEPTED, CONFLICT],
+            "",
         ),
         (
             &[
                 "purvilgo", "history", "--number", "W7", "--status", "CO", "register",
             ],
             &[HISTORY, CONFLICT],
+            "",
         ),
         (
             &["purvilgo", "history", "--status", "DU", "register"],
             &[HISTORY],
+            "no entry matches\n",
         ),
-        (&["purvilgo", "summary", "register"], &[SUMMARY]),
+        (&["purvilgo", "summary", "register"], &[SUMMARY], ""),
     ];
-    for (words, lines) in cases {
-        expect_table(&rt, words, lines)?;
+    for (words, lines, complained) in cases {
+        expect_table(&rt, words, lines, complained)?;
     }
     Ok(())
 }

@@ -190,7 +190,7 @@ struct ShortCheck {
 }
 
 impl Reading for ShortCheck {
-    type Made = Checked;
+    type Made = Result<Checked, ReadRefused>;
 
     fn read<S: Source>(self, reader: &mut S) -> Result<Checked, ReadRefused> {
         check_source(self.alloc, reader, MOST_BYTES, WINDOW)

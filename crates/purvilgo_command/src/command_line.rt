@@ -1,5 +1,6 @@
 //! The command line that the program takes.
 
+use crate::answered_file::ANSWER;
 use crate::arguments::{CommandWords, command_lines};
 use crate::checking::CHECK;
 use crate::explain::EXPLAIN;
@@ -12,28 +13,42 @@ use crate::version::{VERSION, VERSION_WORD};
 use clap::Command;
 use std::alloc::{AllocError, Global};
 
-/// One list of commands, in the order in which help tells them.
-const COMMANDS: [CommandWords; 10] = [
-    RUN,
-    CHECK,
-    EXPLAIN,
-    AUDIT,
-    CLAIMS,
-    WORKS,
-    HISTORY,
-    SUMMARY,
-    VERIFY,
-    VERSION_WORD,
-];
+// The commands, in the order in which help tells them. They are three lists, each with a function of its own: the words of all
+// of them in one function are more than a proof of it takes.
+
+/// What is done with files, and what the rules ask of them.
+const FILE_COMMANDS: [CommandWords; 3] = [RUN, CHECK, EXPLAIN];
+
+/// What is told of a register.
+const REGISTER_COMMANDS: [CommandWords; 5] = [AUDIT, CLAIMS, WORKS, HISTORY, SUMMARY];
+
+/// What is told of both together, and of the program.
+const OTHER_COMMANDS: [CommandWords; 3] = [VERIFY, ANSWER, VERSION_WORD];
 
 /// The program's name, what it does without words, and its commands.
 pub(crate) fn command_line<'a>(alloc: Global) -> Result<Command<'a>, AllocError> {
-    let commands = command_lines(alloc, &COMMANDS)?;
+    let files = file_commands(alloc)?;
+    let registers = register_commands(alloc)?;
+    let others = other_commands(alloc)?;
     Command::new(alloc, "purvilgo")
         .version(VERSION)
         .about(
             "Keeps a copyright society's registry of musical works; without a command it acknowledges a CWR 2.2 file from standard input to standard output",
         )
         .after_long_help(PROGRAM_HELP)
-        .subcommands(commands)
+        .subcommands(files)?
+        .subcommands(registers)?
+        .subcommands(others)
+}
+
+fn file_commands<'a>(alloc: Global) -> Result<Vec<Command<'a>>, AllocError> {
+    command_lines(alloc, &FILE_COMMANDS)
+}
+
+fn register_commands<'a>(alloc: Global) -> Result<Vec<Command<'a>>, AllocError> {
+    command_lines(alloc, &REGISTER_COMMANDS)
+}
+
+fn other_commands<'a>(alloc: Global) -> Result<Vec<Command<'a>>, AllocError> {
+    command_lines(alloc, &OTHER_COMMANDS)
 }

@@ -3,9 +3,10 @@
 use clap::ArgMatches;
 
 /// The words that name files, each with what is told of one that is empty.
-const NAMES: [(&str, &str); 4] = [
+const NAMES: [(&str, &str); 5] = [
     ("from", "bad --from"),
     ("to", "bad --to"),
+    ("ack", "bad --ack"),
     ("REGISTER", "bad REGISTER"),
     ("FILE", "bad FILE"),
 ];

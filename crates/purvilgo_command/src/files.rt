@@ -14,11 +14,11 @@ const STANDARD_INPUT: &str = "-";
 
 /// What is done with a file, or with standard input, as it is read.
 pub(crate) trait Reading {
-    /// What comes of it.
+    /// What comes of it, or why nothing does.
     type Made;
 
     /// Reads the file from its source.
-    fn read<S: Source>(self, reader: &mut S) -> Result<Self::Made, ReadRefused>
+    fn read<S: Source>(self, reader: &mut S) -> Self::Made
         requires { S.has_failed reader.old ≡ false };
 }
 
@@ -28,7 +28,7 @@ pub(crate) fn read_named<R: AllocGlobal + Input + Eprint + Files, T: Reading>(
     name: &str,
     verbose: bool,
     reading: T,
-) -> Result<T::Made, ReadRefused> {
+) -> T::Made {
     if name == STANDARD_INPUT {
         let reader = StandardInput {
             rt,
@@ -63,7 +63,7 @@ struct Whole {
 }
 
 impl Reading for Whole {
-    type Made = Vec<u8>;
+    type Made = Result<Vec<u8>, ReadRefused>;
 
     fn read<S: Source>(self, reader: &mut S) -> Result<Vec<u8>, ReadRefused> {
         read_file(self.alloc, reader, self.limit)

@@ -16,6 +16,7 @@ In order, the same files give the same bytes each time; else they are decided at
 turn it takes less memory, and is mostly slower. With --no-clobber nothing is read or
 written where such a file is there already. Without --from the history begins empty: a
 register of --to then takes the place of one that is there, with nothing of it inside.
+Without --to the decisions are kept nowhere, and no acknowledgement may be sent.
 
 Reads: 1 to 63 files, and the register of --from.
 Writes: FILE.ack of each file that is acknowledged, the register of --to, and on standard
@@ -52,7 +53,8 @@ Example:
 /// Of `audit`.
 pub(crate) const AUDIT_HELP: &str = "\
 Reads: REGISTER, or standard input where REGISTER is -.
-Writes: on standard output the number of entries, or the first fault.
+Writes: on standard output the number of entries, or the first fault; with --json one
+object, with entries and fault, of which one is null.
 Status: 0 no fault; 2 the words are not taken, or help; 1 else.
 
 Example:
@@ -78,6 +80,10 @@ entries; or the register's first fault.
 Columns: submitter, number, work, version, title, iswc, performing, mechanical,
 synchronization. The last three are control in hundredths of one per cent. Texts stand as
 the register has them, blanks included.
+Plain: texts without the blanks behind them, and with an apostrophe before what would be
+taken for a formula; control in per cent, as 50.07, in columns named performing_control and
+the like.
+Where no claim matches --work, --submitter and --number, standard error says so.
 Status: 0 told; 2 the words are not taken, or help; 1 else.
 
 Example:
@@ -90,7 +96,9 @@ Writes: on standard output a header line, and a line for each work, by number; o
 register's first fault.
 Columns: work, iswc, performing, mechanical, synchronization, claims. Control is what all
 claims on the work have together, in hundredths of one per cent; claims is how many
-current ones there are.
+current ones there are. With --plain control is in per cent, as 50.07, in columns named
+performing_control and the like.
+Where no work matches --work, standard error says so.
 Status: 0 told; 2 the words are not taken, or help; 1 else.
 
 Example:
@@ -103,7 +111,14 @@ Writes: on standard output a header line, and a line for each entry, in order; o
 register's first fault.
 Columns: entry, submitter, kind, number, title, iswc, performing, mechanical,
 synchronization, status, work, version, faults. A fault is a record sequence, a colon and
-a rule, as 4:J8.
+a rule, as 4:J8. Control is in hundredths of one per cent; texts stand as the register has
+them, blanks included.
+Plain: texts without the blanks behind them, and with an apostrophe before what would be
+taken for a formula; control in per cent, as 50.07, in columns named performing_control and
+the like.
+JSON: an object a line, without a header, and the first fault as that of audit --json.
+--plain and --json are not taken together.
+Where no entry matches the options, standard error says so.
 Status: 0 told; 2 the words are not taken, or help; 1 else.
 
 Example:
@@ -119,6 +134,7 @@ Left: what the claims on a work leave of 100 per cent: none, up to 25, up to 50,
 that, and all.
 Conflicts: the most first, and of as many the lower number of the work first. A work
 without any is not told.
+JSON: the same as one object, and the first fault as that of audit --json.
 Status: 0 told; 2 the words are not taken, or help; 1 else.
 
 Example:
@@ -126,12 +142,31 @@ Example:
 
 /// Of `verify`.
 pub(crate) const VERIFY_HELP: &str = "\
-Reads: REGISTER, or standard input where REGISTER is -; each FILE, and FILE.ack beside it.
-Give the files in the order in which they were run.
+Reads: REGISTER, or standard input where REGISTER is -; each FILE, and FILE.ack beside it,
+or for one FILE the ACK of --ack, as a draft. Give the files in the order in which they
+were run.
 Writes: on standard output how many transactions of how many files are verified; or the
 register's first fault, or the first FILE that does not fit, with the group and the
-transaction, or the line of FILE.ack.
+transaction, or the line of its acknowledgement.
 Status: 0 verified; 2 the words are not taken, or help; 1 else.
 
 Example:
   purvilgo verify 0042.register in/a.v22 in/b.v22";
+
+/// Of `answer`.
+pub(crate) const ANSWER_HELP: &str = "\
+The entries are looked for by the calls of the file's transactions: one with the first
+call, the first one behind it with the second, and so on. Without --entry they begin at the
+last place from which there are some, in whatever file these transactions came: give the
+register of the run that took the file. In a later one the transactions may have come again,
+and then --entry N names the first entry of the file, as history counts them.
+
+Reads: REGISTER, or standard input where REGISTER is -; FILE.
+Writes: on standard output the acknowledgement, byte for byte what the run wrote that made
+these entries with this society, name, date and time; on standard error why there is none,
+as the first transaction that no entry answers.
+Status: 0 acknowledged; 2 the words are not taken, or help; 1 else.
+
+Example:
+  purvilgo answer --society 007 --name 'MY SOCIETY' --date 20240601 --time 090000 \\
+    0042.register in/a.v22 > again.ack";

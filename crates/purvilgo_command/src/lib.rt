@@ -2,6 +2,7 @@
 //! exit status. What it does with their bytes stands in the libraries below.
 #![tactic(auto)]
 
+mod answered_file;
 mod arguments;
 mod checking;
 mod command_line;
@@ -24,6 +25,7 @@ mod targets;
 mod telling;
 mod verified_files;
 mod version;
+mod wanted_rows;
 
 pub use program::run_program;
 pub use registers::MOST_REGISTER_BYTES;

@@ -1,3 +1,4 @@
+use crate::answered_file::answer_file;
 use crate::checking::check_files;
 use crate::command_line::command_line;
 use crate::explain::explain_rules;
@@ -25,21 +26,23 @@ use std::{io, str};
 /// Runs the program on its words, and answers its exit status.
 ///
 /// Without words it acknowledges standard input to standard output. `run` acknowledges files at one book, which may
-/// come from a register and go to one. `check FILE` tells on standard output which rules a file breaks, with `--long` or
-/// `--json` also where and why, and what is to be remarked of its lines; and `audit REGISTER` tells there how many entries
-/// a register has, or its first fault.
-/// `explain` tells there what rules ask, `claims`, `works` and `history` tell a register as a table in CSV, and
-/// `summary` tells how much of what is in it. `verify REGISTER FILE..` checks it against files and their acknowledgements.
+/// come from a register and go to one. `check FILE..` tells on standard output which rules each file breaks, with `--long`
+/// or `--json` also where and why, and what is to be remarked of it, with `--quiet` the faults alone; and `audit REGISTER`
+/// tells there how many entries a register has, or its first fault.
+/// `explain` tells there what rules ask and what answers mean, `claims`, `works` and `history` tell a register as a table in
+/// CSV, `--plain` one for spreadsheets, and `summary` tells how much of what is in it; `audit`, `history` and `summary` tell
+/// it with `--json` as objects of JSON. `verify REGISTER FILE..` checks it against files and their acknowledgements, and
+/// `answer REGISTER FILE` makes the acknowledgement of a file again from it, on standard output.
 /// `version`, `--version` and `-V` tell there the program's version.
 ///
 /// The status is 0 without words where the input is acknowledged; of `run` where all files are, each outcome is told,
 /// and the register that is asked for is kept; of `check` and `audit` where there is no fault, and that is told; of
 /// `explain` and `version` where it is told; of a table or a summary where the register has no fault, and all of it
-/// is told; of `verify` where the register has none, and each file is answered as its acknowledgement tells. It is 2
-/// where the words are not taken: one of them is not text, `clap` answers with a text of its own, help is asked for, a
-/// word of `explain` names no page, one that is to name a file is empty, the value of an option cannot be, or those of
-/// `run` have a [`RunFault`](run_words::RunFault) or name one file of the system twice. Else it is 1, also where memory is
-/// refused for the words.
+/// is told; of `verify` where the register has none, and each file is answered as its acknowledgement tells; of `answer`
+/// where the acknowledgement is written. It is 2 where the words are not taken: one of them is not text, `clap` answers
+/// with a text of its own, help is asked for, a word of `explain` names no page, one that is to name a file is empty, the
+/// value of an option cannot be, those of `run` or `answer` have a [`RunFault`](run_words::RunFault), or those of `run`
+/// name one file of the system twice. Else it is 1, also where memory is refused for the words.
 pub fn run_program<R: Env + AllocGlobal + Input + Print + Eprint + Files + Threads + Wait + Sync>(
     rt: &R,
 ) -> ExitCode
@@ -116,12 +119,13 @@ fn tell_register<R: AllocGlobal + Input + Print + Eprint + Files>(
     given: &ArgMatches,
 ) -> ExitCode {
     match name {
-        "audit" => audit_file(rt, path, given.get_flag("verbose")),
+        "audit" => audit_file(rt, path, given),
         "claims" => tell_table(rt, Table::Claims, path, given),
         "works" => tell_table(rt, Table::Works, path, given),
         "history" => tell_table(rt, Table::History, path, given),
         "summary" => tell_summary(rt, path, given),
         "verify" => verify_files(rt, path, given),
+        "answer" => answer_file(rt, path, given),
         _ => bad_words(rt, "the command line is not taken"),
     }
 }

@@ -7,12 +7,15 @@ ghost use Rattle.work_registry.specs.Replay.{is_opening};
 use crate::arguments::{Argument, CommandWords};
 use crate::files::{InputFile, Reading, read_named};
 use crate::help::AUDIT_HELP;
-use crate::printing::StandardOutput;
+use crate::printing::{StandardOutput, is_printed};
+use crate::status::no_memory;
 use crate::telling::tell_reason;
-use byte_streams::{ReadRefused, Source};
+use byte_streams::Source;
+use clap::ArgMatches;
 use kept_file::{CallFailed, Exclusive, FileNames, lock, takes_draft};
 pub use kept_register::MOST_REGISTER_BYTES;
 use kept_register::{NoBook, REGISTER_WINDOW, audit_source, new_book, read_book};
+use register_tables::{Audited, audit_json};
 use std::alloc::Global;
 use std::fs::File;
 use std::io::Write;
@@ -20,16 +23,23 @@ use std::process::ExitCode;
 use std::rt::Files;
 use work_registry::{Book, RegisterRefusal};
 
-/// `audit [--verbose] REGISTER`.
+/// `audit [--json] [--verbose] REGISTER`.
 pub(crate) const AUDIT: CommandWords = CommandWords {
     name: "audit",
     about: "Decides on every entry of a register anew, and compares",
     arguments: &[
-        Argument::Word("REGISTER", "a register, or - for standard input"),
+        REGISTER,
+        Argument::Flag("json", "tell the same as one JSON object, on one line"),
         Argument::Verbose,
     ],
     more: AUDIT_HELP,
 };
+
+/// The register that a command tells of.
+pub(crate) const REGISTER: Argument = Argument::Word(
+    "REGISTER",
+    "a register, or - for standard input",
+);
 
 /// The book that a run begins with: an empty one, or that of a register. A refused register is told on standard error.
 pub(crate) fn opening_book<R: AllocGlobal + Eprint + Files>(
@@ -117,57 +127,105 @@ fn tell_unlocked<R: AllocGlobal + Eprint + Files>(rt: &R, name: &str) {
 pub(crate) fn audit_file<R: AllocGlobal + Input + Print + Eprint + Files>(
     rt: &R,
     path: &str,
-    verbose: bool,
+    given: &ArgMatches,
 ) -> ExitCode {
-    match read_named(rt, path, verbose, Audit { alloc: rt.alloc() }) {
-        Ok(audited) => tell_audited(rt, audited),
-        Err(unread) => {
-            let _ = eprintln!(rt; "stopped: {unread}");
+    let as_json = given.get_flag("json");
+    let audit = Audit { alloc: rt.alloc() };
+    match read_named(rt, path, given.get_flag("verbose"), audit) {
+        Ok(entries) => tell_entries(rt, entries, as_json),
+        Err(why) => tell_no_book(rt, why, as_json),
+    }
+}
+
+/// Tells how many entries a register has. The status is that of a register without a fault only where that was told.
+fn tell_entries<R: AllocGlobal + Print + Eprint>(rt: &R, entries: u64, as_json: bool) -> ExitCode {
+    if as_json {
+        return print_audited(rt, Audited::Entries(entries), ExitCode::SUCCESS);
+    }
+    match write!(StandardOutput::of(rt), "{entries} entries\n") {
+        Ok(()) => ExitCode::SUCCESS,
+        Err(_) => ExitCode::FAILURE,
+    }
+}
+
+/// The book of a register, which is that of standard input for `-`. Why there is none is told as an audit tells it.
+pub(crate) fn audited_book<R: AllocGlobal + Input + Print + Eprint + Files>(
+    rt: &R,
+    path: &str,
+    verbose: bool,
+    as_json: bool,
+) -> Result<Book, ExitCode> {
+    match named_book(rt, path, verbose) {
+        Ok(book) => Ok(book),
+        Err(why) => Err(tell_no_book(rt, why, as_json)),
+    }
+}
+
+/// The book of a register, which is that of standard input for `-`.
+pub(crate) fn named_book<R: AllocGlobal + Input + Eprint + Files>(
+    rt: &R,
+    path: &str,
+    verbose: bool,
+) -> Result<Book, NoBook> {
+    read_named(rt, path, verbose, Opening { alloc: rt.alloc() })
+}
+
+/// Tells why a register has no book: on standard output its first fault, as JSON where that is asked for, and on standard
+/// error all else.
+fn tell_no_book<R: AllocGlobal + Print + Eprint>(rt: &R, why: NoBook, as_json: bool) -> ExitCode {
+    match why {
+        NoBook::Memory | NoBook::Refused(RegisterRefusal::Memory) => no_memory(rt),
+        NoBook::Refused(RegisterRefusal::Fault { number, line }) if as_json => {
+            print_audited(rt, Audited::Fault { number, line }, ExitCode::FAILURE)
+        }
+        NoBook::Refused(refusal) => {
+            let _ = write!(StandardOutput::of(rt), "{refusal}\n");
+            ExitCode::FAILURE
+        }
+        NoBook::Read | NoBook::TooLong => {
+            let _ = eprintln!(rt; "{why}");
             ExitCode::FAILURE
         }
     }
 }
 
-/// Tells what an audit found. The status is that of a register without a fault only where that was told.
-fn tell_audited<R: Print + Eprint>(rt: &R, audited: Audited) -> ExitCode {
-    let mut out = StandardOutput::of(rt);
-    match audited {
-        Audited::Entries(entries) => match write!(out, "{entries} entries\n") {
-            Ok(()) => ExitCode::SUCCESS,
-            Err(_) => ExitCode::FAILURE,
-        },
-        Audited::Refused(refusal) => {
-            let _ = write!(out, "{refusal}\n");
-            ExitCode::FAILURE
-        }
+/// Prints what an audit found as an object of JSON, and answers this status where that was told.
+fn print_audited<R: AllocGlobal + Print + Eprint>(
+    rt: &R,
+    audited: Audited,
+    status: ExitCode,
+) -> ExitCode {
+    match audit_json(rt.alloc(), audited) {
+        Ok(text) if is_printed(rt, &text) => status,
+        Ok(_) => ExitCode::FAILURE,
+        Err(_) => no_memory(rt),
     }
 }
 
-/// What an audit found.
-#[derive(Clone, Copy)]
-enum Audited {
-    /// So many entries, of one registry.
-    Entries(u64),
-    /// No register: its first fault.
-    Refused(RegisterRefusal),
-}
-
-/// A register is audited as it is read.
+/// A register is audited as it is read, and how many entries it has is kept.
 #[derive(Clone, Copy)]
 struct Audit {
     alloc: Global,
 }
 
 impl Reading for Audit {
-    type Made = Audited;
+    type Made = Result<u64, NoBook>;
 
-    fn read<S: Source>(self, reader: &mut S) -> Result<Audited, ReadRefused> {
-        match audit_source(self.alloc, reader, MOST_REGISTER_BYTES, REGISTER_WINDOW) {
-            Ok(entries) => Ok(Audited::Entries(entries)),
-            Err(NoBook::Refused(refusal)) => Ok(Audited::Refused(refusal)),
-            Err(NoBook::Memory) => Err(ReadRefused::Memory),
-            Err(NoBook::Read) => Err(ReadRefused::Read),
-            Err(NoBook::TooLong) => Err(ReadRefused::TooLong),
-        }
+    fn read<S: Source>(self, reader: &mut S) -> Result<u64, NoBook> {
+        audit_source(self.alloc, reader, MOST_REGISTER_BYTES, REGISTER_WINDOW)
+    }
+}
+
+/// A register's book is kept, and not its text.
+#[derive(Clone, Copy)]
+struct Opening {
+    alloc: Global,
+}
+
+impl Reading for Opening {
+    type Made = Result<Book, NoBook>;
+
+    fn read<S: Source>(self, reader: &mut S) -> Result<Book, NoBook> {
+        read_book(self.alloc, reader)
     }
 }

@@ -1,7 +1,7 @@
 //! The words of a run.
 
-ghost use Rattle.std.specs.Prelude.{◌≡◌, ◌<◌, None, map, option_map, length, IfOk};
-ghost use Rattle.run_words.specs.RunFault.{words_fault, run_stamp};
+ghost use Rattle.std.specs.Prelude.{◌≡◌, ◌<◌, [], None, map, option_map, length, IfOk};
+ghost use Rattle.run_words.specs.RunFault.{run_fault, words_fault, run_stamp};
 
 use crate::arguments::{Argument, CommandWords};
 use crate::file_names::empty_name;
@@ -10,7 +10,7 @@ use crate::status::bad_words;
 use clap::ArgMatches;
 use cwr_field::{cut, date, digits, time};
 use cwr_record::Stamp;
-use run_words::{RunFault, words_fault};
+use run_words::{RunFault, run_fault, words_fault};
 use std::process::ExitCode;
 
 /// `run --society NNN --name TEXT --date YYYYMMDD --time HHMMSS [--from REGISTER] [--to REGISTER]
@@ -19,14 +19,10 @@ pub(crate) const RUN: CommandWords = CommandWords {
     name: "run",
     about: "Acknowledges CWR 2.2 files into one history, the acknowledgement of FILE in FILE.ack",
     arguments: &[
-        Argument::NeededValue(
-            "society",
-            "NNN",
-            "number of the society that acknowledges, three digits",
-        ),
-        Argument::NeededValue("name", "TEXT", "its name, 1 to 45 bytes"),
-        Argument::NeededValue("date", "YYYYMMDD", "date of the run"),
-        Argument::NeededValue("time", "HHMMSS", "time of the run"),
+        SOCIETY,
+        NAME,
+        DATE,
+        TIME,
         Argument::Value(
             "from",
             "REGISTER",
@@ -56,9 +52,23 @@ pub(crate) const RUN: CommandWords = CommandWords {
     more: RUN_HELP,
 };
 
-/// The words of the stamp of all acknowledgements, as they were given.
-#[derive(Clone, Copy)]
-struct StampWords<'a> {
+// The options that name the stamp of acknowledgements.
+
+pub(crate) const SOCIETY: Argument = Argument::NeededValue(
+    "society",
+    "NNN",
+    "number of the society that acknowledges, three digits",
+);
+
+pub(crate) const NAME: Argument = Argument::NeededValue("name", "TEXT", "its name, 1 to 45 bytes");
+
+pub(crate) const DATE: Argument = Argument::NeededValue("date", "YYYYMMDD", "date of the run");
+
+pub(crate) const TIME: Argument = Argument::NeededValue("time", "HHMMSS", "time of the run");
+
+/// The words of the stamp of acknowledgements, as they were given.
+#[derive(Clone, Copy, Debug)]
+pub(crate) struct StampWords<'a> {
     society: &'a str,
     name: &'a str,
     date: &'a str,
@@ -66,13 +76,31 @@ struct StampWords<'a> {
 }
 
 impl<'a> StampWords<'a> {
-    fn given(matches: &ArgMatches<'a>) -> Option<StampWords<'a>> {
+    /// Those that a command line was given which has to have them.
+    pub(crate) fn given(matches: &ArgMatches<'a>) -> Option<StampWords<'a>> {
         Some(StampWords {
             society: matches.get_str("society")?,
             name: matches.get_str("name")?,
             date: matches.get_str("date")?,
             time: matches.get_str("time")?,
         })
+    }
+
+    /// What is wrong with them, if anything is.
+    pub(crate) fn fault(&self) -> Option<RunFault>
+        ensures { result ≡ run_fault self.now.society.now self.now.name.now self.now.date.now self.now.time.now [] }
+    {
+        run_fault(self.society, self.name, self.date, self.time, &[])
+    }
+
+    /// The stamp that they name. There is one where nothing is wrong with them.
+    pub(crate) fn stamp(&self) -> Option<Stamp>
+        ensures { result ≡ run_stamp self.now.society.now self.now.name.now self.now.date.now self.now.time.now }
+    {
+        let society = digits(cut(self.society.as_bytes(), 1, 3))?;
+        let day = date(cut(self.date.as_bytes(), 1, 8))?;
+        let clock = time(cut(self.time.as_bytes(), 1, 6))?;
+        Stamp::new(society as u16, self.name.as_bytes(), day, clock)
     }
 }
 
@@ -103,14 +131,8 @@ impl Way {
 /// The words of a run, as they were given.
 #[derive(Debug, Drop)]
 pub(crate) struct RunWords<'m, 'a> {
-    /// The number of the society that acknowledges.
-    pub(crate) society: &'a str,
-    /// Its name.
-    pub(crate) name: &'a str,
-    /// The date of the acknowledgements.
-    pub(crate) date: &'a str,
-    /// The time of the acknowledgements.
-    pub(crate) time: &'a str,
+    /// The stamp of the acknowledgements.
+    who: StampWords<'a>,
     /// The register of the book that the run begins with, where it is not an empty one.
     pub(crate) from: Option<&'a str>,
     /// The file that gets the register of the book after the run, if any does.
@@ -128,17 +150,8 @@ pub(crate) struct RunWords<'m, 'a> {
 impl<'m, 'a> RunWords<'m, 'a> {
     /// The words that a command line of [`RUN`] was given.
     fn given(matches: &'m ArgMatches<'a>) -> Option<RunWords<'m, 'a>> {
-        let StampWords {
-            society,
-            name,
-            date,
-            time,
-        } = StampWords::given(matches)?;
         Some(RunWords {
-            society,
-            name,
-            date,
-            time,
+            who: StampWords::given(matches)?,
             from: matches.get_str("from"),
             to: matches.get_str("to"),
             way: Way::given(matches),
@@ -150,29 +163,24 @@ impl<'m, 'a> RunWords<'m, 'a> {
 
     /// What is wrong with them, if anything is.
     pub(crate) fn fault(&self) -> Option<RunFault>
-        ensures { result ≡ words_fault self.now.society.now self.now.name.now self.now.date.now self.now.time.now
+        ensures { result ≡ words_fault self.now.who.society.now self.now.who.name.now self.now.who.date.now self.now.who.time.now
             (map (λ file. file.now) self.now.files.now)
             (option_map (λ word. word.now) self.now.from) (option_map (λ word. word.now) self.now.to) }
     {
-        words_fault(
-            self.society,
-            self.name,
-            self.date,
-            self.time,
-            self.files,
-            self.from,
-            self.to,
-        )
+        let StampWords {
+            society,
+            name,
+            date,
+            time,
+        } = self.who;
+        words_fault(society, name, date, time, self.files, self.from, self.to)
     }
 
     /// The stamp of the acknowledgements. There is one where nothing is wrong with the words.
     pub(crate) fn stamp(&self) -> Option<Stamp>
-        ensures { result ≡ run_stamp self.now.society.now self.now.name.now self.now.date.now self.now.time.now }
+        ensures { result ≡ run_stamp self.now.who.society.now self.now.who.name.now self.now.who.date.now self.now.who.time.now }
     {
-        let society = digits(cut(self.society.as_bytes(), 1, 3))?;
-        let day = date(cut(self.date.as_bytes(), 1, 8))?;
-        let clock = time(cut(self.time.as_bytes(), 1, 6))?;
-        Stamp::new(society as u16, self.name.as_bytes(), day, clock)
+        self.who.stamp()
     }
 }
 

@@ -1,19 +1,19 @@
 //! A register as tables, and its summary.
 
 use crate::arguments::{Argument, CommandWords};
-use crate::files::bytes_of;
 use crate::help::{CLAIMS_HELP, HISTORY_HELP, SUMMARY_HELP, WORKS_HELP};
 use crate::printing::StandardOutput;
-use crate::registers::MOST_REGISTER_BYTES;
+use crate::registers::{REGISTER, audited_book};
 use crate::status::{bad_words, no_memory};
+use crate::wanted_rows::wanted_in;
 use clap::ArgMatches;
-use cwr_desk::MOST_ENTRIES;
-use cwr_field::{cut, digits, filled};
-use register_tables::{Unwritten, Wanted, claims_text, history_text, summary_text, works_text};
-use std::io::Write;
+use register_tables::{
+    Form, Told, Unwritten, Wanted, claims_table, history_json, history_table, summary_json,
+    summary_text, works_table,
+};
 use std::process::ExitCode;
 use std::rt::Files;
-use work_registry::{Book, RegisterRefusal, Status, read_register};
+use work_registry::Book;
 
 /// A table of a register.
 #[derive(Clone, Copy)]
@@ -26,23 +26,23 @@ pub(crate) enum Table {
     History,
 }
 
-/// `claims [--work N] [--submitter S] [--number W] [--verbose] REGISTER`.
+/// `claims [--work N] [--submitter S] [--number W] [--plain] [--verbose] REGISTER`.
 pub(crate) const CLAIMS: CommandWords = CommandWords {
     name: "claims",
     about: "Tells the current claims of a register, in CSV",
-    arguments: &[REGISTER, WORK, SUBMITTER, NUMBER, Argument::Verbose],
+    arguments: &[REGISTER, WORK, SUBMITTER, NUMBER, PLAIN, Argument::Verbose],
     more: CLAIMS_HELP,
 };
 
-/// `works [--work N] [--verbose] REGISTER`.
+/// `works [--work N] [--plain] [--verbose] REGISTER`.
 pub(crate) const WORKS: CommandWords = CommandWords {
     name: "works",
     about: "Tells the works of a register, in CSV",
-    arguments: &[REGISTER, WORK, Argument::Verbose],
+    arguments: &[REGISTER, WORK, PLAIN, Argument::Verbose],
     more: WORKS_HELP,
 };
 
-/// `history [--work N] [--submitter S] [--number W] [--status AS|DU|CO|RJ] [--verbose] REGISTER`.
+/// `history [--work N] [--submitter S] [--number W] [--status AS|DU|CO|RJ] [--plain | --json] [--verbose] REGISTER`.
 pub(crate) const HISTORY: CommandWords = CommandWords {
     name: "history",
     about: "Tells every entry of a register, in CSV",
@@ -52,20 +52,28 @@ pub(crate) const HISTORY: CommandWords = CommandWords {
         SUBMITTER,
         NUMBER,
         Argument::Value("status", "AS|DU|CO|RJ", "those with this status alone"),
+        PLAIN,
+        Argument::FlagAgainst(
+            "json",
+            "plain",
+            "tell each entry as a JSON object, on a line of its own",
+        ),
         Argument::Verbose,
     ],
     more: HISTORY_HELP,
 };
 
-/// `summary [--verbose] REGISTER`.
+/// `summary [--json] [--verbose] REGISTER`.
 pub(crate) const SUMMARY: CommandWords = CommandWords {
     name: "summary",
     about: "Tells how much of what is in a register, as a page to read",
-    arguments: &[REGISTER, Argument::Verbose],
+    arguments: &[
+        REGISTER,
+        Argument::Flag("json", "tell the same as one JSON object, on one line"),
+        Argument::Verbose,
+    ],
     more: SUMMARY_HELP,
 };
-
-const REGISTER: Argument = Argument::Word("REGISTER", "a register, or - for standard input");
 
 const WORK: Argument = Argument::Value(
     "work",
@@ -85,13 +93,29 @@ const NUMBER: Argument = Argument::Value(
     "those of this submitter work number alone, as W1",
 );
 
+const PLAIN: Argument = Argument::Flag(
+    "plain",
+    "for spreadsheets: no blanks behind texts, shares in per cent, no formulas",
+);
+
 /// What is told of a register.
 #[derive(Clone, Copy)]
-enum Told {
-    /// What is wanted of a table.
-    Rows(Table, Wanted),
+enum Wish {
+    /// What is wanted of a table, in this form.
+    Rows(Table, Form, Wanted),
+    /// The entries that are wanted, as objects of JSON.
+    Objects(Wanted),
     /// A summary.
     Summary,
+    /// A summary as an object of JSON.
+    SummaryObject,
+}
+
+impl Wish {
+    /// Whether it is told as JSON.
+    fn is_json(&self) -> bool {
+        matches!(self, Wish::Objects(_) | Wish::SummaryObject)
+    }
 }
 
 /// Tells a table of a register on standard output, or the register's first fault. The register is that of standard input
@@ -104,10 +128,19 @@ pub(crate) fn tell_table<R: AllocGlobal + Input + Print + Eprint + Files>(
 ) -> ExitCode {
     match wanted_in(given) {
         Ok(wanted) => {
-            let told = Told::Rows(table, wanted);
-            tell_register(rt, path, given.get_flag("verbose"), told)
+            let wish = wish_of(table, wanted, given);
+            tell_register(rt, path, given.get_flag("verbose"), wish)
         }
         Err(text) => bad_words(rt, text),
+    }
+}
+
+/// What is told of the rows of a table that are wanted. The history alone is told as JSON.
+fn wish_of(table: Table, wanted: Wanted, given: &ArgMatches) -> Wish {
+    match table {
+        Table::History if given.get_flag("json") => Wish::Objects(wanted),
+        _ if given.get_flag("plain") => Wish::Rows(table, Form::Plain, wanted),
+        _ => Wish::Rows(table, Form::Exact, wanted),
     }
 }
 
@@ -118,7 +151,12 @@ pub(crate) fn tell_summary<R: AllocGlobal + Input + Print + Eprint + Files>(
     path: &str,
     given: &ArgMatches,
 ) -> ExitCode {
-    tell_register(rt, path, given.get_flag("verbose"), Told::Summary)
+    let wish = if given.get_flag("json") {
+        Wish::SummaryObject
+    } else {
+        Wish::Summary
+    };
+    tell_register(rt, path, given.get_flag("verbose"), wish)
 }
 
 /// Reads a register, and tells this of it.
@@ -126,19 +164,25 @@ fn tell_register<R: AllocGlobal + Input + Print + Eprint + Files>(
     rt: &R,
     path: &str,
     verbose: bool,
-    told: Told,
+    wish: Wish,
 ) -> ExitCode {
-    match book_of(rt, path, verbose) {
-        Ok(book) => tell_book(rt, &book, told),
+    match audited_book(rt, path, verbose, wish.is_json()) {
+        Ok(book) => tell_book(rt, &book, wish),
         Err(status) => status,
     }
 }
 
 /// Tells this of a book.
-fn tell_book<R: AllocGlobal + Print + Eprint>(rt: &R, book: &Book, told: Told) -> ExitCode {
-    match told {
-        Told::Rows(table, wanted) => tell_rows(rt, book, table, &wanted),
-        Told::Summary => tell_end(rt, summary_text(rt.alloc(), StandardOutput::of(rt), book)),
+fn tell_book<R: AllocGlobal + Print + Eprint>(rt: &R, book: &Book, wish: Wish) -> ExitCode {
+    let (alloc, to) = (rt.alloc(), StandardOutput::of(rt));
+    match wish {
+        Wish::Rows(table, form, wanted) => tell_rows(rt, book, table, form, &wanted),
+        Wish::Objects(wanted) => {
+            let told = history_json(alloc, to, book, &wanted);
+            tell_rows_end(rt, Table::History, &wanted, told)
+        }
+        Wish::Summary => tell_end(rt, summary_text(alloc, to, book)),
+        Wish::SummaryObject => tell_end(rt, summary_json(alloc, to, book)),
     }
 }
 
@@ -147,124 +191,47 @@ fn tell_rows<R: AllocGlobal + Print + Eprint>(
     rt: &R,
     book: &Book,
     table: Table,
+    form: Form,
     wanted: &Wanted,
 ) -> ExitCode {
     let (alloc, to) = (rt.alloc(), StandardOutput::of(rt));
+    let told = match table {
+        Table::Claims => claims_table(alloc, to, book, wanted, form),
+        Table::Works => works_table(alloc, to, book, wanted, form),
+        Table::History => history_table(alloc, to, book, wanted, form),
+    };
+    tell_rows_end(rt, table, wanted, told)
+}
+
+/// Tells on standard error that a table was narrowed to no row, or why it was not written whole.
+fn tell_rows_end<R: Eprint, W: Drop>(
+    rt: &R,
+    table: Table,
+    wanted: &Wanted,
+    told: Result<Told<W>, Unwritten>,
+) -> ExitCode {
+    if let Ok(told) = &told {
+        if told.rows == 0 && *wanted != Wanted::all() {
+            let _ = eprintln!(rt; "{}", unmatched_text(table));
+        }
+    }
+    tell_end(rt, told)
+}
+
+/// That no row of a table is what is wanted.
+fn unmatched_text(table: Table) -> &'static str {
     match table {
-        Table::Claims => tell_end(rt, claims_text(alloc, to, book, wanted)),
-        Table::Works => tell_end(rt, works_text(alloc, to, book, wanted)),
-        Table::History => tell_end(rt, history_text(alloc, to, book, wanted)),
+        Table::Claims => "no claim matches",
+        Table::Works => "no work matches",
+        Table::History => "no entry matches",
     }
 }
 
 /// Tells why something was not written whole, where it was not and that can be told.
-fn tell_end<R: Eprint, W: Drop>(rt: &R, written: Result<W, Unwritten>) -> ExitCode {
+fn tell_end<R: Eprint, T: Drop>(rt: &R, written: Result<T, Unwritten>) -> ExitCode {
     match written {
         Ok(_) => ExitCode::SUCCESS,
         Err(Unwritten::Memory) => no_memory(rt),
         Err(Unwritten::Write) => ExitCode::FAILURE,
     }
-}
-
-/// The book of a register. Of one that is refused, or cannot be read, that is told, as an audit tells it.
-pub(crate) fn book_of<R: AllocGlobal + Input + Print + Eprint + Files>(
-    rt: &R,
-    path: &str,
-    verbose: bool,
-) -> Result<Book, ExitCode> {
-    let bytes = register_bytes(rt, path, verbose)?;
-    match read_register(rt.alloc(), &bytes, MOST_ENTRIES) {
-        Ok(book) => Ok(book),
-        Err(refusal) => Err(tell_refusal(rt, refusal)),
-    }
-}
-
-/// The bytes of a register. Why they cannot be read is told on standard error.
-fn register_bytes<R: AllocGlobal + Input + Eprint + Files>(
-    rt: &R,
-    path: &str,
-    verbose: bool,
-) -> Result<Vec<u8>, ExitCode> {
-    match bytes_of(rt, path, MOST_REGISTER_BYTES, verbose) {
-        Ok(bytes) => Ok(bytes),
-        Err(unread) => {
-            let _ = eprintln!(rt; "stopped: {unread}");
-            Err(ExitCode::FAILURE)
-        }
-    }
-}
-
-/// Tells why a register has no book.
-fn tell_refusal<R: Print + Eprint>(rt: &R, refusal: RegisterRefusal) -> ExitCode {
-    match refusal {
-        RegisterRefusal::Memory => no_memory(rt),
-        RegisterRefusal::Fault { .. } => {
-            let _ = write!(StandardOutput::of(rt), "{refusal}\n");
-            ExitCode::FAILURE
-        }
-    }
-}
-
-/// What the words want of a table, or what is wrong with them: of several, the first in this order.
-fn wanted_in(given: &ArgMatches) -> Result<Wanted, &'static str> {
-    Ok(Wanted {
-        work: wanted_work(given)?,
-        submitter: wanted_submitter(given)?,
-        number: wanted_number(given)?,
-        status: wanted_status(given)?,
-    })
-}
-
-fn wanted_work(given: &ArgMatches) -> Result<Option<u32>, &'static str> {
-    match given.get_str("work") {
-        Some(word) => Ok(Some(work_in(word.as_bytes()).ok_or("bad --work")?)),
-        None => Ok(None),
-    }
-}
-
-fn wanted_submitter(given: &ArgMatches) -> Result<Option<[u8; 11]>, &'static str> {
-    match given.get_str("submitter") {
-        Some(word) => Ok(Some(text_in(word.as_bytes()).ok_or("bad --submitter")?)),
-        None => Ok(None),
-    }
-}
-
-fn wanted_number(given: &ArgMatches) -> Result<Option<[u8; 14]>, &'static str> {
-    match given.get_str("number") {
-        Some(word) => Ok(Some(text_in(word.as_bytes()).ok_or("bad --number")?)),
-        None => Ok(None),
-    }
-}
-
-fn wanted_status(given: &ArgMatches) -> Result<Option<Status>, &'static str> {
-    match given.get_str("status") {
-        Some(word) => Ok(Some(status_in(word.as_bytes()).ok_or("bad --status")?)),
-        None => Ok(None),
-    }
-}
-
-/// The number of a work: one to eight digits, and not 0.
-fn work_in(word: &[u8]) -> Option<u32> {
-    if word.is_empty() || word.len() > 8 {
-        return None;
-    }
-    match digits(cut(word, 1, word.len())) {
-        Some(number) if number > 0 => Some(number as u32),
-        _ => None,
-    }
-}
-
-/// A text of at least one byte, and blanks up to the width.
-fn text_in<const N: usize>(word: &[u8]) -> Option<[u8; N]> {
-    if word.is_empty() || word.len() > N {
-        return None;
-    }
-    Some(filled(word))
-}
-
-fn status_in(word: &[u8]) -> Option<Status> {
-    if word.len() != 2 {
-        return None;
-    }
-    Status::named(&[word[0], word[1]])
 }

@@ -4,9 +4,8 @@ use crate::arguments::{Argument, CommandWords};
 use crate::files::InputFile;
 use crate::help::VERIFY_HELP;
 use crate::printing::StandardOutput;
-use crate::registers::MOST_REGISTER_BYTES;
+use crate::registers::{MOST_REGISTER_BYTES, REGISTER, audited_book};
 use crate::status::{bad_words, no_memory};
-use crate::tables::book_of;
 use byte_streams::{ReadRefused, read_file};
 use clap::ArgMatches;
 use cwr_desk::MOST_BYTES;
@@ -21,7 +20,7 @@ pub(crate) const VERIFY: CommandWords = CommandWords {
     name: "verify",
     about: "Checks a register against files and their acknowledgements",
     arguments: &[
-        Argument::Word("REGISTER", "a register, or - for standard input"),
+        REGISTER,
         Argument::Words("FILE", "a CWR 2.2 file, whose acknowledgement is FILE.ack"),
         Argument::Value(
             "ack",
@@ -56,7 +55,7 @@ pub(crate) fn verify_files<R: AllocGlobal + Input + Print + Eprint + Files>(
     if ack.is_some() && names.len() != 1 {
         return bad_words(rt, "--ack goes with one FILE alone");
     }
-    match book_of(rt, register, verbose) {
+    match audited_book(rt, register, verbose, false) {
         Ok(book) => verify_at(rt, &book, names, ack, verbose),
         Err(status) => status,
     }

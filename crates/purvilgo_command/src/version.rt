@@ -5,7 +5,7 @@ use crate::printing::StandardOutput;
 use std::io::Write;
 use std::process::ExitCode;
 
-/// It stands here alone; CHANGELOG.md, at the top of the repository, tells what each version changed.
+/// CHANGELOG.md, at the top of the repository, tells where else it stands, and what each version changed.
 pub(crate) const VERSION: &str = "0.1.0";
 
 /// `version`, the same as `--version`.

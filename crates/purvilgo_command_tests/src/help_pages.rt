@@ -30,7 +30,7 @@ fn expect_told(ended: ExitCode, printed: &[u8], page: &str, names: &[&str]) -> R
 }
 
 /// Each command, and each option that it takes.
-const OPTIONS: [(&str, &[&str]); 10] = [
+const OPTIONS: [(&str, &[&str]); 11] = [
     (
         "run",
         &[
@@ -52,18 +52,22 @@ const OPTIONS: [(&str, &[&str]); 10] = [
         &["--long", "--json", "--quiet", "-v, --verbose", "<FILE>..."],
     ),
     ("explain", &["[RULE]..."]),
-    ("audit", &["-v, --verbose", "<REGISTER>"]),
+    ("audit", &["--json", "-v, --verbose", "<REGISTER>"]),
     (
         "claims",
         &[
             "--work <N>",
             "--submitter <S>",
             "--number <W>",
+            "--plain",
             "-v, --verbose",
             "<REGISTER>",
         ],
     ),
-    ("works", &["--work <N>", "-v, --verbose", "<REGISTER>"]),
+    (
+        "works",
+        &["--work <N>", "--plain", "-v, --verbose", "<REGISTER>"],
+    ),
     (
         "history",
         &[
@@ -71,12 +75,30 @@ const OPTIONS: [(&str, &[&str]); 10] = [
             "--submitter <S>",
             "--number <W>",
             "--status <AS|DU|CO|RJ>",
+            "--plain",
+            "--json",
             "-v, --verbose",
             "<REGISTER>",
         ],
     ),
-    ("summary", &["-v, --verbose", "<REGISTER>"]),
-    ("verify", &["-v, --verbose", "<REGISTER>", "<FILE>..."]),
+    ("summary", &["--json", "-v, --verbose", "<REGISTER>"]),
+    (
+        "verify",
+        &["--ack <ACK>", "-v, --verbose", "<REGISTER>", "<FILE>..."],
+    ),
+    (
+        "answer",
+        &[
+            "--society <NNN>",
+            "--name <TEXT>",
+            "--date <YYYYMMDD>",
+            "--time <HHMMSS>",
+            "--entry <N>",
+            "-v, --verbose",
+            "<REGISTER>",
+            "<FILE>",
+        ],
+    ),
     ("version", &[]),
 ];
 
@@ -115,6 +137,7 @@ fn tells_more_in_long_help(rt: HostRuntime) -> Result<(), Fail> {
     let parts = ["Writes: ", "Status: 0 ", "Example:\n"];
     for command in [
         "run", "check", "explain", "audit", "claims", "works", "history", "summary", "verify",
+        "answer",
     ] {
         expect_page(&rt, &["purvilgo", "help", command], &parts)?;
         expect_page(&rt, &["purvilgo", command, "--help"], &parts)?;

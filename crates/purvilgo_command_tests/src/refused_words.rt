@@ -71,6 +71,9 @@ fn takes_no_empty_name_for_what_is_told(rt: HostRuntime) -> Result<(), Fail> {
             Step::of(&["verify", "book", "a", ""])
                 .ends(2)
                 .complains("bad FILE\n"),
+            Step::of(&["verify", "--ack", "", "book", "a"])
+                .ends(2)
+                .complains("bad --ack\n"),
         ],
     )
 }

@@ -150,9 +150,19 @@ fn expect_unlocked<T: AllocGlobal + Threads + Wait + Sync>(
         locked: &[],
     };
     let words = run_with(alloc, more)?;
-    let fake = Fake::new(rt, &words, b"").with_disk(&[], &disk);
-    expect_program(fake, ExitCode::FAILURE, b"", complained)?;
+    expect_failed(rt, &words, &disk, complained)?;
     same_text("the calls", &disk.calls.made()?, made)
+}
+
+/// Runs the program over a disk, and it ends with status 1 and prints nothing: what it tells must be this.
+fn expect_failed<T: AllocGlobal + Threads + Wait + Sync>(
+    rt: &T,
+    words: &[&str],
+    disk: &Disk,
+    complained: &str,
+) -> Result<(), Fail> {
+    let fake = Fake::new(rt, words, b"").with_disk(&[], disk);
+    expect_program(fake, ExitCode::FAILURE, b"", complained)
 }
 
 /// The system is asked once more for the reason, and only where it is to be told.

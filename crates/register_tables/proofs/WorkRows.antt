@@ -16,7 +16,9 @@ use Rattle.work_registry.specs.Works.{control_of, iswc_in, iswc_of}
 use Rattle.work_registry.specs.Told.{work_in}
 use Rattle.work_registry.specs.Indexes.{newer}
 use Rattle.register_tables.specs.declared.works.KeptWork.{KeptWork}
+use Rattle.register_tables.specs.declared.form.Form.{Form}
 use Rattle.register_tables.specs.declared.wanted.Wanted.{Wanted}
+use Rattle.register_tables.specs.Summary.{count}
 use Rattle.register_tables.specs.WorksTable.{is_on, is_wanted_work, kept_of, wanted_line, work_line}
 use Rattle.register_tables.specs.Gathered.{AreGathered, AreKept, blank_work, gathered_of, grown, is_first_on, noted}
 use Rattle.register_tables.specs.Counting.{is_first}
@@ -161,18 +163,34 @@ kept_all n history works is gathered = record {
 }
 
 -- what is left begins with the line of the next work, where it is wanted
-pub next_work : (wanted : Wanted) (history : List EntryValue) (i n : ℕ) → i < n
-    → flat_map (work_line history) (filter (is_wanted_work wanted) (range_with_len (i + 1) (n - i)))
-    ≡ wanted_line wanted (i + 1) (kept_of (rows_of history) (i + 1) history) (control_of (i + 1) (rows_of history))
-    ++ flat_map (work_line history) (filter (is_wanted_work wanted) (range_with_len (i + 1 + 1) (n - (i + 1))))
-next_work wanted history i n lt =
+pub next_work : (form : Form) (wanted : Wanted) (history : List EntryValue) (i n : ℕ) → i < n
+    → flat_map (work_line form history) (filter (is_wanted_work wanted) (range_with_len (i + 1) (n - i)))
+    ≡ wanted_line form wanted (i + 1) (kept_of (rows_of history) (i + 1) history) (control_of (i + 1) (rows_of history))
+    ++ flat_map (work_line form history) (filter (is_wanted_work wanted) (range_with_len (i + 1 + 1) (n - (i + 1))))
+next_work form wanted history i n lt =
     let one : n - i ≡ suc (n - (i + 1)) = omega (arith, lt) in
     rw one (by (is_wanted_work wanted (i + 1)))
   where
     left : List ℕ
     left = range_with_len (i + 1 + 1) (n - (i + 1))
 
-    by : (b : Bool) → flat_map (work_line history) (if b then (i + 1) ∷ filter (is_wanted_work wanted) left else filter (is_wanted_work wanted) left)
-        ≡ (if b then work_line history (i + 1) else []) ++ flat_map (work_line history) (filter (is_wanted_work wanted) left)
+    by : (b : Bool) → flat_map (work_line form history) (if b then (i + 1) ∷ filter (is_wanted_work wanted) left else filter (is_wanted_work wanted) left)
+        ≡ (if b then work_line form history (i + 1) else []) ++ flat_map (work_line form history) (filter (is_wanted_work wanted) left)
     by true = refl
     by false = refl
+
+-- of the works that are left, the next is one where it is wanted
+pub next_work_count : (wanted : Wanted) (i n : ℕ) → i < n
+    → count (is_wanted_work wanted) (range_with_len (i + 1) (n - i))
+    ≡ (if is_wanted_work wanted (i + 1) then 1 else 0) + count (is_wanted_work wanted) (range_with_len (i + 1 + 1) (n - (i + 1)))
+next_work_count wanted i n lt =
+    let one : n - i ≡ suc (n - (i + 1)) = omega (arith, lt) in
+    rw one (by (is_wanted_work wanted (i + 1)))
+  where
+    left : List ℕ
+    left = range_with_len (i + 1 + 1) (n - (i + 1))
+
+    by : (b : Bool) → length (if b then (i + 1) ∷ filter (is_wanted_work wanted) left else filter (is_wanted_work wanted) left)
+        ≡ (if b then 1 else 0) + length (filter (is_wanted_work wanted) left)
+    by true = omega arith
+    by false = omega arith

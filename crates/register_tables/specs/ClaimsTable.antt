@@ -1,14 +1,15 @@
 -- The table of the current claims.
 use Rattle.std.specs.Prelude.{ℕ, ◌==◌, ◌&&◌, Bool, false, List, [], ◌∷◌, ◌++◌, Option, Some, None, codes, filter, slice_index}
 use Rattle.std.specs.List.{flat_map}
-use Rattle.std.specs.Fmt.{decimal}
 use Rattle.work_registry.specs.declared.claim.Claim.{Claim}
 use Rattle.work_registry.specs.EntryValue.{EntryValue}
 use Rattle.work_registry.specs.Rows.{Row, key_of, rows_of}
 use Rattle.work_registry.specs.Claims.{claim_of}
 use Rattle.work_registry.specs.Told.{work_in, version_in}
+use Rattle.register_tables.specs.declared.form.Form.{Form}
 use Rattle.register_tables.specs.declared.wanted.Wanted.{Wanted}
 use Rattle.register_tables.specs.CsvRows.{csv_line, number_field, iswc_field}
+use Rattle.register_tables.specs.Fields.{text_field, share_field, performing_name, mechanical_name, synchronization_name}
 use Rattle.register_tables.specs.Wanted.{is_wanted}
 
 -- there is a version, and it is that of the claim
@@ -25,40 +26,41 @@ is_current rows e = is_version_of (claim_of (key_of e.call) rows) (version_in e.
 abbrev pub current_entries : List EntryValue → List EntryValue
 current_entries history = filter (is_current (rows_of history)) history
 
-abbrev pub claims_header : List (List ℕ)
-claims_header =
+abbrev pub claims_header : Form → List (List ℕ)
+claims_header form =
     codes "submitter"
     ∷ codes "number"
     ∷ codes "work"
     ∷ codes "version"
     ∷ codes "title"
     ∷ codes "iswc"
-    ∷ codes "performing"
-    ∷ codes "mechanical"
-    ∷ codes "synchronization"
+    ∷ performing_name form
+    ∷ mechanical_name form
+    ∷ synchronization_name form
     ∷ []
 
 -- a claim: whose it is, for which work, its version, and what the call said
-abbrev pub claim_fields : EntryValue → List (List ℕ)
-claim_fields e =
-    e.call.submitter
-    ∷ e.call.number
+abbrev pub claim_fields : Form → EntryValue → List (List ℕ)
+claim_fields form e =
+    text_field form e.call.submitter
+    ∷ text_field form e.call.number
     ∷ number_field (work_in e.reply)
     ∷ number_field (version_in e.reply)
-    ∷ e.call.title
+    ∷ text_field form e.call.title
     ∷ iswc_field e.call.iswc
-    ∷ decimal (slice_index e.call.control 0)
-    ∷ decimal (slice_index e.call.control 1)
-    ∷ decimal (slice_index e.call.control 2)
+    ∷ share_field form (slice_index e.call.control 0)
+    ∷ share_field form (slice_index e.call.control 1)
+    ∷ share_field form (slice_index e.call.control 2)
     ∷ []
 
-abbrev pub claim_line : EntryValue → List ℕ
-claim_line e = csv_line (claim_fields e)
+abbrev pub claim_line : Form → EntryValue → List ℕ
+claim_line form e = csv_line (claim_fields form e)
 
 -- the current claims that are wanted
 abbrev pub is_listed : Wanted → List Row → EntryValue → Bool
 is_listed wanted rows e = is_current rows e && is_wanted wanted e
 
 -- a header line, and a line for each current claim that is wanted, in the order of their entries
-abbrev pub claims_text : Wanted → List EntryValue → List ℕ
-claims_text wanted history = csv_line claims_header ++ flat_map claim_line (filter (is_listed wanted (rows_of history)) history)
+abbrev pub claims_text : Form → Wanted → List EntryValue → List ℕ
+claims_text form wanted history =
+    csv_line (claims_header form) ++ flat_map (claim_line form) (filter (is_listed wanted (rows_of history)) history)

@@ -1,8 +1,14 @@
 pub mod CsvRows
 pub mod Wanted
+pub mod Fields
+pub mod PlainTexts
 pub mod ClaimsTable
 pub mod HistoryTable
 pub mod WorksTable
 pub mod Gathered
 pub mod Summary
 pub mod Counting
+pub mod JsonValues
+pub mod HistoryJson
+pub mod SummaryJson
+pub mod AuditJson

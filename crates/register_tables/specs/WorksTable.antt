@@ -6,9 +6,11 @@ use Rattle.work_registry.specs.EntryValue.{EntryValue}
 use Rattle.work_registry.specs.Rows.{Row, rows_of}
 use Rattle.work_registry.specs.Works.{control_of, iswc_of}
 use Rattle.work_registry.specs.Told.{work_in}
+use Rattle.register_tables.specs.declared.form.Form.{Form}
 use Rattle.register_tables.specs.declared.wanted.Wanted.{Wanted}
 use Rattle.register_tables.specs.declared.works.KeptWork.{KeptWork}
 use Rattle.register_tables.specs.CsvRows.{csv_line, iswc_field}
+use Rattle.register_tables.specs.Fields.{share_field, performing_name, mechanical_name, synchronization_name}
 use Rattle.register_tables.specs.Wanted.{fits_number}
 use Rattle.register_tables.specs.ClaimsTable.{is_current}
 
@@ -34,42 +36,42 @@ is_claim_on rows work e = is_on work (work_in e.reply) && is_current rows e
 abbrev pub kept_of : List Row → ℕ → List EntryValue → KeptWork
 kept_of rows work entries = record { iswc = iswc_of work (rows_of entries); claims = count_by (is_claim_on rows work) entries }
 
-abbrev pub works_header : List (List ℕ)
-works_header =
+abbrev pub works_header : Form → List (List ℕ)
+works_header form =
     codes "work"
     ∷ codes "iswc"
-    ∷ codes "performing"
-    ∷ codes "mechanical"
-    ∷ codes "synchronization"
+    ∷ performing_name form
+    ∷ mechanical_name form
+    ∷ synchronization_name form
     ∷ codes "claims"
     ∷ []
 
 -- a work: its number, its ISWC, its control of the three rights, and how many current claims there are on it
-abbrev pub work_fields : ℕ → KeptWork → List ℕ → List (List ℕ)
-work_fields work kept control =
+abbrev pub work_fields : Form → ℕ → KeptWork → List ℕ → List (List ℕ)
+work_fields form work kept control =
     decimal work
     ∷ iswc_field kept.iswc
-    ∷ decimal (slice_index control 0)
-    ∷ decimal (slice_index control 1)
-    ∷ decimal (slice_index control 2)
+    ∷ share_field form (slice_index control 0)
+    ∷ share_field form (slice_index control 1)
+    ∷ share_field form (slice_index control 2)
     ∷ decimal kept.claims
     ∷ []
 
-abbrev pub work_line : List EntryValue → ℕ → List ℕ
-work_line history work = csv_line (work_fields work (kept_of (rows_of history) work history) (control_of work (rows_of history)))
+abbrev pub work_line : Form → List EntryValue → ℕ → List ℕ
+work_line form history work = csv_line (work_fields form work (kept_of (rows_of history) work history) (control_of work (rows_of history)))
 
 abbrev pub is_wanted_work : Wanted → ℕ → Bool
 is_wanted_work wanted work = fits_number wanted.work (Some work)
 
 -- the lines of the works that are wanted, in the order of their numbers
-abbrev pub work_lines : Wanted → List EntryValue → List ℕ
-work_lines wanted history =
-    flat_map (work_line history) (filter (is_wanted_work wanted) (range_with_len 1 (last_work (rows_of history))))
+abbrev pub work_lines : Form → Wanted → List EntryValue → List ℕ
+work_lines form wanted history =
+    flat_map (work_line form history) (filter (is_wanted_work wanted) (range_with_len 1 (last_work (rows_of history))))
 
 -- a header line, and these lines
-abbrev pub works_text : Wanted → List EntryValue → List ℕ
-works_text wanted history = csv_line works_header ++ work_lines wanted history
+abbrev pub works_text : Form → Wanted → List EntryValue → List ℕ
+works_text form wanted history = csv_line (works_header form) ++ work_lines form wanted history
 
 -- the line of a work, where it is wanted
-abbrev pub wanted_line : Wanted → ℕ → KeptWork → List ℕ → List ℕ
-wanted_line wanted work kept control = if is_wanted_work wanted work then csv_line (work_fields work kept control) else []
+abbrev pub wanted_line : Form → Wanted → ℕ → KeptWork → List ℕ → List ℕ
+wanted_line form wanted work kept control = if is_wanted_work wanted work then csv_line (work_fields form work kept control) else []

@@ -5,6 +5,7 @@ ghost use Rattle.std.specs.Io.KnownBytes.{Appends, Keeps};
 ghost use Rattle.csv.specs.Writing.{text_written, writer_pending, writer_under};
 ghost use Rattle.cwr_call.specs.Lawful.{is_iswc};
 ghost use Rattle.register_tables.specs.CsvRows.{csv_line, number_field, iswc_field, IsAtRow};
+ghost use Rattle.register_tables.specs.declared.rows.Unwritten.TheVariants.{Memory as refused};
 
 use csv::{Writer, WriterBuilder};
 use cwr_field::Memory;
@@ -20,6 +21,23 @@ pub enum Unwritten {
     Memory,
     /// A write failed or took nothing. What was written before it stands.
     Write,
+}
+
+impl From<Memory> for Unwritten {
+    ghost from_gives = { λ _ e. e ≡ refused };
+
+    fn from(_error: Memory) -> Unwritten {
+        Unwritten::Memory
+    }
+}
+
+/// What was written to, with a whole table.
+#[derive(Debug, Drop)]
+pub struct Told<W: Drop> {
+    /// What it was written to.
+    pub to: W,
+    /// How many rows it has: lines behind the header, or objects.
+    pub rows: u64,
 }
 
 /// A writer of rows.
@@ -46,12 +64,13 @@ pub(crate) fn put_row<W: Write + Drop>(
     }
 }
 
-/// What the rows were written to, with all of them.
-pub(crate) fn ended<W: Write + Drop>(out: Writer<W>) -> Result<W, Unwritten>
-    ensures { IfOk result (λ to. Keeps (text_written W.contents out) (W.contents to)) }
+/// What so many rows were written to, with all of them.
+pub(crate) fn ended<W: Write + Drop>(out: Writer<W>, rows: u64) -> Result<Told<W>, Unwritten>
+    ensures kept { IfOk result (λ told. Keeps (text_written W.contents out) (W.contents told.to)) }
+    ensures rows { IfOk result (λ told. told.rows ≡ rows) }
 {
     match out.into_inner() {
-        Ok(to) => Ok(to),
+        Ok(to) => Ok(Told { to, rows }),
         Err(_) => Err(Unwritten::Write),
     }
 }

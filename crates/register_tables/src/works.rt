@@ -1,16 +1,21 @@
 //! The table of the works.
 
-ghost use Rattle.std.specs.Prelude.{◌≡◌, ◌<◌, ◌≤◌, ◌^◌, [], length, IfOk, IsTrue, OnOk};
+ghost use Rattle.std.specs.Prelude.{◌≡◌, ◌<◌, ◌≤◌, ◌^◌, [], if◌then◌else◌, length, IfOk, IsTrue, OnOk};
 ghost use Rattle.std.specs.Io.KnownBytes.{Appends};
 ghost use Rattle.csv.specs.Writing.{text_written};
 ghost use Rattle.cwr_call.specs.Lawful.{is_iswc};
 ghost use Rattle.work_registry.specs.Rows.{rows_of};
 ghost use Rattle.work_registry.specs.Works.{control_of};
 ghost use Rattle.register_tables.specs.CsvRows.{csv_line, iswc_field, IsAtRow};
-ghost use Rattle.register_tables.specs.WorksTable.{last_work, wanted_line, work_fields, work_lines, works_header, works_text};
+ghost use Rattle.register_tables.specs.declared.form.Form.TheVariants.{Exact, Plain};
+ghost use Rattle.register_tables.specs.PlainTexts.{HasControl};
+ghost use Rattle.register_tables.specs.WorksTable.{is_wanted_work, last_work, wanted_line, work_fields, work_lines, works_header, works_text};
+ghost use Rattle.register_tables.specs.Summary.{count, works as numbers};
 ghost use Rattle.register_tables.specs.Gathered.{AreGathered, AreKept, blank_work, grown, noted};
 
-use crate::rows::{Unwritten, ended, put_row, rows_to, set_iswc};
+use crate::form::{Form, mechanical_name, performing_name, synchronization_name};
+use crate::rows::{Told, Unwritten, ended, put_row, rows_to, set_iswc};
+use crate::texts::Texts;
 use crate::wanted::{Wanted, fits_number};
 use csv::Writer;
 use itoa::Buffer;
@@ -30,23 +35,38 @@ struct KeptWork {
 /// Writes the works of a book that are wanted, in the order of their numbers, and gives back what it wrote to.
 ///
 /// Of what is wanted the number of the work counts alone. A header line comes first. A work is a line of its number, its ISWC or
-/// nothing, its control of the performing, the mechanical and the synchronization right in hundredths of one per cent, and
-/// the number of current claims on it. A line ends with LF.
+/// nothing, its control of the performing, the mechanical and the synchronization right, and the number of current claims
+/// on it. [`Form`] says how shares stand there. A line ends with LF.
+pub fn works_table<W: Write + Drop, A: Allocator + Copy + Drop>(
+    alloc: A,
+    to: W,
+    book: &Book<A>,
+    wanted: &Wanted,
+    form: Form,
+) -> Result<Told<W>, Unwritten>
+    ensures text { IfOk result (λ told. Appends (W.contents to) (W.contents told.to) (works_text form wanted.now book.now.history)) }
+    ensures rows { IfOk result (λ told. told.rows ≡ count (is_wanted_work wanted.now) (numbers (rows_of book.now.history))) }
+{
+    let Ok(works) = kept_works(alloc, book) else {
+        return Err(Unwritten::Memory);
+    };
+    let mut out = rows_to(to);
+    put_header(&mut out, form)?;
+    let rows = put_works(alloc, &mut out, book, &works, wanted, form)?;
+    ended(out, rows)
+}
+
+/// Writes the works of a book that are wanted: [`works_table`] in the form [`Form::Exact`].
 pub fn works_text<W: Write + Drop, A: Allocator + Copy + Drop>(
     alloc: A,
     to: W,
     book: &Book<A>,
     wanted: &Wanted,
 ) -> Result<W, Unwritten>
-    ensures { IfOk result (λ told. Appends (W.contents to) (W.contents told) (works_text wanted.now book.now.history)) }
+    ensures { IfOk result (λ told. Appends (W.contents to) (W.contents told) (works_text Exact wanted.now book.now.history)) }
 {
-    let Ok(works) = kept_works(alloc, book) else {
-        return Err(Unwritten::Memory);
-    };
-    let mut out = rows_to(to);
-    put_header(&mut out)?;
-    put_works(alloc, &mut out, book, &works, wanted)?;
-    ended(out)
+    let Told { to, rows: _ } = works_table(alloc, to, book, wanted, Form::Exact)?;
+    Ok(to)
 }
 
 /// What the entries of a book say of each work, in the order of their numbers.
@@ -129,46 +149,50 @@ fn grown(kept: KeptWork, iswc: Option<u64>, version: u32) -> KeptWork
     }
 }
 
-fn put_header<W: Write + Drop>(out: &mut Writer<W>) -> Result<(), Unwritten>
+fn put_header<W: Write + Drop>(out: &mut Writer<W>, form: Form) -> Result<(), Unwritten>
     requires { IsAtRow out.old }
     ensures ready { OnOk result (IsAtRow out.new) }
-    ensures text { OnOk result (Appends (text_written W.contents out.old) (text_written W.contents out.new) (csv_line works_header)) }
+    ensures text { OnOk result (Appends (text_written W.contents out.old) (text_written W.contents out.new) (csv_line (works_header form))) }
 {
     put_row(
         out,
         &[
             b"work",
             b"iswc",
-            b"performing",
-            b"mechanical",
-            b"synchronization",
+            performing_name(form),
+            mechanical_name(form),
+            synchronization_name(form),
             b"claims",
         ],
     )
 }
 
+/// Writes the works that are wanted, and tells how many there are.
 fn put_works<W: Write + Drop, A: Allocator + Copy + Drop>(
     alloc: A,
     out: &mut Writer<W>,
     book: &Book<A>,
     works: &[KeptWork],
     wanted: &Wanted,
-) -> Result<(), Unwritten>
+    form: Form,
+) -> Result<u64, Unwritten>
     requires ready { IsAtRow out.old }
     requires kept { AreKept (rows_of book.now.history) (last_work (rows_of book.now.history)) book.now.history works.now }
     requires few { length works.now < 2 ^ 32 }
     ensures ready { OnOk result (IsAtRow out.new) }
-    ensures text { OnOk result (Appends (text_written W.contents out.old) (text_written W.contents out.new) (work_lines wanted.now book.now.history)) }
+    ensures text { OnOk result (Appends (text_written W.contents out.old) (text_written W.contents out.new) (work_lines form wanted.now book.now.history)) }
+    ensures rows { IfOk result (λ rows. rows ≡ count (is_wanted_work wanted.now) (numbers (rows_of book.now.history))) }
 {
-    let mut iswc = Vec::new(alloc);
+    let mut texts = Texts::new(alloc);
+    let mut rows = 0;
     for before in 0..works.len() {
         let work = before as u32 + 1;
-        put_wanted(out, book, work, works[before], wanted, &mut iswc)?;
+        rows += put_wanted(out, book, work, works[before], wanted, form, &mut texts)?;
     }
-    Ok(())
+    Ok(rows)
 }
 
-/// Writes a work, where it is wanted. `iswc` is room for a field.
+/// Writes a work, where it is wanted, and tells how many rows that is.
 #[tactic(auto, using(crate::proofs::Steps::nothing))]
 fn put_wanted<W: Write + Drop, A: Allocator + Copy + Drop>(
     out: &mut Writer<W>,
@@ -176,21 +200,47 @@ fn put_wanted<W: Write + Drop, A: Allocator + Copy + Drop>(
     work: u32,
     kept: KeptWork,
     wanted: &Wanted,
-    iswc: &mut Vec<u8, A>,
+    form: Form,
+    texts: &mut Texts<A>,
+) -> Result<u64, Unwritten>
+    requires ready { IsAtRow out.old }
+    requires iswc { IsTrue (is_iswc kept.iswc) }
+    ensures ready { OnOk result (IsAtRow out.new) }
+    ensures text { OnOk result (Appends (text_written W.contents out.old) (text_written W.contents out.new) (wanted_line form wanted.now work kept (control_of work (rows_of book.now.history)))) }
+    ensures rows { IfOk result (λ rows. rows ≡ (if is_wanted_work wanted.now work then 1 else 0)) }
+{
+    if fits_number(wanted.work, Some(work)) {
+        put_in_form(out, work, kept, book.control_of(work), form, texts)?;
+        return Ok(1);
+    }
+    Ok(0)
+}
+
+/// Writes a work.
+fn put_in_form<W: Write + Drop, A: Allocator + Copy + Drop>(
+    out: &mut Writer<W>,
+    work: u32,
+    kept: KeptWork,
+    control: [u64; 3],
+    form: Form,
+    texts: &mut Texts<A>,
 ) -> Result<(), Unwritten>
     requires ready { IsAtRow out.old }
     requires iswc { IsTrue (is_iswc kept.iswc) }
     ensures ready { OnOk result (IsAtRow out.new) }
-    ensures text { OnOk result (Appends (text_written W.contents out.old) (text_written W.contents out.new) (wanted_line wanted.now work kept (control_of work (rows_of book.now.history)))) }
+    ensures text { OnOk result (Appends (text_written W.contents out.old) (text_written W.contents out.new) (csv_line (work_fields form work kept control))) }
 {
-    if fits_number(wanted.work, Some(work)) {
-        set_iswc(iswc, kept.iswc)?;
-        put_work(out, work, kept, book.control_of(work), iswc)?;
+    set_iswc(&mut texts.iswc, kept.iswc)?;
+    match form {
+        Form::Exact => put_work(out, work, kept, control, &texts.iswc),
+        Form::Plain => {
+            texts.plain.set_control(control)?;
+            put_plain_work(out, work, kept, control, texts)
+        }
     }
-    Ok(())
 }
 
-/// Writes a work, with its ISWC's field.
+/// Writes a work, its control in hundredths of one per cent, with its ISWC's field.
 fn put_work<W: Write + Drop>(
     out: &mut Writer<W>,
     work: u32,
@@ -201,7 +251,7 @@ fn put_work<W: Write + Drop>(
     requires ready { IsAtRow out.old }
     requires iswc { iswc.now ≡ iswc_field kept.iswc }
     ensures ready { OnOk result (IsAtRow out.new) }
-    ensures text { OnOk result (Appends (text_written W.contents out.old) (text_written W.contents out.new) (csv_line (work_fields work kept control))) }
+    ensures text { OnOk result (Appends (text_written W.contents out.old) (text_written W.contents out.new) (csv_line (work_fields Exact work kept control))) }
 {
     let (mut number, mut claims) = (Buffer::new(), Buffer::new());
     let (mut performing, mut mechanical, mut synchronization) = (
@@ -217,6 +267,35 @@ fn put_work<W: Write + Drop>(
             performing.format(control[0]).as_bytes(),
             mechanical.format(control[1]).as_bytes(),
             synchronization.format(control[2]).as_bytes(),
+            claims.format(kept.claims).as_bytes(),
+        ],
+    )
+}
+
+/// Writes a work, its control in per cent, with the fields that are put together.
+fn put_plain_work<W: Write + Drop, A: Allocator + Copy + Drop>(
+    out: &mut Writer<W>,
+    work: u32,
+    kept: KeptWork,
+    control: [u64; 3],
+    texts: &Texts<A>,
+) -> Result<(), Unwritten>
+    requires ready { IsAtRow out.old }
+    requires iswc { texts.now.iswc.items ≡ iswc_field kept.iswc }
+    requires plain { HasControl control texts.now.plain }
+    ensures ready { OnOk result (IsAtRow out.new) }
+    ensures text { OnOk result (Appends (text_written W.contents out.old) (text_written W.contents out.new) (csv_line (work_fields Plain work kept control))) }
+{
+    let plain = &texts.plain;
+    let (mut number, mut claims) = (Buffer::new(), Buffer::new());
+    put_row(
+        out,
+        &[
+            number.format(work as u64).as_bytes(),
+            &texts.iswc,
+            &plain.performing,
+            &plain.mechanical,
+            &plain.synchronization,
             claims.format(kept.claims).as_bytes(),
         ],
     )

@@ -1,7 +1,10 @@
 //! Books, and what their tables must be.
 
-use cwr_sheets::same_bytes;
-use register_tables::{Unwritten, Wanted, claims_text, history_text, summary_text, works_text};
+use cwr_sheets::{same, same_bytes};
+use register_tables::{
+    Form, Told, Unwritten, Wanted, claims_table, history_json, history_table, summary_json,
+    summary_text, works_table,
+};
 use std::alloc::Global;
 use std::test::Fail;
 use work_registry::{Book, Call, Fault, Faults, WorkKind};
@@ -21,7 +24,7 @@ pub(crate) const TITLE: [u8; 60] = *b"SONG ONE                                  
 pub(crate) const ISWC: Option<u64> = Some(34524680);
 
 /// A transaction without faults: its submitter, kind, title, number, ISWC and control.
-pub(crate) type Told = (
+pub(crate) type Transaction = (
     [u8; 11],
     WorkKind,
     [u8; 60],
@@ -31,7 +34,7 @@ pub(crate) type Told = (
 );
 
 /// The call of a transaction with these faults.
-fn call_of(alloc: Global, told: Told, faults: &[Fault]) -> Result<Call, Fail> {
+fn call_of(alloc: Global, told: Transaction, faults: &[Fault]) -> Result<Call, Fail> {
     let faults = Faults::new(faults.to_vec(alloc)?);
     let (submitter, kind, title, number, iswc, control) = told;
     Ok(Call::of(submitter, kind, title, number, iswc, control, faults).ok_or("no call")?)
@@ -41,7 +44,7 @@ fn call_of(alloc: Global, told: Told, faults: &[Fault]) -> Result<Call, Fail> {
 pub(crate) fn hand_in(
     alloc: Global,
     book: &mut Book,
-    told: Told,
+    told: Transaction,
     faults: &[Fault],
 ) -> Result<(), Fail> {
     let call = call_of(alloc, told, faults)?;
@@ -53,7 +56,7 @@ pub(crate) fn hand_in(
 pub(crate) fn hand_in_all(
     alloc: Global,
     book: &mut Book,
-    transactions: &[Told],
+    transactions: &[Transaction],
 ) -> Result<(), Fail> {
     for told in transactions {
         hand_in(alloc, book, *told, &[])?;
@@ -64,7 +67,7 @@ pub(crate) fn hand_in_all(
 /// Hands in the example in the profile's section on decisions: seven transactions of two submitters on one work.
 pub(crate) fn hand_in_decisions(alloc: Global, book: &mut Book) -> Result<(), Fail> {
     let (nwr, rev, other) = (WorkKind::Nwr, WorkKind::Rev, Some(1));
-    let transactions: [Told; 6] = [
+    let transactions: [Transaction; 6] = [
         (ONE, rev, TITLE, W1, ISWC, [6000; 3]),
         (OTHER, nwr, TITLE, W7, ISWC, [5000; 3]),
         (ONE, rev, TITLE, W1, ISWC, [5000; 3]),
@@ -93,10 +96,22 @@ pub(crate) fn decisions(alloc: Global) -> Result<Book, Fail> {
     Ok(book)
 }
 
-/// A table that must be whole.
-fn whole(table: Result<Vec<u8>, Unwritten>) -> Result<Vec<u8>, Fail> {
-    match table {
+/// A text that must be whole.
+fn whole(written: Result<Vec<u8>, Unwritten>) -> Result<Vec<u8>, Fail> {
+    match written {
         Ok(text) => Ok(text),
+        Err(_) => Err("it was not written")?,
+    }
+}
+
+/// A table that must be whole, and tell as many rows as these lines are.
+fn told(table: Result<Told<Vec<u8>>, Unwritten>, lines: &[u8]) -> Result<Vec<u8>, Fail> {
+    match table {
+        Ok(told) => {
+            let rows = lines.iter().filter(|byte| **byte == b'\n').count() as u64;
+            same("how many rows", &told.rows, &rows)?;
+            Ok(told.to)
+        }
         Err(_) => Err("the table was not written")?,
     }
 }
@@ -108,7 +123,8 @@ pub(crate) fn expect_claims(
     wanted: &Wanted,
     lines: &[u8],
 ) -> Result<(), Fail> {
-    let text = whole(claims_text(alloc, Vec::new(alloc), book, wanted))?;
+    let table = claims_table(alloc, Vec::new(alloc), book, wanted, Form::Exact);
+    let text = told(table, lines)?;
     expect_lines(
         alloc,
         &text,
@@ -124,7 +140,8 @@ pub(crate) fn expect_works(
     wanted: &Wanted,
     lines: &[u8],
 ) -> Result<(), Fail> {
-    let text = whole(works_text(alloc, Vec::new(alloc), book, wanted))?;
+    let table = works_table(alloc, Vec::new(alloc), book, wanted, Form::Exact);
+    let text = told(table, lines)?;
     expect_lines(
         alloc,
         &text,
@@ -140,7 +157,8 @@ pub(crate) fn expect_history(
     wanted: &Wanted,
     lines: &[u8],
 ) -> Result<(), Fail> {
-    let text = whole(history_text(alloc, Vec::new(alloc), book, wanted))?;
+    let table = history_table(alloc, Vec::new(alloc), book, wanted, Form::Exact);
+    let text = told(table, lines)?;
     expect_lines(
         alloc,
         &text,
@@ -153,6 +171,59 @@ pub(crate) fn expect_history(
 pub(crate) fn expect_summary(alloc: Global, book: &Book, page: &[u8]) -> Result<(), Fail> {
     let text = whole(summary_text(alloc, Vec::new(alloc), book))?;
     same_bytes("the summary", &text, page)
+}
+
+/// The claims of a book must be these plain lines, after their header.
+pub(crate) fn expect_plain_claims(alloc: Global, book: &Book, lines: &[u8]) -> Result<(), Fail> {
+    let table = claims_table(alloc, Vec::new(alloc), book, &Wanted::all(), Form::Plain);
+    let text = told(table, lines)?;
+    expect_lines(
+        alloc,
+        &text,
+        b"submitter,number,work,version,title,iswc,performing_control,mechanical_control,synchronization_control\n",
+        lines,
+    )
+}
+
+/// The works of a book must be these plain lines, after their header.
+pub(crate) fn expect_plain_works(alloc: Global, book: &Book, lines: &[u8]) -> Result<(), Fail> {
+    let table = works_table(alloc, Vec::new(alloc), book, &Wanted::all(), Form::Plain);
+    let text = told(table, lines)?;
+    expect_lines(
+        alloc,
+        &text,
+        b"work,iswc,performing_control,mechanical_control,synchronization_control,claims\n",
+        lines,
+    )
+}
+
+/// The history of a book must be these plain lines, after their header.
+pub(crate) fn expect_plain_history(alloc: Global, book: &Book, lines: &[u8]) -> Result<(), Fail> {
+    let table = history_table(alloc, Vec::new(alloc), book, &Wanted::all(), Form::Plain);
+    let text = told(table, lines)?;
+    expect_lines(
+        alloc,
+        &text,
+        b"entry,submitter,kind,number,title,iswc,performing_control,mechanical_control,synchronization_control,status,work,version,faults\n",
+        lines,
+    )
+}
+
+/// What is wanted of the history must be these objects of JSON, each on a line.
+pub(crate) fn expect_objects(
+    alloc: Global,
+    book: &Book,
+    wanted: &Wanted,
+    lines: &[u8],
+) -> Result<(), Fail> {
+    let objects = history_json(alloc, Vec::new(alloc), book, wanted);
+    same_bytes("the objects", &told(objects, lines)?, lines)
+}
+
+/// The summary of a book must be this object of JSON.
+pub(crate) fn expect_summary_object(alloc: Global, book: &Book, object: &[u8]) -> Result<(), Fail> {
+    let text = whole(summary_json(alloc, Vec::new(alloc), book))?;
+    same_bytes("the summary as JSON", &text, object)
 }
 
 /// A table must be a header and these lines.

@@ -1,9 +1,13 @@
 //! Tests of a register's tables and of its summary: the example of the profile's decisions, texts that CSV must quote, what is
-//! wanted, bands of what is left, and more conflicts than are told.
+//! wanted, bands of what is left, more conflicts than are told, plain tables, and what is told as JSON.
 #![tactic(auto)]
 
 #[cfg(test)]
 mod books;
+#[cfg(test)]
+mod objects;
+#[cfg(test)]
+mod plain;
 #[cfg(test)]
 mod quoted;
 #[cfg(test)]

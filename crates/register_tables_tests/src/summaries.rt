@@ -1,7 +1,7 @@
 //! Summaries of the example of the profile's decisions, of works in each band, and of more works with conflicts than are told.
 
 use crate::books::{
-    ONE, OTHER, TITLE, Told, W1, W7, decisions, expect_summary, hand_in, hand_in_all,
+    ONE, OTHER, TITLE, Transaction, W1, W7, decisions, expect_summary, hand_in, hand_in_all,
 };
 use std::alloc::Global;
 use std::test::Fail;
@@ -29,7 +29,7 @@ largest conflicts:\n  work 1: 2\n",
 fn tells_what_is_left(rt: HostRuntime) -> Result<(), Fail> {
     let alloc = rt.alloc();
     let mut book = Book::new(alloc, 100);
-    let transactions: [Told; 3] = [
+    let transactions: [Transaction; 3] = [
         (ONE, WorkKind::Nwr, TITLE, W1, None, [10000, 7500, 5000]),
         (ONE, WorkKind::Nwr, TITLE, W7, None, [4999, 0, 7499]),
         (ONE, WorkKind::Nwr, TITLE, W1, None, [10000, 7500, 5000]),

@@ -1,7 +1,7 @@
 //! The tables of the example in the profile's section on decisions, and of books with no work and with two.
 
 use crate::books::{
-    ISWC, ONE, TITLE, Told, W1, W7, decisions, expect_claims, expect_history, expect_works,
+    ISWC, ONE, TITLE, Transaction, W1, W7, decisions, expect_claims, expect_history, expect_works,
     hand_in_all,
 };
 use register_tables::Wanted;
@@ -90,7 +90,7 @@ PB000000123,W1            ,1,3,SONG ONE                                         
 fn tells_each_work(rt: HostRuntime) -> Result<(), Fail> {
     let alloc = rt.alloc();
     let mut book = Book::new(alloc, 100);
-    let transactions: [Told; 4] = [
+    let transactions: [Transaction; 4] = [
         (ONE, WorkKind::Nwr, TITLE, W1, None, [1, 20, 300]),
         (ONE, WorkKind::Nwr, TITLE, W7, None, [0; 3]),
         (ONE, WorkKind::Rev, TITLE, W1, ISWC, [4, 50, 600]),

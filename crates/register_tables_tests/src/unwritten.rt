@@ -2,7 +2,10 @@
 
 use crate::books::decisions;
 use cwr_sheets::same;
-use register_tables::{Unwritten, Wanted, claims_text, history_text, summary_text, works_text};
+use register_tables::{
+    Form, Told, Unwritten, Wanted, claims_table, history_json, history_table, summary_json,
+    summary_text, works_table,
+};
 use std::alloc::Global;
 use std::io;
 use std::io::Write;
@@ -24,17 +27,30 @@ impl Write for Full {
 }
 
 /// A table must end at the writer.
-fn expect_unwritten(table: Result<Full, Unwritten>) -> Result<(), Fail> {
+fn expect_unwritten(table: Result<Told<Full>, Unwritten>) -> Result<(), Fail> {
     same("its end", &table.err(), &Some(Unwritten::Write))
 }
 
-/// So must each table of a book, and its summary.
-fn expect_all_unwritten(alloc: Global, book: &Book) -> Result<(), Fail> {
+/// So must each table of a book.
+fn expect_no_table(alloc: Global, book: &Book, form: Form) -> Result<(), Fail> {
     let wanted = Wanted::all();
-    expect_unwritten(claims_text(alloc, Full, book, &wanted))?;
-    expect_unwritten(works_text(alloc, Full, book, &wanted))?;
-    expect_unwritten(history_text(alloc, Full, book, &wanted))?;
-    expect_unwritten(summary_text(alloc, Full, book))
+    expect_unwritten(claims_table(alloc, Full, book, &wanted, form))?;
+    expect_unwritten(works_table(alloc, Full, book, &wanted, form))?;
+    expect_unwritten(history_table(alloc, Full, book, &wanted, form))
+}
+
+/// A summary must end at the writer.
+fn expect_no_summary(summary: Result<Full, Unwritten>) -> Result<(), Fail> {
+    same("its end", &summary.err(), &Some(Unwritten::Write))
+}
+
+/// So must each table of a book, in both forms and as JSON, and its summary.
+fn expect_all_unwritten(alloc: Global, book: &Book) -> Result<(), Fail> {
+    expect_no_table(alloc, book, Form::Exact)?;
+    expect_no_table(alloc, book, Form::Plain)?;
+    expect_unwritten(history_json(alloc, Full, book, &Wanted::all()))?;
+    expect_no_summary(summary_text(alloc, Full, book))?;
+    expect_no_summary(summary_json(alloc, Full, book))
 }
 
 #[test]

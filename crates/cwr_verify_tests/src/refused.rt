@@ -1,0 +1,69 @@
+//! Requests for memory that are refused, each in turn.
+
+use byte_streams::{Feed, Room};
+use cwr_engine::{FileOutcome, Job, work_alone};
+use cwr_sheets::{SENDER, acknowledgement, decision, same_bytes, stamp, work_twice};
+use cwr_verify::{NoAnswer, answer};
+use refusing::{Ended, Refusing, Sweep, answered, refuse_each, refused};
+use std::alloc::Global;
+use std::test::Fail;
+use work_registry::Book;
+
+/// Makes the acknowledgement of a file again, of a book in which the file was worked.
+#[derive(Drop)]
+struct Again<'a> {
+    alloc: Global,
+    file: &'a [u8],
+    wanted: &'a [u8],
+}
+
+/// The book in which a file was worked; `None` where there was no memory for it.
+fn worked<'m>(
+    memory: &'m Refusing,
+    alloc: Global,
+    file: &[u8],
+) -> Result<Option<Book<&'m Refusing>>, Fail> {
+    let stamp = stamp()?;
+    let job = Job {
+        reader: Feed::new(file, 1000, None),
+        writer: Room::new(alloc, 1000, true)?,
+    };
+    let (book, _job, outcome) = work_alone(memory, Book::new(memory, 10), 1, job, &stamp);
+    match outcome {
+        FileOutcome::Acked { transactions: _ } => Ok(Some(book)),
+        _ => Ok(None),
+    }
+}
+
+impl Sweep for Again<'_> {
+    fn ends(&self, memory: &Refusing) -> Ended {
+        let Some(book) = worked(memory, self.alloc, self.file)? else {
+            return Ok(true);
+        };
+        let mut room = Room::new(self.alloc, self.wanted.len(), true)?;
+        match answer(memory, &book, self.file, &stamp()?, None, &mut room) {
+            Ok(()) => answered(same_bytes("the acknowledgement", room.bytes(), self.wanted)),
+            Err(NoAnswer::Memory) => refused(same_bytes("what was written", room.bytes(), b"")),
+            Err(_) => Err(Fail::new("another end")),
+        }
+    }
+}
+
+#[test]
+fn tells_refused_memory(rt: HostRuntime) -> Result<(), Fail> {
+    let alloc = rt.alloc();
+    let file = work_twice(alloc, SENDER)?;
+    let wanted = acknowledgement(
+        alloc,
+        &[
+            decision(0, "NWR", "W1", "00000001", "AS", &[]),
+            decision(1, "NWR", "W1", "00000001", "DU", &[]),
+        ],
+    )?;
+    let again = Again {
+        alloc,
+        file: &file,
+        wanted: &wanted,
+    };
+    refuse_each(alloc, &again)
+}

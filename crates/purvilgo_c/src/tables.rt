@@ -1,0 +1,142 @@
+ghost use Rattle.std.specs.Prelude.{◌≡◌, ◌≢◌, IfOk, length};
+ghost use Rattle.work_registry.specs.Numbers.{most_entries};
+ghost use Rattle.purvilgo_c.specs.Answers.{no_memory, faulty, IsTold};
+ghost use Rattle.purvilgo_c.specs.Registers.{IsFirstFault};
+ghost use Rattle.purvilgo_c.specs.Tables.{table_text, IsTableOf};
+ghost use Rattle.purvilgo_c.specs.declared.tables.Table.TheVariants as table;
+
+use crate::handing::hand_out;
+use crate::registers::{RegisterFault, tell_refusal};
+use crate::status::NO_MEMORY;
+use cwr_engine::MOST_ENTRIES;
+use register_tables::{Unwritten, Wanted, claims_text, history_text, summary_text, works_text};
+use std::alloc::Global;
+use work_registry::{Book, read_register};
+
+/// What is told of a register.
+#[derive(Clone, Copy)]
+pub(crate) enum Table {
+    /// The current claims, in the order of their entries.
+    Claims,
+    /// The works, by number.
+    Works,
+    /// Every entry, in order.
+    History,
+    /// How much of what there is.
+    Summary,
+}
+
+/// The current claims of a register as CSV, with a header line, at the front of `out`.
+///
+/// `NO_ROOM` where the text does not fit: then `length` is told, and `out` stays as it was. `FAULTY` tells in `fault` the
+/// first fault of a text that is no register of one registry; every other answer leaves `fault` as it was. `FAULTY` and
+/// `NO_MEMORY` leave `out` and `length`.
+#[unsafe(no_mangle)]
+pub extern "C" fn purvilgo_claims(
+    alloc: Global,
+    register: &[u8],
+    out: &mut [u8],
+    length: &mut usize,
+    fault: &mut RegisterFault,
+) -> u32
+    ensures told { result ≢ faulty → result ≢ no_memory → IsTold (IsTableOf table.Claims register.now) out.old out.new length.new result }
+    ensures faulty { result ≡ faulty → IsFirstFault most_entries register.now fault.new × (out.new ≡ out.old) × (length.new ≡ length.old) }
+    ensures same { result ≡ no_memory → (out.new ≡ out.old) × (length.new ≡ length.old) }
+    ensures untold { result ≢ faulty → fault.new ≡ fault.old }
+{
+    tell_table(alloc, register, Table::Claims, out, length, fault)
+}
+
+/// The works of a register as CSV, with a header line, at the front of `out`.
+///
+/// What each status leaves is as for [`purvilgo_claims`].
+#[unsafe(no_mangle)]
+pub extern "C" fn purvilgo_works(
+    alloc: Global,
+    register: &[u8],
+    out: &mut [u8],
+    length: &mut usize,
+    fault: &mut RegisterFault,
+) -> u32
+    ensures told { result ≢ faulty → result ≢ no_memory → IsTold (IsTableOf table.Works register.now) out.old out.new length.new result }
+    ensures faulty { result ≡ faulty → IsFirstFault most_entries register.now fault.new × (out.new ≡ out.old) × (length.new ≡ length.old) }
+    ensures same { result ≡ no_memory → (out.new ≡ out.old) × (length.new ≡ length.old) }
+    ensures untold { result ≢ faulty → fault.new ≡ fault.old }
+{
+    tell_table(alloc, register, Table::Works, out, length, fault)
+}
+
+/// Every entry of a register as CSV, with a header line, at the front of `out`.
+///
+/// What each status leaves is as for [`purvilgo_claims`].
+#[unsafe(no_mangle)]
+pub extern "C" fn purvilgo_history(
+    alloc: Global,
+    register: &[u8],
+    out: &mut [u8],
+    length: &mut usize,
+    fault: &mut RegisterFault,
+) -> u32
+    ensures told { result ≢ faulty → result ≢ no_memory → IsTold (IsTableOf table.History register.now) out.old out.new length.new result }
+    ensures faulty { result ≡ faulty → IsFirstFault most_entries register.now fault.new × (out.new ≡ out.old) × (length.new ≡ length.old) }
+    ensures same { result ≡ no_memory → (out.new ≡ out.old) × (length.new ≡ length.old) }
+    ensures untold { result ≢ faulty → fault.new ≡ fault.old }
+{
+    tell_table(alloc, register, Table::History, out, length, fault)
+}
+
+/// How much of what is in a register, as a page of lines, at the front of `out`.
+///
+/// What each status leaves is as for [`purvilgo_claims`].
+#[unsafe(no_mangle)]
+pub extern "C" fn purvilgo_summary(
+    alloc: Global,
+    register: &[u8],
+    out: &mut [u8],
+    length: &mut usize,
+    fault: &mut RegisterFault,
+) -> u32
+    ensures told { result ≢ faulty → result ≢ no_memory → IsTold (IsTableOf table.Summary register.now) out.old out.new length.new result }
+    ensures faulty { result ≡ faulty → IsFirstFault most_entries register.now fault.new × (out.new ≡ out.old) × (length.new ≡ length.old) }
+    ensures same { result ≡ no_memory → (out.new ≡ out.old) × (length.new ≡ length.old) }
+    ensures untold { result ≢ faulty → fault.new ≡ fault.old }
+{
+    tell_table(alloc, register, Table::Summary, out, length, fault)
+}
+
+/// Hands out a table of a register.
+fn tell_table(
+    alloc: Global,
+    register: &[u8],
+    table: Table,
+    out: &mut [u8],
+    length: &mut usize,
+    fault: &mut RegisterFault,
+) -> u32
+    ensures told { result ≢ faulty → result ≢ no_memory → IsTold (IsTableOf table register.now) out.old out.new length.new result }
+    ensures faulty { result ≡ faulty → IsFirstFault most_entries register.now fault.new × (out.new ≡ out.old) × (length.new ≡ length.old) }
+    ensures same { result ≡ no_memory → (out.new ≡ out.old) × (length.new ≡ length.old) }
+    ensures untold { result ≢ faulty → fault.new ≡ fault.old }
+{
+    match read_register(alloc, register, MOST_ENTRIES) {
+        Ok(book) => match text_of(alloc, &book, table) {
+            Ok(text) => hand_out(&text, out, length),
+            Err(_) => NO_MEMORY,
+        },
+        Err(refusal) => tell_refusal(refusal, fault),
+    }
+}
+
+/// A table of a book. A write into memory fails for want of memory alone.
+fn text_of(alloc: Global, book: &Book, table: Table) -> Result<Vec<u8>, Unwritten>
+    ensures { IfOk result (λ text. text.items ≡ table_text table book.now.history) }
+{
+    let text = Vec::new(alloc);
+    let all = Wanted::all();
+    match table {
+        Table::Claims => claims_text(alloc, text, book, &all),
+        Table::Works => works_text(alloc, text, book, &all),
+        Table::History => history_text(alloc, text, book, &all),
+        Table::Summary => summary_text(alloc, text, book),
+    }
+}

@@ -1,0 +1,12 @@
+use Rattle.std.proofs.Common.{[], ◌∷◌, codes}
+use Rattle.register_tables.specs.JsonValues.{count_data}
+use Rattle.register_tables.proofs.JsonObjects.{object_of, written}
+use Rattle.register_tables.proofs.summary_object.put_conflict.Goals as goal
+
+pub returns : goal.returns
+returns g c =
+    object_of c.args.out.now c.begin_object.new.self c.put_members.new.out c.end_object.new.self
+    ((codes "conflicts", count_data c.args.one.conflicts) ∷ (codes "work", count_data c.args.one.work) ∷ [])
+    (written c.in_ok-begin_object.ensures.ok c.in_ok-begin_object.ensures.room.0)
+    c.in_ok-put_members.ensures
+    (written c.in_ok-end_object.ensures.ok c.in_ok-end_object.ensures.room.0)

@@ -1,0 +1,60 @@
+-- What a summary of a register tells, as an object of JSON.
+use Rattle.std.specs.Prelude.{ℕ, List, map, codes, length}
+use Rattle.serde_json.specs.Data.{Data, array, object, no_members, put}
+use Rattle.serde_json.specs.View.{items_of}
+use Rattle.work_registry.specs.EntryValue.{EntryValue}
+use Rattle.work_registry.specs.Rows.{Row, rows_of}
+use Rattle.register_tables.specs.declared.tally.Tally.{Tally}
+use Rattle.register_tables.specs.declared.shares.Bands.{Bands}
+use Rattle.register_tables.specs.declared.conflicts.Conflicted.{Conflicted}
+use Rattle.register_tables.specs.JsonValues.{count_data, json_line}
+use Rattle.register_tables.specs.Summary.{bands_of, different, largest, left_of, submitters, tally_of, works}
+use Rattle.register_tables.specs.WorksTable.{last_work}
+
+-- a work, and how many conflicts there are on it
+abbrev pub conflict_data : Conflicted → Data
+conflict_data c = object (put (codes "conflicts") (count_data c.conflicts) (put (codes "work") (count_data c.work) no_members))
+
+abbrev pub conflicts_data : List Conflicted → Data
+conflicts_data cs = array (items_of (map conflict_data cs))
+
+-- how many works there are in each band of what is left
+abbrev pub bands_data : Bands → Data
+bands_data bands =
+    object (put (codes "all") (count_data bands.all)
+    (put (codes "more_than_half") (count_data bands.more)
+    (put (codes "none") (count_data bands.none)
+    (put (codes "up_to_half") (count_data bands.half)
+    (put (codes "up_to_quarter") (count_data bands.quarter) no_members)))))
+
+-- the works by what is left of a right
+abbrev pub right_data : ℕ → List Row → Data
+right_data right rows = bands_data (bands_of (map (left_of right rows) (works rows)))
+
+abbrev pub shares_data : List Row → Data
+shares_data rows =
+    object (put (codes "mechanical") (right_data 1 rows)
+    (put (codes "performing") (right_data 0 rows)
+    (put (codes "synchronization") (right_data 2 rows) no_members)))
+
+-- so many entries, works and submitters, entries by status, works by what is left, and the largest conflicts
+abbrev pub told_data : ℕ → ℕ → ℕ → Tally → Data → Data → Data
+told_data entries works submitters tally left conflicts =
+    object (put (codes "accepted") (count_data tally.accepted)
+    (put (codes "conflicts") (count_data tally.conflicts)
+    (put (codes "current_claims") (count_data tally.current)
+    (put (codes "duplicates") (count_data tally.duplicates)
+    (put (codes "entries") (count_data entries)
+    (put (codes "largest_conflicts") conflicts
+    (put (codes "left") left
+    (put (codes "rejected") (count_data tally.rejected)
+    (put (codes "submitters") (count_data submitters)
+    (put (codes "works") (count_data works) no_members))))))))))
+
+abbrev pub summary_data : List EntryValue → Data
+summary_data history =
+    told_data (length history) (last_work (rows_of history)) (length (different (submitters history))) (tally_of (rows_of history) history)
+    (shares_data (rows_of history)) (conflicts_data (largest history))
+
+abbrev pub summary_json : List EntryValue → List ℕ
+summary_json history = json_line (summary_data history)

@@ -1,0 +1,109 @@
+//! How the fields of a table stand in it.
+
+ghost use Rattle.std.specs.Prelude.{◌≡◌, ◌++◌, OnOk};
+ghost use Rattle.register_tables.specs.declared.form.Form.TheVariants.{Plain};
+ghost use Rattle.register_tables.specs.Fields.{guarded, is_formula, mechanical_name, performing_name, share_field, synchronization_name, text_field, unpadded};
+
+use cwr_field::{Memory, put_decimal, put_digits};
+use std::alloc::Allocator;
+
+/// How the fields of a table stand in it.
+#[derive(Clone, Copy, Debug, PartialEq, Eq)]
+pub enum Form {
+    /// As the register has them: texts with the blanks behind them, shares in hundredths of one per cent.
+    Exact,
+    /// For spreadsheets: texts without the blanks behind them, and with an apostrophe before what else were taken for a
+    /// formula (it begins with `=`, `+`, `-`, `@`, TAB or CR); shares in per cent, with two places. The columns of control
+    /// are named so.
+    Plain,
+}
+
+/// The name of the column of the performing right.
+pub(crate) fn performing_name(form: Form) -> &'static [u8]
+    ensures { result.now ≡ performing_name form }
+{
+    match form {
+        Form::Exact => b"performing",
+        Form::Plain => b"performing_control",
+    }
+}
+
+/// The name of the column of the mechanical right.
+pub(crate) fn mechanical_name(form: Form) -> &'static [u8]
+    ensures { result.now ≡ mechanical_name form }
+{
+    match form {
+        Form::Exact => b"mechanical",
+        Form::Plain => b"mechanical_control",
+    }
+}
+
+/// The name of the column of the synchronization right.
+pub(crate) fn synchronization_name(form: Form) -> &'static [u8]
+    ensures { result.now ≡ synchronization_name form }
+{
+    match form {
+        Form::Exact => b"synchronization",
+        Form::Plain => b"synchronization_control",
+    }
+}
+
+/// Makes a field a text as it stands in a plain table.
+pub(crate) fn set_plain<A: Allocator + Copy + Drop>(
+    field: &mut Vec<u8, A>,
+    text: &[u8],
+) -> Result<(), Memory>
+    ensures { OnOk result (field.new.items ≡ text_field Plain text.now) }
+{
+    field.clear();
+    put_guarded(field, unpadded(text))
+}
+
+/// Appends a text, with an apostrophe before it where it else were taken for a formula.
+fn put_guarded<A: Allocator + Copy + Drop>(
+    field: &mut Vec<u8, A>,
+    text: &[u8],
+) -> Result<(), Memory>
+    ensures { OnOk result (field.new.items ≡ field.old.items ++ guarded text.now) }
+{
+    if is_formula(text) {
+        field.push(b'\'')?;
+    }
+    field.extend_from_slice(text)?;
+    Ok(())
+}
+
+/// A text without the blanks behind it.
+fn unpadded(text: &[u8]) -> &[u8]
+    ensures { result.now ≡ unpadded text.now }
+{
+    let mut rest = text;
+    while let [front @ .., b' '] = rest {
+        rest = front;
+    }
+    rest
+}
+
+/// Whether a spreadsheet takes a text for a formula.
+fn is_formula(text: &[u8]) -> bool
+    ensures { result ≡ is_formula text.now }
+{
+    match text.first() {
+        Some(byte) => matches!(*byte, b'=' | b'+' | b'-' | b'@' | b'\t' | b'\r'),
+        None => false,
+    }
+}
+
+/// Makes a field a share as it stands in a plain table.
+pub(crate) fn set_percent<A: Allocator + Copy + Drop>(
+    field: &mut Vec<u8, A>,
+    share: u64,
+) -> Result<(), Memory>
+    ensures { OnOk result (field.new.items ≡ share_field Plain share) }
+{
+    field.clear();
+    put_decimal(field, share / 100)?;
+    field.extend_from_slice(b".")?;
+    put_digits(field, share % 100, 2)?;
+    Ok(())
+}
