@@ -1,5 +1,5 @@
 pub mod Sending
-pub mod GivenBytes
 pub mod lemmas
 mod Windows
 mod Stops
+mod Consumed

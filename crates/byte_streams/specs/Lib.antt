@@ -6,3 +6,4 @@ pub mod Spool
 pub mod Through
 pub mod GivenBytes
 pub mod Window
+pub mod Consuming

@@ -2,9 +2,11 @@
 //!
 //! A [`Source`] gives bytes and a [`Sink`] takes them, a few at a time. [`Through`] is both over a reader or a writer
 //! of std; [`Feed`], [`Room`] and [`Spool`] lie in memory, and contracts see their bytes. [`read_file`] reads a source to its end,
-//! up to a limit, and [`write_out`] sends a whole text into a sink. A [`Window`] holds of a source what was read and not passed.
+//! up to a limit, and [`write_out`] sends a whole text into a sink. A [`Window`] holds of a source what was read and not passed, and
+//! [`consume`] gives a [`Consumer`] the lines of a source as they come.
 #![tactic(auto)]
 
+mod consuming;
 mod failed;
 mod feed;
 mod reading;
@@ -16,6 +18,7 @@ mod spool;
 mod through;
 mod window;
 
+pub use consuming::{ConsumeError, Consumer, consume};
 pub use cwr_field::Memory;
 pub use failed::Failed;
 pub use feed::Feed;

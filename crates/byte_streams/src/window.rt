@@ -1,13 +1,12 @@
 //! The bytes of a source, through a window.
 
-ghost use Rattle.std.specs.Prelude.{◌≡◌, ◌+◌, ◌-◌, ◌≤◌, ◌<◌, ◌==◌, ◌++◌, List, ℕ, [], true, false, length, take, drop, vec_len, IfOk, IfErr, OnOk};
-ghost use Rattle.std.specs.List.{position};
+ghost use Rattle.std.specs.Prelude.{◌≡◌, ◌+◌, ◌-◌, ◌≤◌, ◌<◌, ◌++◌, List, ℕ, [], true, false, length, take, drop, vec_len, IfOk, IfErr, OnOk};
 ghost use Rattle.std.specs.Io.KnownBytes.{IsAtEnd};
 ghost use Rattle.byte_streams.specs.GivenBytes.{HasGiven};
 ghost use Rattle.byte_streams.specs.Window.{HasRead, IsRest, IsStopped, between};
 
 use crate::{ReadRefused, Source};
-use cwr_field::Memory;
+use cwr_field::{Memory, line_end};
 use std::alloc::{Allocator, Global};
 use std::marker::Model;
 
@@ -175,11 +174,4 @@ fn make_room<A: Allocator>(
         bytes.resize(if size == 0 { 1 } else { 2 * size }, 0)?;
     }
     Ok(())
-}
-
-/// The index of the first LF.
-fn line_end(bytes: &[u8]) -> Option<usize>
-    ensures { result ≡ position (λ b. b == 10) bytes.now }
-{
-    bytes.iter().position(|byte| *byte == b'\n')
 }

@@ -1,5 +1,5 @@
 -- One line more, and one item more.
-use Rattle.std.proofs.Common.{◌≡◌, ◌∙◌, ℕ, zero, suc, ◌+◌, ◌<◌, ◌≤◌, List, [], ◌∷◌, ◌++◌, length, take, drop, get_or, slice_get, Some, ap, subst, append_assoc, arith}
+use Rattle.std.proofs.Common.{◌≡◌, ◌∙◌, ℕ, zero, suc, ◌+◌, ◌<◌, ◌≤◌, List, [], ◌∷◌, ◌++◌, length, take, drop, get_or, slice_get, Option, Some, None, option_map, refl, ap, subst, append_assoc, arith}
 use Rattle.std.specs.List.{flat_map, AllByRecursion}
 use Rattle.std.proofs.lemmas.List.{drop_more, append-nil}
 use Rattle.std.proofs.lemmas.Option.{get_or_from_slice_get, slice_get_within}
@@ -47,12 +47,32 @@ told_within items i item is =
     let same = ap (λ (x : Item). length (told_faults x)) (get_or_from_slice_get items i item item is) in
     omega (arith, le, same)
 
+-- the item of which so many faults are told
+counted : (items : List Item) (i n : ℕ) → option_map (λ (x : Item). length (told_faults x)) (slice_get items i) ≡ Some n
+    → (item : Item) × (slice_get items i ≡ Some item) × (length (told_faults item) ≡ n)
+counted items i n is = go (slice_get items i) refl is where
+  go : (found : Option Item) → slice_get items i ≡ found → option_map (λ (x : Item). length (told_faults x)) found ≡ Some n
+      → (item : Item) × (slice_get items i ≡ Some item) × (length (told_faults item) ≡ n)
+  go None e of = absurd cc
+  go (Some item) e of = (item, e, cc)
+
+-- the next item's count is no more than that of all
+pub count_within : (items : List Item) (i n : ℕ) → option_map (λ (x : Item). length (told_faults x)) (slice_get items i) ≡ Some n
+    → told_count (take i items) + n ≤ told_count items
+count_within items i n is =
+    let at = counted items i n is in
+    let within = told_within items i at.0 at.1 in
+    let count = at.2 in
+    omega (arith, within, count)
+
 -- the faults that are told with one item more
-pub told_more : (items : List Item) (i : ℕ) (item : Item) → slice_get items i ≡ Some item
-    → told_count (take (i + 1) items) ≡ told_count (take i items) + length (told_faults item)
-told_more items i item is =
-    let lines = lines_more items i item (slice_get_within items i item is) is in
-    omega (arith, lines)
+pub count_more : (items : List Item) (i n : ℕ) → option_map (λ (x : Item). length (told_faults x)) (slice_get items i) ≡ Some n
+    → told_count (take (i + 1) items) ≡ told_count (take i items) + n
+count_more items i n is =
+    let at = counted items i n is in
+    let lines = lines_more items i at.0 (slice_get_within items i at.0 at.1) at.1 in
+    let count = at.2 in
+    omega (arith, lines, count)
 
 -- an item of a list whose items all fit
 pub fits_at : (items : List Item) (i : ℕ) (item : Item) → AllByRecursion FitsItem items → slice_get items i ≡ Some item → FitsItem item

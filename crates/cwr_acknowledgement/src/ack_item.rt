@@ -1,4 +1,4 @@
-use crate::answers::{Answers, Told};
+use crate::answers::{Answers, Told, told_faults};
 use cwr_call::Faults;
 use cwr_record::{Status, WorkKind};
 use std::alloc::{Allocator, Global};
@@ -69,5 +69,11 @@ impl<'a, A: Allocator> Answers for Listed<'a, A> {
             work: item.work,
             faults: item.faults.as_slice(),
         }
+    }
+
+    #[inline]
+    fn fault_count(&self, index: usize) -> usize {
+        let item = &self.items[index];
+        told_faults(item.status, item.faults.as_slice()).len()
     }
 }

@@ -174,7 +174,7 @@ fn told_count<L: Answers>(answers: &L) -> u32
 {
     let mut count: u32 = 0;
     for index in 0..answers.len() {
-        count += answers.told(index).told_faults().len() as u32;
+        count += answers.fault_count(index) as u32;
     }
     count
 }

@@ -1,5 +1,5 @@
-ghost use Rattle.std.specs.Prelude.{◌≡◌, ◌<◌, List, Some, length, slice_get};
-ghost use Rattle.cwr_acknowledgement.specs.AckItem.{Item, told_faults};
+ghost use Rattle.std.specs.Prelude.{◌≡◌, ◌<◌, List, [], Some, if◌then◌else◌, length, option_map, slice_get};
+ghost use Rattle.cwr_acknowledgement.specs.AckItem.{Item, is_rejected, told_faults};
 
 use cwr_call::Fault;
 use cwr_record::{Status, WorkKind};
@@ -49,10 +49,19 @@ impl<'a> Told<'a> {
     pub(crate) fn told_faults(&self) -> &[Fault]
         ensures { result.now ≡ told_faults self.now }
     {
-        match self.status {
-            Status::Rejected => self.faults,
-            Status::Accepted | Status::Duplicate | Status::Conflict => &[],
-        }
+        told_faults(self.status, self.faults)
+    }
+}
+
+/// Those of a transaction's faults that the acknowledgement tells with this decision: all of a rejected one, and none of
+/// any other.
+#[inline]
+pub fn told_faults(status: Status, faults: &[Fault]) -> &[Fault]
+    ensures { result.now ≡ (if is_rejected status then faults.now else []) }
+{
+    match status {
+        Status::Rejected => faults,
+        Status::Accepted | Status::Duplicate | Status::Conflict => &[],
     }
 }
 
@@ -69,4 +78,9 @@ pub trait Answers {
     fn told(&self, index: usize) -> Told<'_>
         requires { index < length (items self.now) }
         ensures { slice_get (items self.now) index ≡ Some result };
+
+    /// How many faults the acknowledgement tells of the one with this place.
+    fn fault_count(&self, index: usize) -> usize
+        requires { index < length (items self.now) }
+        ensures { option_map (λ item. length (told_faults item)) (slice_get (items self.now) index) ≡ Some result };
 }

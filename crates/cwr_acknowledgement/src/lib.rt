@@ -1,6 +1,7 @@
 //! The acknowledgement file that answers a submission, for the registry's decision on each transaction, an [`AckItem`]:
 //! [`ack_file`] is its text, and [`send_ack`] writes it out piece after piece. [`send_answers`] does so for [`Answers`]
-//! that are kept in another form than that of items. [`message_text`] is the text of one fault in it.
+//! that are kept in another form than that of items. Of the faults of a transaction it tells those that [`told_faults`]
+//! gives. [`message_text`] is the text of one of them in it.
 #![tactic(auto)]
 
 mod ack_form;
@@ -19,7 +20,7 @@ mod told;
 
 pub use ack_item::AckItem;
 pub use acknowledgement::{ack_file, send_ack, send_answers};
-pub use answers::{Answers, Told};
+pub use answers::{Answers, Told, told_faults};
 pub use cwr_call::{Fault, Faults};
 pub use cwr_field::Memory;
 pub use cwr_record::{Header, Stamp, Status, WorkKind};

@@ -67,7 +67,8 @@ pub(crate) fn are_faults(faults: &[Fault]) -> bool
 }
 
 /// Whether no control is above the limit.
-pub(crate) fn are_at_most(limit: u64, control: &[u64]) -> bool
+#[inline(always)]
+pub fn are_at_most(limit: u64, control: &[u64]) -> bool
     ensures { result ≡ are_at_most limit control.now }
 {
     control.iter().all(|right| *right <= limit)
@@ -81,7 +82,8 @@ pub(crate) fn is_whole(faults: &[Fault], control: &[u64]) -> bool
 }
 
 /// Whether the number has no more digits than an ISWC.
-pub(crate) fn is_iswc(iswc: Option<u64>) -> bool
+#[inline(always)]
+pub fn is_iswc(iswc: Option<u64>) -> bool
     ensures { result ≡ is_iswc iswc }
 {
     match iswc {

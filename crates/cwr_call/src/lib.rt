@@ -9,4 +9,5 @@ mod transaction_fault;
 pub use call::Call;
 pub use cwr_field::Memory;
 pub use cwr_record::WorkKind;
+pub use lawful::{are_at_most, is_iswc};
 pub use transaction_fault::{Fault, Faults};

@@ -96,7 +96,6 @@ pub told_more : (submitter text next : List ℕ) (transactions faulty now_faulty
 told_more submitter text next transactions faulty now_faulty whole t faults is wrote counted h =
     let one : cond (not (is_none_found faults)) 1 0 ≤ 1 = (elim (not (is_none_found faults)) as (λ b. cond b 1 0 ≤ 1) [ true ↦ omega arith | false ↦ omega arith ]) in
     record {
-      clean = h.clean;
       text_is = text_more submitter text next whole t faults is h.text_is wrote;
       transactions_are = omega (arith, h.transactions_are, length-append whole (t ∷ []));
       faulty_are =

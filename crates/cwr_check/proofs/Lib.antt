@@ -1,4 +1,3 @@
 pub mod CheckSteps
 pub mod Total
-pub mod Submitters
 pub mod OpenJudges

@@ -1,7 +1,6 @@
 -- What a check tells of the transactions of a file so far, while the file is read.
-use Rattle.std.specs.Prelude.{ℕ, ◌≡◌, ◌≤◌, ◌<◌, ◌^◌, IsTrue, List, length, Option, Some, None}
+use Rattle.std.specs.Prelude.{ℕ, ◌≡◌, ◌≤◌, ◌<◌, ◌^◌, List, length, Option, Some, None}
 use Rattle.std.specs.List.{flat_map}
-use Rattle.cwr_call.specs.Lawful.{is_clean}
 use Rattle.cwr_grammar.specs.RawParts.{RawParts}
 use Rattle.cwr_rules.specs.Judging.{JudgeState, IsJudging}
 use Rattle.cwr_check.specs.declared.check_lines.Place.{Place}
@@ -17,7 +16,6 @@ pub record IsPlaceOf (place : Place) (t : RawParts) : Type 0 where
 
 -- the lines of these transactions, how many they are, and how many of them have faults
 pub record IsTold (submitter text : List ℕ) (transactions faulty : ℕ) (whole : List RawParts) : Type 0 where
-  pub clean : IsTrue (is_clean submitter)
   pub text_is : text ≡ flat_map (transaction_line submitter) whole
   pub transactions_are : transactions ≡ length whole
   pub faulty_are : faulty ≡ faulty_count submitter whole

@@ -106,19 +106,21 @@ fn put_fault<A: Allocator>(out: &mut Vec<u8, A>, fault: &Fault) -> Result<(), Me
     put_decimal(out, fault.sequence as u64)?;
     out.push(b':')?;
     out.push(b'J')?;
-    put_rule(out, fault.number)
+    put_number(out, fault.number as u64)
 }
 
-/// Appends the number of a rule.
+/// Appends a number. One digit, as many numbers have, is appended alone.
+///
+/// A refusal may leave a part of it.
 #[inline(always)]
-fn put_rule<A: Allocator>(out: &mut Vec<u8, A>, number: u8) -> Result<(), Memory>
+pub fn put_number<A: Allocator>(out: &mut Vec<u8, A>, number: u64) -> Result<(), Memory>
     ensures { OnOk result (out.new.items ≡ out.old.items ++ decimal number) }
 {
     if number < 10 {
-        out.push(b'0' + number)?;
+        out.push(b'0' + number as u8)?;
         return Ok(());
     }
-    put_decimal(out, number as u64)
+    put_decimal(out, number)
 }
 
 /// Appends the last line of a check: how many transactions a file has, and how many of them have faults.

@@ -1,7 +1,6 @@
-ghost use Rattle.std.specs.Prelude.{◌≡◌, ◌+◌, ◌≤◌, ◌<◌, ℕ, List, true, false, length, IfOk, IfErr, IfSome, IsErrOf, IsTrue};
+ghost use Rattle.std.specs.Prelude.{◌≡◌, ◌+◌, ◌≤◌, ◌<◌, ℕ, List, true, false, length, IfOk, IfErr, IfSome, IsErrOf};
 ghost use Rattle.std.specs.Str.Lines.{lines};
 ghost use Rattle.byte_streams.specs.GivenBytes.{HasGiven};
-ghost use Rattle.cwr_call.specs.Lawful.{is_clean};
 ghost use Rattle.cwr_grammar.specs.Faults.{IsLeastFault};
 ghost use Rattle.cwr_source.specs.Input.{IsInput, IsUnjudged};
 ghost use Rattle.cwr_check.specs.CheckText.{IsCheck, IsCheckOfFault, IsCheckOfFile};
@@ -9,9 +8,8 @@ ghost use Rattle.cwr_check.specs.CheckText.{IsCheck, IsCheckOfFault, IsCheckOfFi
 use crate::lines_so_far::LinesSoFar;
 use byte_streams::{ReadRefused, Source};
 use cwr_field::Memory;
-use cwr_grammar::{FileRefusal, file_header, visit_file};
-use cwr_record::Header;
-use cwr_source::{SourceFile, SourceRefused};
+use cwr_grammar::{FileRefusal, visit_file};
+use cwr_source::{SourceRefused, visit_source};
 use std::alloc::{Allocator, Global};
 
 /// What a check found in a file.
@@ -34,7 +32,7 @@ pub struct Checked<A: Allocator = Global> {
 pub fn check_text<A: Allocator + Copy>(alloc: A, bytes: &[u8]) -> Result<Checked<A>, Memory>
     ensures { IfOk result (λ checked. IsCheck (lines bytes.now) checked.text.items checked.clean) }
 {
-    let mut told = LinesSoFar::new(alloc, submitter_of(&file_header(bytes)));
+    let mut told = LinesSoFar::new(alloc);
     match visit_file(bytes, &mut told) {
         Ok(_) => Ok(told.finish()?),
         Err(FileRefusal::Fault { number, line }) => check_of_fault(alloc, number, line),
@@ -87,24 +85,10 @@ fn check_of_file<R: Source, A: Allocator + Copy>(
     ensures read_on { HasGiven (R.left reader.old) (R.left reader.new) }
     ensures few_reads { R.reads reader.new ≤ R.reads reader.old + limit + 2 }
 {
-    let file = SourceFile::open(alloc, reader, limit, room)?;
-    let mut told = LinesSoFar::new(alloc, submitter_of(&file.header()));
-    file.visit(reader, &mut told)?;
+    let (_, told) = visit_source(alloc, reader, limit, room, LinesSoFar::new(alloc))?;
     match told.finish() {
         Ok(checked) => Ok(checked),
         Err(_) => Err(SourceRefused::Memory),
-    }
-}
-
-/// The submitter that a header tells, or blanks where there is none.
-fn submitter_of(header: &Option<Header>) -> [u8; 11]
-    requires { IfSome header.now (λ h. IsTrue (is_clean h.sender)) }
-    ensures clean { IsTrue (is_clean result) }
-    ensures submitter { IfSome header.now (λ h. result ≡ h.sender) }
-{
-    match header {
-        Some(header) => header.sender,
-        None => [b' '; 11],
     }
 }
 

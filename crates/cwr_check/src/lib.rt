@@ -7,6 +7,6 @@ mod checking;
 mod lines_so_far;
 
 pub use byte_streams::ReadRefused;
-pub use check_lines::put_total;
+pub use check_lines::{put_number, put_total};
 pub use checking::{Checked, check_source, check_text};
 pub use cwr_field::Memory;

@@ -1,5 +1,4 @@
-ghost use Rattle.std.specs.Prelude.{◌≡◌, ◌==◌, ◌≤◌, ◌<◌, ◌^◌, ◌∷◌, ◌++◌, if◌then◌else◌, false, Some, None, [], List, IsTrue, IfOk, OnOk};
-ghost use Rattle.cwr_call.specs.Lawful.{is_clean};
+ghost use Rattle.std.specs.Prelude.{◌≡◌, ◌==◌, ◌≤◌, ◌<◌, ◌^◌, ◌∷◌, ◌++◌, if◌then◌else◌, ℕ, false, Some, None, [], List, IfOk, OnOk};
 ghost use Rattle.cwr_grammar.specs.RawParts.{RawParts};
 ghost use Rattle.cwr_check.specs.CheckText.{check_lines, faults_in, faulty_count};
 ghost use Rattle.cwr_check.specs.LinesSoFar.{IsOpenAt, IsPlaceOf, IsTold};
@@ -9,15 +8,13 @@ use crate::checking::Checked;
 use cwr_call::Fault;
 use cwr_field::Memory;
 use cwr_grammar::Visitor;
-use cwr_record::{RecordType, WorkKind};
+use cwr_record::{Header, RecordType, WorkKind};
 use cwr_rules::Judge;
 use std::alloc::Allocator;
 
-/// The lines of a check, of the transactions of a file so far.
+/// The lines of a check, of the transactions of a file so far. No fault depends on who submits them.
 #[derive(Drop)]
 pub(crate) struct LinesSoFar<A: Allocator> {
-    /// Who submits the file, for contracts: the text is told of its calls, and no fault of them depends on it.
-    submitter: [u8; 11],
     text: Vec<u8, A>,
     /// How many transactions were judged.
     transactions: u64,
@@ -33,14 +30,11 @@ pub(crate) struct LinesSoFar<A: Allocator> {
 
 impl<A: Allocator + Copy> LinesSoFar<A> {
     /// Before the first transaction. No memory is asked for.
-    pub(crate) fn new(alloc: A, submitter: [u8; 11]) -> LinesSoFar<A>
-        requires clean { IsTrue (is_clean submitter) }
-        ensures submitter { result.submitter ≡ submitter }
-        ensures told { IsTold result.submitter result.text.items result.transactions result.faulty [] }
+    pub(crate) fn new(alloc: A) -> LinesSoFar<A>
+        ensures told { (submitter : List ℕ) → IsTold submitter result.text.items result.transactions result.faulty [] }
         ensures none { result.is_open ≡ false }
     {
         LinesSoFar {
-            submitter,
             text: Vec::new(alloc),
             transactions: 0,
             faulty: 0,
@@ -61,9 +55,9 @@ impl<A: Allocator + Copy> LinesSoFar<A> {
         requires few { self.old.transactions < 2 ^ 63 }
         requires faulty { self.old.faulty ≤ self.old.transactions }
         ensures same { OnOk result (self.new ≡ record self.old { text = self.new.text; transactions = self.new.transactions; faulty = self.new.faulty }) }
-        ensures told { OnOk result ((whole : List RawParts) (t : RawParts) → IsPlaceOf self.old.place t → faults.now ≡ faults_in self.old.submitter t
-            → IsTold self.old.submitter self.old.text.items self.old.transactions self.old.faulty whole
-            → IsTold self.old.submitter self.new.text.items self.new.transactions self.new.faulty (whole ++ t ∷ [])) }
+        ensures told { OnOk result ((submitter : List ℕ) (whole : List RawParts) (t : RawParts) → IsPlaceOf self.old.place t → faults.now ≡ faults_in submitter t
+            → IsTold submitter self.old.text.items self.old.transactions self.old.faulty whole
+            → IsTold submitter self.new.text.items self.new.transactions self.new.faulty (whole ++ t ∷ [])) }
     {
         put_transaction(&mut self.text, self.place, faults)?;
         self.transactions += 1;
@@ -73,8 +67,8 @@ impl<A: Allocator + Copy> LinesSoFar<A> {
 
     /// What is told of a file, once all its transactions were judged.
     pub(crate) fn finish(self) -> Result<Checked<A>, Memory>
-        ensures lines { IfOk result (λ checked. (whole : List RawParts) → IsTold self.submitter self.text.items self.transactions self.faulty whole → checked.text.items ≡ check_lines self.submitter whole) }
-        ensures clean { IfOk result (λ checked. (whole : List RawParts) → IsTold self.submitter self.text.items self.transactions self.faulty whole → checked.clean ≡ (faulty_count self.submitter whole == 0)) }
+        ensures lines { IfOk result (λ checked. (submitter : List ℕ) (whole : List RawParts) → IsTold submitter self.text.items self.transactions self.faulty whole → checked.text.items ≡ check_lines submitter whole) }
+        ensures clean { IfOk result (λ checked. (submitter : List ℕ) (whole : List RawParts) → IsTold submitter self.text.items self.transactions self.faulty whole → checked.clean ≡ (faulty_count submitter whole == 0)) }
     {
         let mut text = self.text;
         put_total(&mut text, self.transactions, self.faulty)?;
@@ -86,7 +80,9 @@ impl<A: Allocator + Copy> LinesSoFar<A> {
 }
 
 impl<A: Allocator + Copy> Visitor for LinesSoFar<A> {
-    ghost keeps = { λ first l whole current. (l.submitter ≡ first.submitter) × IsTold l.submitter l.text.items l.transactions l.faulty whole × IsOpenAt l.place (if l.is_open then Some l.judge else None) current };
+    ghost keeps = { λ first l head whole current. ((submitter : List ℕ) → IsTold submitter l.text.items l.transactions l.faulty whole) × IsOpenAt l.place (if l.is_open then Some l.judge else None) current };
+
+    fn header(&mut self, _header: &Header) {}
 
     fn begin(
         &mut self,

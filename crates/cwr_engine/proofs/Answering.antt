@@ -1,6 +1,6 @@
 -- One transaction more was handed in and got a reply.
 use Rattle.std.proofs.Common.{◌≡◌, ◌∙◌, ℕ, zero, suc, ◌+◌, ◌<◌, ◌≤◌, ◌^◌, Bool, true, false, cond, List, [], ◌∷◌, ◌++◌, length, take, drop, get_or, slice_get, min, map, Option, Some, None, IsTrue, refl, sym, ap, subst, arith, append_assoc, append-nil, length-append}
-use Rattle.std.specs.Prelude.{◌&&◌, nat_le}
+use Rattle.std.specs.Prelude.{◌&&◌, if◌then◌else◌, nat_le, option_map}
 use Rattle.std.specs.Char.{is_ascii_uppercase}
 use Rattle.std.specs.List.{list_all, AllByRecursion}
 use Rattle.std.specs.Option.{ForSome}
@@ -8,7 +8,7 @@ use Rattle.std.proofs.lemmas.Bool.Decides.{nat_tests}
 use Rattle.cwr_field.specs.Number.{most_count}
 use Rattle.cwr_field.proofs.lemmas.Tests.{parts}
 use Rattle.cwr_record.specs.declared.works.WorkKind.{WorkKind}
-use Rattle.cwr_acknowledgement.specs.AckItem.{Item, is_rejected}
+use Rattle.cwr_acknowledgement.specs.AckItem.{Item, is_rejected, told_faults}
 use Rattle.cwr_acknowledgement.specs.Acknowledgement.{FitsItem, FitsFault}
 use Rattle.cwr_grammar.specs.RawParts.{RawParts, IsPlaced}
 use Rattle.cwr_record.specs.declared.status.Status.{Status}
@@ -130,6 +130,18 @@ told_by judged replies i j d e kind title number status work faults lt is k t n 
     let parts : item ≡ told_of j r = λ x. record { group = j.group; sequence = j.sequence; kind = k x; title = t x; number = n x; status = s x; work = w x; faults = f x } in
     told_at judged replies i d e (judged_within judged replies i lt) (reply_within judged replies i lt)
     ∙ ap (λ (x : JudgedValue). Some (told_of x r)) (sym is) ∙ ap Some (sym parts)
+
+-- how many faults are told of one of them
+pub counted_by : (judged : List JudgedValue) (replies : List Reply) (i : ℕ) (j d : JudgedValue) (e : Reply) (status : Status) (faults told : List Fault) (n : ℕ)
+    → i < length (told_all judged replies) → j ≡ get_or judged i d → status ≡ status_in (get_or replies i e) → faults ≡ j.call.faults
+    → told ≡ (if is_rejected status then faults else []) → n ≡ length told
+    → option_map (λ item. length (told_faults item)) (slice_get (told_all judged replies) i) ≡ Some n
+counted_by judged replies i j d e status faults told n lt is s f t count =
+    let r : Reply = get_or replies i e in
+    let parts : told ≡ told_faults (told_of j r) = t ∙ (λ x. if is_rejected (s x) then f x else []) in
+    let size : n ≡ length (told_faults (told_of (get_or judged i d) r)) = count ∙ ap length parts ∙ ap (λ (x : JudgedValue). length (told_faults (told_of x r))) is in
+    ap (option_map (λ (item : Item). length (told_faults item))) (told_at judged replies i d e (judged_within judged replies i lt) (reply_within judged replies i lt))
+    ∙ ap Some (sym size)
 
 pub told_next : (judged others : List JudgedValue) (j : JudgedValue) (replies next : List Reply) (r : Reply) → drop (length replies) judged ≡ j ∷ others
     → next ≡ replies ++ r ∷ [] → told_all judged next ≡ told_all judged replies ++ told_of j r ∷ []

@@ -5,7 +5,7 @@ ghost use Rattle.cwr_acknowledgement.specs.Acknowledgement.{FitsItem, most_told,
 ghost use Rattle.cwr_engine.specs.Told.{told_all};
 
 use crate::judged::Judged;
-use cwr_acknowledgement::{Answers, Told};
+use cwr_acknowledgement::{Answers, Told, told_faults};
 use cwr_record::Header;
 use std::alloc::{Allocator, Global};
 use work_registry::Reply;
@@ -30,11 +30,14 @@ impl<A: Allocator> AnsweredFile<A> {
     }
 }
 
-/// The transactions of a file that got replies, which are the first ones, and the replies.
+/// The transactions of a file that got replies, which are the first ones, and the replies: what the acknowledgement of
+/// such a file tells.
 #[derive(Drop)]
-pub(crate) struct Answered<'a, A: Allocator> {
-    pub(crate) transactions: &'a [Judged<A>],
-    pub(crate) replies: &'a [Reply],
+pub struct Answered<'a, A: Allocator = Global> {
+    /// The transactions, in the order of the file.
+    pub transactions: &'a [Judged<A>],
+    /// The reply to each of the first of them.
+    pub replies: &'a [Reply],
 }
 
 impl<'a, A: Allocator> Answers for Answered<'a, A> {
@@ -63,5 +66,11 @@ impl<'a, A: Allocator> Answers for Answered<'a, A> {
             work: reply.work(),
             faults: call.faults(),
         }
+    }
+
+    #[inline]
+    fn fault_count(&self, index: usize) -> usize {
+        let transaction = &self.transactions[index];
+        told_faults(self.replies[index].status(), transaction.call.faults()).len()
     }
 }

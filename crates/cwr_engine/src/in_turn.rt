@@ -41,8 +41,7 @@ pub fn serve_in_turn<R: Source + Drop, W: Sink + Drop, A: Allocator + Copy + Dro
     let (book, mut jobs, mut outcomes) = turn_from(alloc, book, 1, jobs, outcomes, stamp);
     jobs.reverse();
     outcomes.reverse();
-    // Looking at it tells the check what holds in every book.
-    let _entries = book.history().len();
+    book.recall();
     Ok(Run {
         book,
         outcomes,

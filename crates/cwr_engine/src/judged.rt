@@ -1,18 +1,16 @@
-ghost use Rattle.std.specs.Prelude.{◌≡◌, ◌+◌, ◌≤◌, ◌<◌, ℕ, List, false, IfOk, IfErr, IfSome, IsTrue};
+ghost use Rattle.std.specs.Prelude.{◌≡◌, ◌+◌, ◌≤◌, ◌<◌, ℕ, List, false, IfOk, IfErr};
 ghost use Rattle.std.specs.Str.Lines.{lines};
-ghost use Rattle.cwr_grammar.specs.File.{File, IsFile};
 ghost use Rattle.cwr_grammar.specs.Submitted.{IsRefusal};
 ghost use Rattle.byte_streams.specs.GivenBytes.{HasGiven};
-ghost use Rattle.cwr_call.specs.Lawful.{is_clean};
 ghost use Rattle.cwr_source.specs.Input.{IsInput, IsUnjudged};
 ghost use Rattle.cwr_engine.specs.Judged.{WasJudged};
 
 use crate::judged_so_far::JudgedSoFar;
 use byte_streams::Source;
 use cwr_call::Call;
-use cwr_grammar::{FileRefusal, file_header, parse_file, visit_file};
+use cwr_grammar::{FileRefusal, visit_file};
 use cwr_record::Header;
-use cwr_source::{SourceFile, SourceRefused};
+use cwr_source::{SourceRefused, visit_source};
 use std::alloc::{Allocator, Global};
 use std::marker::Model;
 
@@ -55,26 +53,12 @@ pub fn judge_file<A: Allocator + Copy>(alloc: A, bytes: &[u8]) -> Result<JudgedF
     ensures judged { IfOk result (λ file. WasJudged bytes.now file.header file.transactions.items) }
     ensures fault { IfErr result (IsRefusal (lines bytes.now)) }
 {
-    let Some(header) = file_header(bytes) else {
-        return Err(refusal_of(alloc, bytes));
-    };
-    let mut so_far = JudgedSoFar::new(alloc, header.sender);
-    visit_file(bytes, &mut so_far)?;
+    let mut so_far = JudgedSoFar::new(alloc);
+    let envelope = visit_file(bytes, &mut so_far)?;
     Ok(JudgedFile {
-        header,
+        header: envelope.header,
         transactions: so_far.judged,
     })
-}
-
-/// Why a text is no well-formed file.
-fn refusal_of<A: Allocator>(alloc: A, bytes: &[u8]) -> FileRefusal
-    requires { (f : File) → IsFile (lines bytes.now) f → ⊥ }
-    ensures { IsRefusal (lines bytes.now) result }
-{
-    match parse_file(alloc, bytes) {
-        Ok(_) => unreachable!(),
-        Err(refusal) => refusal,
-    }
 }
 
 /// Judges the file of a source as [`judge_file`] does, and holds no more of it than a window of `room` bytes, which grows
@@ -95,25 +79,9 @@ pub fn judge_source<R: Source, A: Allocator + Copy>(
     ensures read_on { HasGiven (R.left reader.old) (R.left reader.new) }
     ensures few_reads { R.reads reader.new ≤ R.reads reader.old + limit + 2 }
 {
-    let file = SourceFile::open(alloc, reader, limit, room)?;
-    let header = file.header();
-    let mut so_far = JudgedSoFar::new(alloc, sender_of(&header));
-    file.visit(reader, &mut so_far)?;
-    let Some(header) = header else { unreachable!() };
+    let (envelope, so_far) = visit_source(alloc, reader, limit, room, JudgedSoFar::new(alloc))?;
     Ok(JudgedFile {
-        header,
+        header: envelope.header,
         transactions: so_far.judged,
     })
-}
-
-/// The sender of a header, or blanks where there is none.
-fn sender_of(header: &Option<Header>) -> [u8; 11]
-    requires { IfSome header.now (λ h. IsTrue (is_clean h.sender)) }
-    ensures clean { IsTrue (is_clean result) }
-    ensures sender { IfSome header.now (λ h. result ≡ h.sender) }
-{
-    match header {
-        Some(header) => header.sender,
-        None => [b' '; 11],
-    }
 }

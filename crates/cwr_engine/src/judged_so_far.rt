@@ -1,17 +1,17 @@
-ghost use Rattle.std.specs.Prelude.{◌≡◌, [], IsTrue};
-ghost use Rattle.cwr_call.specs.Lawful.{is_clean};
+ghost use Rattle.std.specs.Prelude.{◌≡◌, [], IfSome};
 ghost use Rattle.cwr_engine.specs.JudgedSoFar.{IsJudgedSoFar, IsOpenAt};
 
 use crate::judged::Judged;
 use cwr_field::Memory;
 use cwr_grammar::Visitor;
-use cwr_record::{RecordType, WorkKind};
+use cwr_record::{Header, RecordType, WorkKind};
 use cwr_rules::Judge;
 use std::alloc::Allocator;
 
 /// The transactions of a file that were judged so far.
 #[derive(Drop)]
 pub(crate) struct JudgedSoFar<A: Allocator> {
+    /// Who submits the file, once its header is known.
     submitter: [u8; 11],
     pub(crate) judged: Vec<Judged<A>, A>,
     /// The group id and the transaction sequence of the open transaction.
@@ -22,14 +22,12 @@ pub(crate) struct JudgedSoFar<A: Allocator> {
 }
 
 impl<A: Allocator + Copy> JudgedSoFar<A> {
-    /// Before the first transaction. No memory is asked for.
-    pub(crate) fn new(alloc: A, submitter: [u8; 11]) -> JudgedSoFar<A>
-        requires clean { IsTrue (is_clean submitter) }
-        ensures submitter { result.submitter ≡ submitter }
-        ensures judged { IsJudgedSoFar result.submitter result.judged.items [] }
+    /// Before the header. No memory is asked for.
+    pub(crate) fn new(alloc: A) -> JudgedSoFar<A>
+        ensures { IsJudgedSoFar result.submitter result.judged.items [] }
     {
         JudgedSoFar {
-            submitter,
+            submitter: [b' '; 11],
             judged: Vec::new(alloc),
             group: 0,
             sequence: 0,
@@ -39,7 +37,12 @@ impl<A: Allocator + Copy> JudgedSoFar<A> {
 }
 
 impl<A: Allocator + Copy> Visitor for JudgedSoFar<A> {
-    ghost keeps = { λ first s whole current. (s.submitter ≡ first.submitter) × IsJudgedSoFar s.submitter s.judged.items whole × IsOpenAt s.group s.sequence s.judge current };
+    ghost keeps = { λ first s head whole current. IfSome head (λ h. s.submitter ≡ h.sender) × IsJudgedSoFar s.submitter s.judged.items whole × IsOpenAt s.group s.sequence s.judge current };
+
+    #[inline]
+    fn header(&mut self, header: &Header) {
+        self.submitter = header.sender;
+    }
 
     #[inline]
     fn begin(

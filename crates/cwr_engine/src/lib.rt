@@ -5,7 +5,8 @@
 //! own, or a place at one that others use too. [`work_file`] works one file at a window, [`work_judged`] one that was
 //! judged before, [`acknowledge`] one into an empty book, [`work_alone`] one at a book of one's own, [`serve_in_turn`]
 //! many at one book, one after the other. [`read_job`], [`decide_job`] and [`answer_job`] are the steps of [`work_alone`],
-//! for who takes some of them on threads.
+//! for who takes some of them on threads. [`Answered`] lends transactions and the replies to them to who tells both in an
+//! acknowledgement.
 #![tactic(auto)]
 
 mod answered;
@@ -23,7 +24,7 @@ mod outcome;
 mod steps;
 mod window;
 
-pub use answered::AnsweredFile;
+pub use answered::{Answered, AnsweredFile};
 pub use engine::{work_file, work_judged};
 pub use gates::{Gate, OpenGate, Shut};
 pub use in_turn::{serve_in_turn, work_alone};

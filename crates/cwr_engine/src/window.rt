@@ -96,8 +96,7 @@ impl<'a, A: Allocator + Copy + Drop> Window<Call<A>> for Lent<'a, A> {
     #[inline]
     fn hand_in(self, call: Call<A>) -> (Lent<'a, A>, Result<Reply, WhyRefused>) {
         let Lent { book, session } = self;
-        // Looking at it tells the check what holds in every book.
-        let _entries = book.history().len();
+        book.recall();
         match book.apply(session, call) {
             Ok(reply) => (Lent { book, session }, Ok(reply)),
             Err(refused) => (Lent { book, session }, Err(refused.why)),

@@ -1,11 +1,11 @@
 -- Eight digits at once, lane by lane.
-use Rattle.std.proofs.Common.{◌≡◌, ◌∙◌, ℕ, suc, ◌+◌, ◌-◌, ◌*◌, ◌%◌, ◌<◌, ◌≤◌, ◌^◌, Bool, true, false, cond, eqb, ltb, not, ◌&&◌, List, [], ◌∷◌, length, take, map, replicate, get_or, Some, None, Fits, refl, sym, ap, subst, arith, w8, w32}
+use Rattle.std.proofs.Common.{◌≡◌, ◌∙◌, ℕ, suc, ◌+◌, ◌-◌, ◌*◌, ◌%◌, ◌<◌, ◌≤◌, ◌^◌, Bool, true, false, cond, eqb, ltb, not, ◌&&◌, List, [], ◌∷◌, length, map, replicate, get_or, Some, None, Fits, refl, sym, ap, subst, arith, w8, w32}
 use Rattle.std.specs.List.{list_all}
 use Rattle.std.specs.Char.{is_ascii_digit}
 use Rattle.std.specs.Str.Parse.{digits_value, AllDigits}
 use Rattle.std.proofs.lemmas.Int.Digits.{digits_value-lt}
 use Rattle.std.proofs.lemmas.Bool.Decides.{nat_tests}
-use Rattle.std.proofs.lemmas.List.{length-map, take_all}
+use Rattle.std.proofs.lemmas.List.{length-map}
 use Rattle.std.proofs.lemmas.Simd.{tops_compared, mask_l-mod, zip2_splat, zip2_splat_left}
 use Rattle.cwr_field.specs.Number.{number_of}
 use Rattle.cwr_field.proofs.lemmas.DigitSteps.{is_digit}
@@ -103,8 +103,8 @@ sum_is (a ∷ b ∷ c ∷ d ∷ e ∷ f ∷ g ∷ h ∷ []) len all =
 
 -- ---- what the function answers
 
-none : (bytes : List ℕ) → length bytes ≡ 8 → IsBytes bytes → (mask_of bytes ≡ 0 → ⊥) → number_of bytes ≡ None
-none bytes len fits set = by (list_all is_ascii_digit bytes) (mask_is bytes len fits)
+pub none_of : (bytes : List ℕ) → length bytes ≡ 8 → IsBytes bytes → (mask_of bytes ≡ 0 → ⊥) → number_of bytes ≡ None
+none_of bytes len fits set = by (list_all is_ascii_digit bytes) (mask_is bytes len fits)
   where
     by : (b : Bool) → eqb (mask_of bytes) 0 ≡ b → cond b (Some (digits_value 10 bytes)) None ≡ None
     by true e = absurd (set (let q = e in grind (arith, nat_tests)))
@@ -115,7 +115,7 @@ some bytes len fits clear =
     let all : list_all is_ascii_digit bytes ≡ true = sym (mask_is bytes len fits) ∙ ap (λ (n : ℕ). eqb n 0) clear in
     rw (all, sum_is bytes len all) refl
 
-all_digits : (bytes : List ℕ) → list_all is_ascii_digit bytes ≡ true → AllDigits 10 bytes
+pub all_digits : (bytes : List ℕ) → list_all is_ascii_digit bytes ≡ true → AllDigits 10 bytes
 all_digits [] h = tt
 all_digits (c ∷ bytes) h =
     let p = parts (is_ascii_digit c) (list_all is_ascii_digit bytes) h in
@@ -128,25 +128,16 @@ small bytes len fits clear =
     let all : list_all is_ascii_digit bytes ≡ true = sym (mask_is bytes len fits) ∙ ap (λ (n : ℕ). eqb n 0) clear in
     subst (λ (n : ℕ). sum_of (lanes bytes) < 10 ^ n) len (rw (sum_is bytes len all) (digits_value-lt 10 bytes (all_digits bytes all)))
 
--- a load takes the whole of eight bytes
-whole : (bytes : List ℕ) → length bytes ≡ 8 → take 8 bytes ≡ bytes
-whole bytes len = take_all 8 bytes (omega (arith, len))
-
 -- a wider lane holds the same number
 as_wide : (xs : List ℕ) → map (λ (x : ℕ). x) xs ≡ xs
 as_wide [] = refl
 as_wide (x ∷ xs) = ap (λ (l : List ℕ). x ∷ l) (as_wide xs)
 
-pub none_of : (bytes : List ℕ) → length bytes ≡ 8 → IsBytes bytes → (mask_of (take 8 bytes) ≡ 0 → ⊥) → number_of bytes ≡ None
-none_of bytes len fits set = none bytes len fits (λ z. set (ap mask_of (whole bytes len) ∙ z))
+pub some_of : (bytes : List ℕ) → length bytes ≡ 8 → IsBytes bytes → mask_of bytes ≡ 0 → Some (sum_of (map (λ (x : ℕ). x) (lanes bytes))) ≡ number_of bytes
+some_of bytes len fits clear = ap (λ (xs : List ℕ). Some (sum_of xs)) (as_wide (lanes bytes)) ∙ some bytes len fits clear
 
-pub some_of : (bytes : List ℕ) → length bytes ≡ 8 → IsBytes bytes → mask_of (take 8 bytes) ≡ 0 → Some (sum_of (map (λ (x : ℕ). x) (lanes (take 8 bytes)))) ≡ number_of bytes
-some_of bytes len fits clear =
-    ap (λ (xs : List ℕ). Some (sum_of xs)) (as_wide (lanes (take 8 bytes)) ∙ ap lanes (whole bytes len)) ∙ some bytes len fits (ap mask_of (sym (whole bytes len)) ∙ clear)
-
-pub bound_of : (bytes : List ℕ) → length bytes ≡ 8 → IsBytes bytes → mask_of (take 8 bytes) ≡ 0 → sum_of (map (λ (x : ℕ). x) (lanes (take 8 bytes))) < 10 ^ 8
-bound_of bytes len fits clear =
-    subst (λ (xs : List ℕ). sum_of xs < 10 ^ 8) (sym (as_wide (lanes (take 8 bytes)) ∙ ap lanes (whole bytes len))) (small bytes len fits (ap mask_of (sym (whole bytes len)) ∙ clear))
+pub bound_of : (bytes : List ℕ) → length bytes ≡ 8 → IsBytes bytes → mask_of bytes ≡ 0 → sum_of (map (λ (x : ℕ). x) (lanes bytes)) < 10 ^ 8
+bound_of bytes len fits clear = subst (λ (xs : List ℕ). sum_of xs < 10 ^ 8) (sym (as_wide (lanes bytes))) (small bytes len fits clear)
 
 pub fits_less : (xs ys : List ℕ) → Each1 (Fits w32) (zip2 less xs ys)
 fits_less [] ys = tt

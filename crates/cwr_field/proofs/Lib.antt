@@ -1,3 +1,6 @@
 mod Blanks
+mod CodeDigits
+mod EachByte
 mod EightDigits
+mod FewDigits
 pub mod lemmas

@@ -7,3 +7,4 @@ pub mod Spelling
 pub mod Tests
 pub mod Printable
 pub mod Pieces
+pub mod ManyBytes

@@ -3,3 +3,4 @@ pub mod Number
 pub mod Share
 pub mod Calendar
 pub mod Iswc
+pub mod Scan

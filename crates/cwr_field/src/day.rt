@@ -2,7 +2,7 @@ ghost use Rattle.std.specs.Prelude.{◌≡◌, ◌≤◌, ◌<◌, length, IsTru
 ghost use Rattle.cwr_field.specs.Calendar.{day_of, is_date, is_day};
 
 use crate::field::Field;
-use crate::number::digits;
+use crate::number::number_of_eight;
 use jiff_core::civil::Date;
 use std::marker::Model;
 
@@ -44,7 +44,7 @@ pub fn date(text: Field) -> Option<Day>
     requires { length text ≡ 8 }
     ensures { result ≡ day_of text.entry }
 {
-    let number = digits(text)?;
+    let number = number_of_eight(text.bytes::<8>())?;
     let year = (number / 10000) as u16;
     let month = (number / 100 % 100) as u8;
     let day = (number % 100) as u8;

@@ -3,7 +3,8 @@
 //!
 //! A line is read by [`cut`], which gives a [`Field`], and each kind of value has one reader of a field:
 //! [`digits`], [`share`], [`date`], [`time`], [`iswc`], [`party`]. [`put_digits`] and [`put_text`] write fields,
-//! [`put_decimal`] numbers between words; [`last_digits`] gives them as an array, [`filled`] fills a text with blanks, and [`fill_digits`] and [`fill_text`] write them over bytes that are there; [`is_printable`] tells whether it has no control byte.
+//! [`put_decimal`] numbers between words; [`last_digits`] gives them as an array, [`filled`] fills a text with blanks, and [`fill_digits`] and [`fill_text`] write them over bytes that are there; [`is_printable`] tells whether it has no control byte, and
+//! [`is_free_before`] looks at many bytes at once for those below or above a limit.
 //! Positions are counted from 1, as in the CWR manual.
 #![tactic(auto)]
 
@@ -13,6 +14,7 @@ mod day;
 mod field;
 mod memory;
 mod number;
+mod scan;
 mod text;
 mod work_code;
 
@@ -22,8 +24,9 @@ pub use day::{Day, date};
 pub use field::{Field, cut, is_blank, party};
 pub use memory::Memory;
 pub use number::{
-    LEAST_WHOLE, MOST_COUNT, MOST_WHOLE, WHOLE, digits, fill_digits, last_digits, put_decimal,
-    put_digits, share,
+    LEAST_WHOLE, MOST_COUNT, MOST_WHOLE, WHOLE, digits, fill_digits, last_digits, number_of_four,
+    put_decimal, put_digits, share,
 };
+pub use scan::{BLOCK, CONTROLS, Sought, has_in_block, is_free_before, line_end};
 pub use text::{LEAST_PRINTABLE, fill_text, filled, is_printable, put_text};
-pub use work_code::{MOST_CODE, check_digit, iswc};
+pub use work_code::{MOST_CODE, check_digit, iswc, iswc_text};

@@ -1,4 +1,4 @@
-ghost use Rattle.std.specs.Prelude.{◌≡◌, ◌≤◌, ◌<◌, ◌^◌, ◌+◌, ◌++◌, IfSome, OnOk, OnErr, length, vec_len, vec_capacity};
+ghost use Rattle.std.specs.Prelude.{◌≡◌, ◌≤◌, ◌<◌, ◌^◌, ◌+◌, ◌++◌, None, IfSome, OnOk, OnErr, length, vec_len, vec_capacity};
 ghost use Rattle.std.specs.Fmt.{decimal};
 ghost use Rattle.cwr_field.specs.Number.{number_of, number_text, digit_pair};
 ghost use Rattle.cwr_field.specs.Share.{share_of, whole};
@@ -25,12 +25,12 @@ pub const MOST_COUNT: u32 = 99999999;
 const WORTHS: [u32; 8] = [10000000, 1000000, 100000, 10000, 1000, 100, 10, 1];
 
 /// The number that eight bytes spell, where each is a digit. They are looked at, and added up by their worths, at once.
-fn number_of_eight(bytes: &[u8]) -> Option<u64>
-    requires { length bytes.now ≡ 8 }
-    ensures value { result ≡ number_of bytes.now }
+#[inline(always)]
+pub(crate) fn number_of_eight(bytes: [u8; 8]) -> Option<u64>
+    ensures value { result ≡ number_of bytes }
     ensures bound { IfSome result (λ n. n < 10 ^ 8) }
 {
-    let digits = u8x8::from_slice(bytes) - u8x8::splat(b'0');
+    let digits = u8x8::from_array(bytes) - u8x8::splat(b'0');
     if digits.simd_gt(u8x8::splat(9)).to_bitmask() != 0 {
         return None;
     }
@@ -38,15 +38,59 @@ fn number_of_eight(bytes: &[u8]) -> Option<u64>
     Some(parts.reduce_sum() as u64)
 }
 
-/// The number that at most 18 bytes spell, where each is a digit.
-pub(crate) fn number_in(bytes: &[u8]) -> Option<u64>
+/// The number that four bytes spell, where each is a digit: that of eight, with zeros in front.
+#[inline(always)]
+pub fn number_of_four(bytes: [u8; 4]) -> Option<u64>
+    ensures value { result ≡ number_of bytes }
+    ensures bound { IfSome result (λ n. n < 10 ^ 4) }
+{
+    let [a, b, c, d] = bytes;
+    number_of_eight([b'0', b'0', b'0', b'0', a, b, c, d])
+}
+
+/// The number that five bytes spell, where each is a digit: that of eight, with zeros in front.
+#[inline(always)]
+fn number_of_five(bytes: [u8; 5]) -> Option<u64>
+    ensures value { result ≡ number_of bytes }
+    ensures bound { IfSome result (λ n. n < 10 ^ 5) }
+{
+    let [a, b, c, d, e] = bytes;
+    number_of_eight([b'0', b'0', b'0', a, b, c, d, e])
+}
+
+/// The number that nine bytes spell, where each is a digit: eight at once, and the last.
+#[inline(always)]
+pub(crate) fn number_of_nine(bytes: [u8; 9]) -> Option<u64>
+    ensures value { result ≡ number_of bytes }
+    ensures bound { IfSome result (λ n. n < 10 ^ 9) }
+{
+    let [a, b, c, d, e, f, g, h, last] = bytes;
+    match number_of_eight([a, b, c, d, e, f, g, h]) {
+        Some(number) if last.is_ascii_digit() => Some(number * 10 + (last - b'0') as u64),
+        _ => None,
+    }
+}
+
+/// The number that twelve bytes spell, where each is a digit. Most begin with four zeros, and then the other eight tell it.
+#[inline(always)]
+fn number_of_twelve(bytes: [u8; 12]) -> Option<u64>
+    ensures value { result ≡ number_of bytes }
+    ensures bound { IfSome result (λ n. n < 10 ^ 12) }
+{
+    let [i, j, k, l, a, b, c, d, e, f, g, h] = bytes;
+    if [i, j, k, l] != *b"0000" {
+        return number_in(&bytes);
+    }
+    number_of_eight([a, b, c, d, e, f, g, h])
+}
+
+/// The number that at most 18 bytes spell, where each is a digit, byte by byte.
+#[inline(never)]
+fn number_in(bytes: &[u8]) -> Option<u64>
     requires { length bytes.now ≤ 18 }
     ensures value { result ≡ number_of bytes.now }
     ensures bound { IfSome result (λ n. n < 10 ^ length bytes.now) }
 {
-    if bytes.len() == 8 {
-        return number_of_eight(bytes);
-    }
     let mut number = 0;
     for byte in bytes {
         if !byte.is_ascii_digit() {
@@ -58,7 +102,25 @@ pub(crate) fn number_in(bytes: &[u8]) -> Option<u64>
 }
 
 /// The number that a field spells, where each of its bytes is a digit.
+///
+/// Of eight, nine or twelve bytes eight are looked at at once.
+#[inline(always)]
 pub fn digits(text: Field) -> Option<u64>
+    requires { length text ≤ 18 }
+    ensures value { result ≡ number_of text.entry }
+    ensures bound { IfSome result (λ n. n < 10 ^ length text.entry) }
+{
+    match text.width() {
+        8 => number_of_eight(text.bytes::<8>()),
+        9 => number_of_nine(text.bytes::<9>()),
+        12 => number_of_twelve(text.bytes::<12>()),
+        _ => number_of_others(text),
+    }
+}
+
+/// The same of a field of any width, byte by byte.
+#[inline(never)]
+pub(crate) fn number_of_others(text: Field) -> Option<u64>
     requires { length text ≤ 18 }
     ensures value { result ≡ number_of text.entry }
     ensures bound { IfSome result (λ n. n < 10 ^ length text.entry) }
@@ -69,19 +131,27 @@ pub fn digits(text: Field) -> Option<u64>
 /// A share of a right in a field of five bytes, in hundredths of one per cent.
 ///
 /// Five blanks are 0, and five digits up to 10000 are their number.
+#[inline(always)]
 pub fn share(text: Field) -> Option<u16>
     requires { length text ≡ 5 }
     ensures value { result ≡ share_of text.entry }
     ensures bound { IfSome result (λ n. n ≤ whole) }
 {
     let bytes = text.bytes::<5>();
-    if are_blank(&bytes) {
-        return Some(0);
-    }
-    match number_in(&bytes) {
+    match number_of_five(bytes) {
         Some(number) if number <= WHOLE => Some(number as u16),
-        _ => None,
+        Some(_) => None,
+        None => no_share(&bytes),
     }
+}
+
+/// The share in five bytes that are not all digits: blanks are none, 0.
+#[inline(never)]
+fn no_share(bytes: &[u8]) -> Option<u16>
+    requires { number_of bytes.now ≡ None }
+    ensures { result ≡ share_of bytes.now }
+{
+    if are_blank(bytes) { Some(0) } else { None }
 }
 
 /// The two digits of each number below 100, one pair after another.

@@ -6,7 +6,8 @@
 //!
 //! [`parse_file`] reads a submission file: its header and its transactions, or its first fault. Nothing is copied:
 //! a [`RawTransaction`] borrows the file's bytes, and [`Lines`] goes over lines. [`visit_file`] gives a [`Visitor`] the
-//! same transactions line by line, on its way; a [`FileReader`] does so of a file that comes a piece at a time.
+//! same header and transactions, these line by line, on its way; a [`FileReader`] does so of a file that comes a piece at
+//! a time.
 //! [`ack_file`] is the text of the acknowledgement file that answers it, and [`send_ack`] sends it into a sink.
 #![tactic(auto)]
 
@@ -20,6 +21,6 @@ pub use cwr_call::{Fault, Faults};
 pub use cwr_field::Memory;
 pub use cwr_grammar::{
     Envelope, FileReader, FileRefusal, Lines, RawTransaction, Submission, TransactionIter,
-    Transactions, Visitor, file_header, parse_file, visit_file,
+    Transactions, Visitor, parse_file, visit_file,
 };
 pub use cwr_record::{Header, Stamp, Status, WorkKind};

@@ -32,7 +32,7 @@ fn expect_three_cut(alloc: Global, text: &[u8], cut: usize) -> Result<(), Fail>
     let envelope = visit_cut(text, cut, &mut visitor)?;
     let counts = (cut, envelope.groups, envelope.records);
     same("a cut, groups and records", &counts, &(cut, 2, 10))?;
-    expect_three_works(&envelope, &visitor.text)
+    expect_three_works(&envelope, &visitor)
 }
 
 /// The same after each cut.

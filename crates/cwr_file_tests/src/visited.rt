@@ -1,11 +1,11 @@
-//! Submission files that are given to a visitor, and headers that are read alone.
+//! Submission files that are given to a visitor.
 
 ghost use Rattle.std.specs.Prelude.{⊤};
 
-use crate::lines::{HDR, NWR, ONE_WORK, SWR, text_of};
+use crate::lines::{HDR, NWR, SWR, text_of};
 use crate::taken::{REV, THREE_WORKS};
 use cwr_field::put_digits;
-use cwr_file::{Envelope, FileRefusal, Memory, Visitor, WorkKind, file_header, visit_file};
+use cwr_file::{Envelope, FileRefusal, Header, Memory, Visitor, WorkKind, visit_file};
 use cwr_record::RecordType;
 use cwr_sheets::{same, same_bytes};
 use std::alloc::Global;
@@ -15,6 +15,8 @@ use std::test::Fail;
 #[derive(Drop)]
 pub(crate) struct Noted {
     pub(crate) text: Vec<u8>,
+    /// The sender of its header, where that came once and first.
+    sender: Option<[u8; 11]>,
     calls: u32,
 }
 
@@ -32,7 +34,12 @@ impl Noted {
 }
 
 impl Visitor for Noted {
-    ghost keeps = { λ _ _ _ _. ⊤ };
+    ghost keeps = { λ _ _ _ _ _. ⊤ };
+
+    fn header(&mut self, header: &Header) {
+        let is_first = self.sender.is_none() && self.text.is_empty();
+        self.sender = if is_first { Some(header.sender) } else { None };
+    }
 
     fn begin(
         &mut self,
@@ -63,9 +70,13 @@ impl Visitor for Noted {
 pub(crate) fn visitor_called(alloc: Global, calls: u32) -> Noted {
     Noted {
         text: Vec::new(alloc),
+        sender: None,
         calls,
     }
 }
+
+/// The sender of the header of every file here.
+const SENDER: &[u8; 11] = b"PB000000123";
 
 /// What a visitor is given of the file of three works, a line for each call.
 const THREE_NOTED: [&[&[u8]]; 7] = [
@@ -96,10 +107,11 @@ fn expect_three(text: &[u8]) -> Result<(), Fail> {
 }
 
 /// The file of three works was visited: its sender, how many records it has, and what a visitor noted.
-pub(crate) fn expect_three_works(envelope: &Envelope, text: &[u8]) -> Result<(), Fail> {
-    same("the sender", &envelope.header.sender, b"PB000000123")?;
+pub(crate) fn expect_three_works(envelope: &Envelope, visitor: &Noted) -> Result<(), Fail> {
+    same("the sender", &envelope.header.sender, SENDER)?;
+    same("the header", &visitor.sender, &Some(*SENDER))?;
     same("records", &envelope.records, &10)?;
-    expect_three(text)
+    expect_three(&visitor.text)
 }
 
 #[test]
@@ -108,7 +120,7 @@ fn gives_each_transaction_in_order(rt: HostRuntime) -> Result<(), Fail> {
     let mut visitor = visitor_called(rt.alloc(), 7);
     let envelope = visit_file(&text, &mut visitor)?;
     same("groups", &envelope.groups, &2)?;
-    expect_three_works(&envelope, &visitor.text)
+    expect_three_works(&envelope, &visitor)
 }
 
 /// A visitor that is refused memory at one of its seven calls ends the visit.
@@ -141,25 +153,28 @@ fn answers_the_first_fault(rt: HostRuntime) -> Result<(), Fail> {
     expect_three(&visitor.text)
 }
 
-/// The header alone is read of any text that begins with a valid one.
-#[test]
-fn reads_a_header_alone(rt: HostRuntime) -> Result<(), Fail> {
-    let text = text_of(rt.alloc(), &ONE_WORK, b"\n")?;
-    expect_header(&text, "a header")?;
-    expect_header(HDR, "a line without its end")
+/// The sender of the header that a visitor is given of a text.
+fn sender_of(alloc: Global, text: &[u8]) -> Option<[u8; 11]> {
+    let mut visitor = visitor_called(alloc, 0);
+    let _ = visit_file(text, &mut visitor);
+    visitor.sender
 }
 
-/// A text begins with that header, which this names.
-fn expect_header(text: &[u8], what: &'static str) -> Result<(), Fail> {
-    let header = file_header(text).ok_or(what)?;
-    same("the sender", &header.sender, b"PB000000123")
+/// A header is given whatever follows it, and in a text of one line too.
+#[test]
+fn gives_the_header_of_its_line(rt: HostRuntime) -> Result<(), Fail> {
+    let with_lines = text_of(rt.alloc(), &[HDR, NWR], b"\n")?;
+    for text in [with_lines.as_slice(), HDR] {
+        same("the header", &sender_of(rt.alloc(), text), &Some(*SENDER))?;
+    }
+    Ok(())
 }
 
 #[test]
-fn reads_no_header_of_other_texts(rt: HostRuntime) -> Result<(), Fail> {
+fn gives_no_header_of_other_texts(rt: HostRuntime) -> Result<(), Fail> {
     let with_control = text_of(rt.alloc(), &[b"\x01", HDR], b"")?;
     for text in [b"".as_slice(), b"\n", NWR, &with_control] {
-        same("a header", &file_header(text).is_some(), &false)?;
+        same("the header", &sender_of(rt.alloc(), text), &None)?;
     }
     Ok(())
 }

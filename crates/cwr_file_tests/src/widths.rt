@@ -61,8 +61,7 @@ fn expect_given(alloc: Global, details: [&[u8]; 3], end: &[u8]) -> Result<(), Fa
     visit_file(&text, &mut whole)?;
     same_bytes("in one piece", &whole.text, &noted)?;
     for room in [0, 64, 200] {
-        let mut cut = visitor_called(alloc, 5);
-        visit(alloc, &text, by(1000, room), &mut cut)?;
+        let (_, cut) = visit(alloc, &text, by(1000, room), visitor_called(alloc, 5))?;
         same_bytes("through a window", &cut.text, &noted)?;
     }
     Ok(())

@@ -7,7 +7,7 @@ use crate::taken::THREE_WORKS;
 use crate::visited::{Noted, expect_three_works, visitor_called};
 use cwr_file::{Envelope, Feed};
 use cwr_sheets::same;
-use cwr_source::{SourceFile, SourceRefused};
+use cwr_source::{SourceRefused, visit_source};
 use std::alloc::Global;
 use std::test::Fail;
 
@@ -32,14 +32,13 @@ pub(crate) fn visit(
     alloc: Global,
     text: &[u8],
     ways: Ways,
-    visitor: &mut Noted,
-) -> Result<Envelope, SourceRefused>
+    visitor: Noted,
+) -> Result<(Envelope, Noted), SourceRefused>
     requires piece { 0 < ways.piece }
     requires limit { ways.limit < 4611686018427387904 }
 {
     let mut reader = Feed::new(text, ways.piece, Some(ways.failing));
-    let file = SourceFile::open(alloc, &mut reader, ways.limit, ways.room)?;
-    file.visit(&mut reader, visitor)
+    visit_source(alloc, &mut reader, ways.limit, ways.room, visitor)
 }
 
 /// The file of three works gives a visitor all of them.
@@ -47,9 +46,8 @@ fn expect_three_by(alloc: Global, text: &[u8], ways: Ways) -> Result<(), Fail>
     requires piece { 0 < ways.piece }
     requires limit { ways.limit < 4611686018427387904 }
 {
-    let mut visitor = visitor_called(alloc, 7);
-    let envelope = visit(alloc, text, ways, &mut visitor)?;
-    expect_three_works(&envelope, &visitor.text)
+    let (envelope, visitor) = visit(alloc, text, ways, visitor_called(alloc, 7))?;
+    expect_three_works(&envelope, &visitor)
 }
 
 /// A file is refused so.
@@ -62,7 +60,7 @@ fn expect_refused_by(
     requires piece { 0 < ways.piece }
     requires limit { ways.limit < 4611686018427387904 }
 {
-    let refusal = visit(alloc, text, ways, &mut visitor_called(alloc, 7)).err();
+    let refusal = visit(alloc, text, ways, visitor_called(alloc, 7)).err();
     same("the refusal", &refusal, &Some(wanted))
 }
 

@@ -1,7 +1,7 @@
 -- The first control byte, 64 bytes at a time.
 use Rattle.std.proofs.Common.{◌≡◌, ℕ, zero, suc, ◌+◌, ◌-◌, ◌≤◌, ◌<◌, ◌^◌, ◌%◌, ltb, eqb, Bool, true, false, cond, List, [], ◌∷◌, ◌++◌, length, map, take, drop, get_or, replicate, Some, None, arith, refl, sym, ap, ◌∙◌, w8, ⊎_elim}
 use Rattle.std.specs.List.{position_or_len, position}
-use Rattle.std.proofs.lemmas.Simd.{bitmask_splat, first_set_mask_l, leading_from_mask_l, none_from_empty_mask, tops_compared, run_in_chunk_fails, run_in_chunk_stops, get_or-chunk, get_or-zip2, length-zip2, get_or-sel_l, length-sel_l}
+use Rattle.std.proofs.lemmas.Simd.{bitmask_splat, first_set_mask_l, run_in_chunk_fails, run_in_chunk_stops, get_or-chunk}
 use Rattle.std.proofs.lemmas.List.{length-take, length-drop}
 use Rattle.std.proofs.lemmas.List.Sums.{position_or_len_is, prefix_len-le-length}
 use Rattle.std.proofs.lemmas.Bool.Decides.{nat_tests}
@@ -17,7 +17,7 @@ use Rattle.cwr_field.specs.Layout.{least_printable, is_control, is_printable}
 use Rattle.cwr_grammar.proofs.FirstLine.{lines-ended, lines-take_ended}
 use Rattle.cwr_grammar.specs.FaultTests.{has_control}
 use lib.Count.{count_trailing_zeros, trailing_of_zero}
-use lib.Lanes.{mask_l, sel_l, top, zip2}
+use lib.Lanes.{mask_l, top, zip2}
 use mir.Val.{bits, hbits}
 
 abbrev pub mask_of : List ℕ → ℕ
@@ -45,78 +45,6 @@ none_tells text at le none =
 passes_before : (text : List ℕ) (at n : ℕ) → ((k : ℕ) → at ≤ k → k < at + n → is_control (get_or text k 0) ≡ false) → ((k : ℕ) → k < at → is_control (get_or text k 0) ≡ false)
     → (k : ℕ) → k < at + n → is_control (get_or text k 0) ≡ false
 passes_before text at n here before k lt = ⊎_elim (λ l. before k l) (λ ge. here k ge lt) (cases_lt k at)
-
-is_empty : (mask : ℕ) → not (eqb mask 0) ≡ false → mask ≡ 0
-is_empty mask e = grind (arith, nat_tests)
-
-higher : (a b : ℕ) → is_control a ≡ false → a ≤ b → is_control b ≡ false
-higher a b e le = grind (arith, nat_tests)
-
-test_lt : (a b : ℕ) → ltb a b ≡ true → a ≤ b
-test_lt a b e = grind (arith, nat_tests)
-
-test_ge : (a b : ℕ) → ltb a b ≡ false → b ≤ a
-test_ge a b e = grind (arith, nat_tests)
-
--- where the lesser of two bytes is no control byte, neither is
-both_above : (a b : ℕ) → is_control (cond (ltb a b) a b) ≡ false → (is_control a ≡ false) × (is_control b ≡ false)
-both_above a b e =
-    let P : Bool → Type 0 = λ t. ltb a b ≡ t → is_control (cond t a b) ≡ false → (is_control a ≡ false) × (is_control b ≡ false) in
-    (elim (ltb a b) as P [
-      | true ↦ λ lt h. (h, higher a b h (test_lt a b lt))
-      | false ↦ λ ge h. (higher b a h (test_ge a b ge), h)
-    ]) refl e
-
--- the lesser bytes of two rows
-abbrev pub lesser : List ℕ → List ℕ → List ℕ
-lesser xs ys = sel_l (map (top (hbits w8)) (zip2 (λ a b. cond (ltb a b) (2 ^ bits w8 - 1) 0) xs ys)) xs ys
-
-tests_length : (xs ys : List ℕ) → length xs ≡ length ys → length (map (top (hbits w8)) (zip2 (λ a b. cond (ltb a b) (2 ^ bits w8 - 1) 0) xs ys)) ≡ length xs
-tests_length xs ys same = ap (λ (ms : List Bool). length ms) (tops_compared w8 ltb xs ys) ∙ length-zip2 ltb xs ys same
-
-lesser_length : (xs ys : List ℕ) → length xs ≡ length ys → length (lesser xs ys) ≡ length xs
-lesser_length xs ys same = let tests = tests_length xs ys same in length-sel_l _ xs ys tests (tests ∙ same) ∙ tests
-
-lesser_at : (xs ys : List ℕ) (i : ℕ) → length xs ≡ length ys → i < length xs → get_or (lesser xs ys) i 0 ≡ cond (ltb (get_or xs i 0) (get_or ys i 0)) (get_or xs i 0) (get_or ys i 0)
-lesser_at xs ys i same lt =
-    get_or-sel_l _ xs ys i 0 (omega (arith, lt, tests_length xs ys same)) lt (omega (arith, lt, same))
-    ∙ ap (λ (b : Bool). cond b (get_or xs i 0) (get_or ys i 0)) (ap (λ (ms : List Bool). get_or ms i false) (tops_compared w8 ltb xs ys) ∙ get_or-zip2 ltb xs ys i 0 0 false lt (omega (arith, lt, same)))
-
-none_in_pair : (text : List ℕ) (at : ℕ) → at + 64 ≤ length text
-    → not (eqb (mask_l (map (top (hbits w8)) (zip2 (λ a b. cond (ltb a b) (2 ^ bits w8 - 1) 0) (lesser (take 32 (drop at text)) (take 32 (drop (at + 32) text))) (replicate 32 least_printable))) % 2 ^ 64) 0) ≡ false
-    → (i : ℕ) → i < 32 → (is_control (get_or text (at + i) 0) ≡ false) × (is_control (get_or text (at + 32 + i) 0) ≡ false)
-none_in_pair text at le e i lt =
-    let xs : List ℕ = take 32 (drop at text) in
-    let ys : List ℕ = take 32 (drop (at + 32) text) in
-    let one : length xs ≡ 32 = omega (arith, le, length-take 32 (drop at text), length-drop at text) in
-    let other : length ys ≡ 32 = omega (arith, le, length-take 32 (drop (at + 32) text), length-drop (at + 32) text) in
-    let long : length (lesser xs ys) ≡ 32 = lesser_length xs ys (one ∙ sym other) ∙ one in
-    let none = leading_from_mask_l is_control (lesser xs ys) (sym (bitmask_splat w8 ltb (lesser xs ys) 32 least_printable long (omega arith)) ∙ is_empty _ e) in
-    let here = fails_before_first is_control (lesser xs ys) i 0 (omega (arith, lt, none, long)) in
-    let h = both_above (get_or xs i 0) (get_or ys i 0) (ap is_control (sym (lesser_at xs ys i (one ∙ sym other) (omega (arith, lt, one)))) ∙ here) in
-    (ap is_control (sym (get_or-chunk at 32 text i 0 lt)) ∙ h.0, ap is_control (sym (get_or-chunk (at + 32) 32 text i 0 lt)) ∙ h.1)
-
--- where no lane of the lesser bytes tells one, no byte of the 64 is a control byte
-pub none_in_block : (text : List ℕ) (at : ℕ) → at + 64 ≤ length text
-    → not (eqb (mask_l (map (top (hbits w8)) (zip2 (λ a b. cond (ltb a b) (2 ^ bits w8 - 1) 0) (lesser (take 32 (drop at text)) (take 32 (drop (at + 32) text))) (replicate 32 least_printable))) % 2 ^ 64) 0) ≡ false
-    → (k : ℕ) → at ≤ k → k < at + 64 → is_control (get_or text k 0) ≡ false
-none_in_block text at le e k low high =
-    ⊎_elim (λ (near : k < at + 32). let place : at + (k - at) ≡ k = omega (arith, low) in ap (λ (j : ℕ). is_control (get_or text j 0)) (sym place) ∙ (none_in_pair text at le e (k - at) (omega (arith, low, near))).0)
-    (λ (far : at + 32 ≤ k). let place : at + 32 + (k - (at + 32)) ≡ k = omega (arith, far) in ap (λ (j : ℕ). is_control (get_or text j 0)) (sym place) ∙ (none_in_pair text at le e (k - (at + 32)) (omega (arith, far, high))).1)
-    (cases_lt k (at + 32))
-
--- where no lane of 32 bytes tells one, no byte of them is a control byte
-pub none_in_half : (text : List ℕ) (at : ℕ) → at + 32 ≤ length text
-    → not (eqb (mask_l (map (top (hbits w8)) (zip2 (λ a b. cond (ltb a b) (2 ^ bits w8 - 1) 0) (take 32 (drop at text)) (replicate 32 least_printable))) % 2 ^ 64) 0) ≡ false
-    → (k : ℕ) → at ≤ k → k < at + 32 → is_control (get_or text k 0) ≡ false
-none_in_half text at le e k low high =
-    let long : length (take 32 (drop at text)) ≡ 32 = omega (arith, le, length-take 32 (drop at text), length-drop at text) in
-    none_from_empty_mask is_control text at 32 0 le (sym (bitmask_splat w8 ltb (take 32 (drop at text)) 32 least_printable long (omega arith)) ∙ is_empty _ e) k low high
-
--- a run of bytes that begins before and ends with the last ones that were looked at
-pub clean_to : (text : List ℕ) (at start end : ℕ) → start ≤ at → ((k : ℕ) → k < at → is_control (get_or text k 0) ≡ false) → ((k : ℕ) → start ≤ k → k < end → is_control (get_or text k 0) ≡ false)
-    → (k : ℕ) → k < end → is_control (get_or text k 0) ≡ false
-clean_to text at start end le before here k lt = ⊎_elim (λ l. before k l) (λ ge. here k (omega (arith, le, ge)) lt) (cases_lt k at)
 
 -- no control byte in one block more
 pub block_passes : (text : List ℕ) (at n : ℕ) → at + 64 ≤ length text → n ≡ position_or_len is_control (take 64 (drop at text)) → 64 ≤ n → ((k : ℕ) → k < at → is_control (get_or text k 0) ≡ false)

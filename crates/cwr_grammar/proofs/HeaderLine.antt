@@ -1,9 +1,7 @@
 -- A line that the grammar takes for a valid file header is read as one.
-use Rattle.std.proofs.Common.{◌≡◌, ℕ, Bool, true, false, ◌&&◌, cond, List, [], ◌∷◌, ◌++◌, take, drop, Option, Some, None, IsSome, is_some, arith, refl, sym, ap, subst, append_assoc, ◌∙◌}
+use Rattle.std.proofs.Common.{◌≡◌, ℕ, Bool, true, false, ◌&&◌, cond, List, [], ◌∷◌, Option, Some, None, is_some, arith, refl, sym, ap, ◌∙◌}
 use Rattle.std.specs.Prelude.{codes, option_map}
 use Rattle.std.specs.Str.{bytes_eq}
-use Rattle.std.specs.Str.Lines.{lines}
-use Rattle.std.proofs.lemmas.List.{take-append-drop}
 use Rattle.cwr_field.specs.Calendar.{day_of, time_of}
 use Rattle.cwr_record.specs.Columns.{field_at, every_record_type, header_creation_date, header_creation_time, header_transmission_date}
 use Rattle.cwr_record.specs.RecordTypes.{type_of}
@@ -98,10 +96,3 @@ head_of line (first ∷ more) = first
 -- the first line of a file is its header
 pub first_is : (text more : List (List ℕ)) (line : List ℕ) (f : File) → text ≡ line ∷ more → IsFile text f → line ≡ f.header
 first_is text more line f split is = ap (head_of line) (sym split ∙ is.lines)
-
--- the first line of a text that bytes with an LF begin
-pub first_before : (bytes more line : List ℕ) (size : ℕ) (is_whole : Bool) (end : Option ℕ) → IsSome end → (is_whole ≡ false → end ≡ None)
-    → (is_whole ≡ true → (others : List ℕ) → lines (take size bytes ++ others) ≡ line ∷ lines others) → lines (bytes ++ more) ≡ line ∷ lines (drop size bytes ++ more)
-first_before bytes more line size true end some unended ended =
-    ap (λ (xs : List ℕ). lines (xs ++ more)) (sym (take-append-drop size bytes)) ∙ ap lines (append_assoc (take size bytes) (drop size bytes) more) ∙ ended refl (drop size bytes ++ more)
-first_before bytes more line size false end some unended ended = absurd (let both : false ≡ true = subst (λ (o : Option ℕ). IsSome o) (unended refl) some in cc)

@@ -153,7 +153,7 @@ pub record IsPlacedFile (text : List ℕ) (spans : List Span) (head : Header) (g
   pub found : (f : File) × IsFile (lines text) f × IsSubmission f head (raws_at text spans) group_count record_count
   pub bounds : IsBounded (length text) head (raws_at text spans)
 
-pub placed_file : (text : List ℕ) (spans : List Span) (current : Option Open) (at : ℕ) (head : Header) (group_count record_count : ℕ) → WasGiven (Placed text spans current at) text head group_count record_count
+pub placed_file : (text : List ℕ) (spans : List Span) (current : Option Open) (at : ℕ) (head : Header) (group_count record_count : ℕ) → WasGiven (λ _. Placed text spans current at) text head group_count record_count
     → IsPlacedFile text spans head group_count record_count
 placed_file text spans current at head group_count record_count given =
     let is = given.kept.whole_is in

@@ -1,5 +1,5 @@
 -- A reader goes past one line more.
-use Rattle.std.proofs.Common.{◌≡◌, ◌∙◌, ℕ, suc, ◌+◌, ◌-◌, ◌≤◌, ◌<◌, ◌^◌, ◌⊎◌, true, false, List, [], ◌∷◌, ◌++◌, length, map, take, drop, Option, Some, None, is_some, arith, refl, sym, ap, subst, append_assoc, length-append}
+use Rattle.std.proofs.Common.{◌≡◌, ◌∙◌, ℕ, suc, ◌+◌, ◌-◌, ◌≤◌, ◌<◌, ◌^◌, ◌⊎◌, Bool, true, false, not, cond, List, [], ◌∷◌, ◌++◌, length, map, take, drop, Option, Some, None, is_some, arith, refl, sym, ap, subst, append_assoc, length-append}
 use Rattle.std.specs.Str.Lines.{lines}
 use Rattle.std.proofs.lemmas.List.{length-map, length-drop, drop-drop, drop-append-le, take-append-drop}
 use Rattle.cwr_record.specs.Control as table
@@ -13,9 +13,9 @@ use Rattle.cwr_grammar.specs.declared.role.Role.{Role}
 use Rattle.cwr_grammar.specs.declared.role.Role.TheVariants.{FileHeader, GroupHeader, TransactionHeader, Detail, GroupTrailer, FileTrailer, Unnamed}
 use Rattle.cwr_grammar.specs.Before.{is_nil}
 use Rattle.cwr_grammar.specs.Counted.{counts_of}
-use Rattle.cwr_grammar.specs.FaultTests.{is_tail}
+use Rattle.cwr_grammar.specs.FaultTests.{is_file_header, is_tail}
 use Rattle.cwr_grammar.specs.Faults.{IsLeastFault}
-use Rattle.cwr_grammar.specs.FirstFault.{first_fault, line_fault, role_fault, tail_fault, with_eleven}
+use Rattle.cwr_grammar.specs.FirstFault.{first_fault, grammar_fault, line_fault, role_fault, tail_fault, with_eleven}
 use Rattle.cwr_grammar.specs.RawParts.{RawParts}
 use Rattle.cwr_grammar.specs.ReadUpTo.{ReaderState, IsReadUpTo, IsNextLine, IsPast, IsHeadOf, HeadAfter, GoesOnAt, EndedBefore, StandsAt}
 use Rattle.cwr_grammar.specs.Roles.{role_of}
@@ -28,7 +28,7 @@ use Rattle.cwr_grammar.proofs.HeaderLine.{first_is}
 use Rattle.cwr_grammar.proofs.Least.{first_is_least}
 use Rattle.cwr_grammar.proofs.Numbers.{clear_role}
 use Rattle.cwr_grammar.proofs.OneLineFurther.{OneLine, end_faulty, line_faulty}
-use Rattle.cwr_grammar.proofs.Visits.{visiting_goes, visiting_ends, visiting_kept}
+use Rattle.cwr_grammar.proofs.Visits.{visiting_goes, visiting_ends, visiting_kept, none_given}
 
 -- ---- the header
 
@@ -36,6 +36,10 @@ use Rattle.cwr_grammar.proofs.Visits.{visiting_goes, visiting_ends, visiting_kep
 pub valid_header : (before : List Role) → role_fault before (FileHeader false) ≡ None → ⊥
 valid_header [] clear = absurd cc
 valid_header (b ∷ before) clear = let first = file_head_is (b ∷ before) false clear in absurd cc
+
+pub header_valid : (before : List Role) (valid : Bool) → role_fault before (FileHeader valid) ≡ None → valid ≡ true
+header_valid before true clear = refl
+header_valid before false clear = absurd (valid_header before clear)
 
 headed_first : (head next : Option Header) (line text : List ℕ) (at n : ℕ) (header : Header) → next ≡ Some header → StandsFor table.header line header → at ≡ 0
     → lines (drop at text) ≡ line ∷ lines (drop (at + n) text) → IsHeadOf next text
@@ -50,28 +54,37 @@ no_lines : (before : List Role) → is_nil before ≡ true → length before ≡
 no_lines [] e = refl
 no_lines (b ∷ before) e = absurd cc
 
+-- before any other line without a fault stands one
+some_before : (before : List Role) (role : Role) → role_fault before role ≡ None → is_file_header role ≡ false → 0 < length before
+some_before [] role clear other = absurd (let faulty = subst (λ (b : Bool). cond (not b) (Some 1) (grammar_fault [] role) ≡ None) other clear in cc)
+some_before (b ∷ before) role clear other = omega arith
+
+-- and it leaves the header as it is
+same_head : (role : Role) (head next : Option Header) (line : List ℕ) → is_file_header role ≡ false → HeadAfter head role line next → next ≡ head
+same_head (FileHeader valid) head next line other kept = absurd cc
+same_head (GroupHeader k i) head next line other kept = kept
+same_head (TransactionHeader k j d) head next line other kept = kept
+same_head (Detail j d) head next line other kept = kept
+same_head (GroupTrailer i t r) head next line other kept = kept
+same_head (FileTrailer g t r) head next line other kept = kept
+same_head Unnamed head next line other kept = kept
+
 pub headed_after : (role : Role) (before : List Role) (head next : Option Header) (line text : List ℕ) (at n : ℕ) → role_fault before role ≡ None → HeadAfter head role line next
     → (length before ≡ 0 → at ≡ 0) → (0 < length before → IsHeadOf head text) → lines (drop at text) ≡ line ∷ lines (drop (at + n) text) → IsHeadOf next text
 headed_after (FileHeader valid) before head next line text at n clear kept first headed split =
     headed_first head next line text at n kept.0 kept.1 kept.2 (first (no_lines before (file_head_is before valid clear))) split
-headed_after (GroupHeader k i) [] head next line text at n clear kept first headed split = absurd cc
-headed_after (TransactionHeader k j d) [] head next line text at n clear kept first headed split = absurd cc
-headed_after (Detail j d) [] head next line text at n clear kept first headed split = absurd cc
-headed_after (GroupTrailer i t r) [] head next line text at n clear kept first headed split = absurd cc
-headed_after (FileTrailer g t r) [] head next line text at n clear kept first headed split = absurd cc
-headed_after Unnamed [] head next line text at n clear kept first headed split = absurd cc
-headed_after (GroupHeader k i) (b ∷ before) head next line text at n clear kept first headed split = headed_on head next text kept (headed (omega arith))
-headed_after (TransactionHeader k j d) (b ∷ before) head next line text at n clear kept first headed split = headed_on head next text kept (headed (omega arith))
-headed_after (Detail j d) (b ∷ before) head next line text at n clear kept first headed split = headed_on head next text kept (headed (omega arith))
-headed_after (GroupTrailer i t r) (b ∷ before) head next line text at n clear kept first headed split = headed_on head next text kept (headed (omega arith))
-headed_after (FileTrailer g t r) (b ∷ before) head next line text at n clear kept first headed split = headed_on head next text kept (headed (omega arith))
-headed_after Unnamed (b ∷ before) head next line text at n clear kept first headed split = headed_on head next text kept (headed (omega arith))
+headed_after (GroupHeader k i) before head next line text at n clear kept first headed split = headed_on head next text kept (headed (some_before before (GroupHeader k i) clear refl))
+headed_after (TransactionHeader k j d) before head next line text at n clear kept first headed split = headed_on head next text kept (headed (some_before before (TransactionHeader k j d) clear refl))
+headed_after (Detail j d) before head next line text at n clear kept first headed split = headed_on head next text kept (headed (some_before before (Detail j d) clear refl))
+headed_after (GroupTrailer i t r) before head next line text at n clear kept first headed split = headed_on head next text kept (headed (some_before before (GroupTrailer i t r) clear refl))
+headed_after (FileTrailer g t r) before head next line text at n clear kept first headed split = headed_on head next text kept (headed (some_before before (FileTrailer g t r) clear refl))
+headed_after Unnamed before head next line text at n clear kept first headed split = headed_on head next text kept (headed (some_before before Unnamed clear refl))
 
 -- ---- a line before the file's end
 
-module _ (K L : List RawParts → Option RawParts → Type 0) (s after : ReaderState) (text : List ℕ) (at n : ℕ) (line : List ℕ) (role : Role) (read : IsReadUpTo K s text at) (g : GoesOnAt K s text at)
+module _ (K L : Option Header → List RawParts → Option RawParts → Type 0) (s after : ReaderState) (text : List ℕ) (at n : ℕ) (line : List ℕ) (role : Role) (read : IsReadUpTo K s text at) (g : GoesOnAt (K s.header) s text at)
     (here : IsNextLine line text at n) (role_is : role ≡ role_of line) (clear : None ≡ line_fault g.before line) (past : IsPast s after line role)
-    (gives : (whole : List RawParts) (current : Option RawParts) → is_some current ≡ s.is_open → K whole current → L (whole_after role whole current) (open_after role line s.counts.groups s.counts.transactions current)) where
+    (gave : L after.header (whole_after role g.whole g.current) (open_after role line s.counts.groups s.counts.transactions g.current)) where
   one : OneLine text g.before at n line role after.counts
   one = record {
     split = here.split;
@@ -88,13 +101,13 @@ module _ (K L : List RawParts → Option RawParts → Type 0) (s after : ReaderS
   no_tail : after.tail ≡ 0
   no_tail = past.tail ∙ g.no_tail
 
-  ended_after : after.counts.is_ended ≡ true → EndedBefore L after text (at + n)
+  ended_after : after.counts.is_ended ≡ true → EndedBefore (L after.header) after text (at + n)
   ended_after e =
-      let last = visiting_ends K text s.counts after.counts at n g.before s.is_open g.whole g.current line role g.visiting one e in
+      let last = visiting_ends (K s.header) text s.counts after.counts at n g.before s.is_open g.whole g.current line role g.visiting one e in
       let few = last.ended.few in
       record {
         whole = whole_after role g.whole g.current;
-        kept = visiting_kept K L text s.counts after.counts at n g.before s.is_open g.whole g.current line role g.visiting one e gives;
+        kept = visiting_kept (K s.header) (L after.header) text s.counts after.counts at n g.before s.is_open g.whole g.current line role g.visiting one e gave;
         parts = last.parts;
         inside = last.ended.inside;
         some = omega (arith, lines_after);
@@ -114,17 +127,57 @@ module _ (K L : List RawParts → Option RawParts → Type 0) (s after : ReaderS
           before = line ∷ g.before;
           whole = whole_after role g.whole g.current;
           current = open_after role line s.counts.groups s.counts.transactions g.current;
-          visiting = visiting_goes K L text s.counts after.counts at n g.before s.is_open after.is_open g.whole g.current line role g.visiting one e past.is_open gives;
+          visiting = visiting_goes (K s.header) (L after.header) text s.counts after.counts at n g.before s.is_open after.is_open g.whole g.current line role g.visiting one e past.is_open gave;
           no_tail = no_tail;
         };
         ended = ended_after;
         first = λ none. absurd (omega (arith, none, lines_after));
+        headless = λ none. absurd (omega (arith, none, lines_after));
         headed = λ _. headed_after role (map role_of g.before) s.header after.header line text at n none past.header (λ none. read.first (omega (arith, counted, none)))
             (λ some. read.headed (omega (arith, counted, some))) here.split;
       }
 
+-- before the header's line nothing was given
+pub before_header : (K : Option Header → List RawParts → Option RawParts → Type 0) (s : ReaderState) (text : List ℕ) (at : ℕ) (line : List ℕ) (read : IsReadUpTo K s text at) (g : GoesOnAt (K s.header) s text at)
+    → FileHeader true ≡ role_of line → None ≡ line_fault g.before line → (g.whole ≡ []) × (g.current ≡ None) × K None [] None
+before_header K s text at line read g role_is clear =
+    let before = map role_of g.before in
+    let none = no_lines before (file_head_is before true (ap (role_fault before) role_is ∙ clear_role g.before line g.visiting.going.goes clear)) in
+    let counted = ap (λ (x : FileCounts). x.lines) g.visiting.going.counted in
+    let yet = none_given (K s.header) text s.counts at g.before s.is_open g.whole g.current g.visiting (omega (arith, none, length-map g.before role_of)) in
+    (yet.0, yet.1, rw (yet.0, yet.1, read.headless (omega (arith, counted, none))) at g.visiting.kept)
+
+-- the header's line
+pub header_taken : (K L : Option Header → List RawParts → Option RawParts → Type 0) (s after : ReaderState) (text : List ℕ) (at n : ℕ) (line : List ℕ) (head : Header) (read : IsReadUpTo K s text at) (g : GoesOnAt (K s.header) s text at)
+    → IsNextLine line text at n → FileHeader true ≡ role_of line → None ≡ line_fault g.before line → IsPast s after line (FileHeader true) → after.header ≡ Some head
+    → (K None [] None → L (Some head) [] None) → IsReadUpTo L after text (at + n)
+header_taken K L s after text at n line head read g here role_is clear past head_is gives =
+    let before = before_header K s text at line read g role_is clear in
+    line_taken K L s after text at n line (FileHeader true) read g here role_is clear past (rw (before.0, before.1, head_is) (gives before.2))
+
+-- before any other line the header was given
+pub behind_header : (K : Option Header → List RawParts → Option RawParts → Type 0) (s : ReaderState) (text : List ℕ) (at : ℕ) (line : List ℕ) (role : Role) (read : IsReadUpTo K s text at) (g : GoesOnAt (K s.header) s text at)
+    → role ≡ role_of line → None ≡ line_fault g.before line → is_file_header role ≡ false → IsHeadOf s.header text
+behind_header K s text at line role read g role_is clear other =
+    let before = map role_of g.before in
+    let some = some_before before role (ap (role_fault before) role_is ∙ clear_role g.before line g.visiting.going.goes clear) other in
+    let counted = ap (λ (x : FileCounts). x.lines) g.visiting.going.counted in
+    read.headed (omega (arith, counted, some))
+
+-- any other line
+pub line_given : (K L : Option Header → List RawParts → Option RawParts → Type 0) (s after : ReaderState) (text : List ℕ) (at n : ℕ) (line : List ℕ) (role : Role) (read : IsReadUpTo K s text at) (g : GoesOnAt (K s.header) s text at)
+    → IsNextLine line text at n → role ≡ role_of line → None ≡ line_fault g.before line → IsPast s after line role → is_file_header role ≡ false
+    → ((head : Header) (whole : List RawParts) (current : Option RawParts) → is_some current ≡ s.is_open → K (Some head) whole current
+    → L (Some head) (whole_after role whole current) (open_after role line s.counts.groups s.counts.transactions current))
+    → IsReadUpTo L after text (at + n)
+line_given K L s after text at n line role read g here role_is clear past other gives =
+    let h = behind_header K s text at line role read g role_is clear other in
+    let is = same_head role s.header after.header line other past.header ∙ h.header_is in
+    line_taken K L s after text at n line role read g here role_is clear past
+    (rw is (gives h.header g.whole g.current g.visiting.is.open_is (rw h.header_is at g.visiting.kept)))
+
 -- the line has a fault
-pub role_faulty : (K : List RawParts → Option RawParts → Type 0) (s : ReaderState) (text : List ℕ) (at n : ℕ) (line : List ℕ) (refusal : FileRefusal) → IsReadUpTo K s text at → s.counts.is_ended ≡ false → IsNextLine line text at n
+pub role_faulty : (K : Option Header → List RawParts → Option RawParts → Type 0) (s : ReaderState) (text : List ℕ) (at n : ℕ) (line : List ℕ) (refusal : FileRefusal) → IsReadUpTo K s text at → s.counts.is_ended ≡ false → IsNextLine line text at n
     → (number : ℕ) × (refusal ≡ Fault number (s.counts.lines + 1)) × ((before : List (List ℕ)) → s.counts ≡ counts_of (map role_of before) → Some number ≡ line_fault before line) → IsRefusal (lines text) refusal
 role_faulty K s text at n line refusal read goes here (number, is, faulty) =
     let r = read.goes goes in
@@ -138,8 +191,8 @@ tail_goes line rest k e = rw e refl
 tail_stops : (line : List ℕ) (rest : List (List ℕ)) (k : ℕ) → is_tail line ≡ false → tail_fault k (line ∷ rest) ≡ Some k
 tail_stops line rest k e = rw e refl
 
-pub tail_taken : (K L : List RawParts → Option RawParts → Type 0) (s : ReaderState) (text : List ℕ) (at n : ℕ) (line : List ℕ) → IsReadUpTo K s text at → s.counts.is_ended ≡ true → IsNextLine line text at n
-    → is_tail line ≡ true → ((whole : List RawParts) → K whole None → L whole None) → IsReadUpTo L (record s { tail = s.tail + 1 }) text (at + n)
+pub tail_taken : (K L : Option Header → List RawParts → Option RawParts → Type 0) (s : ReaderState) (text : List ℕ) (at n : ℕ) (line : List ℕ) → IsReadUpTo K s text at → s.counts.is_ended ≡ true → IsNextLine line text at n
+    → is_tail line ≡ true → ((whole : List RawParts) → K s.header whole None → L s.header whole None) → IsReadUpTo L (record s { tail = s.tail + 1 }) text (at + n)
 tail_taken K L s text at n line read e here is same =
     let x = read.ended e in
     let few = x.few in
@@ -161,10 +214,11 @@ tail_taken K L s text at n line read e here is same =
             ∙ ap (λ (k : ℕ). with_eleven (tail_fault k (lines (drop (at + n) text)))) (omega arith);
       };
       first = λ none. absurd (let some = x.some in omega (arith, none, some));
+      headless = λ none. absurd (let some = x.some in omega (arith, none, some));
       headed = read.headed;
     }
 
-pub tail_faulty : (K : List RawParts → Option RawParts → Type 0) (s : ReaderState) (text : List ℕ) (at n : ℕ) (line : List ℕ) → IsReadUpTo K s text at → s.counts.is_ended ≡ true → IsNextLine line text at n
+pub tail_faulty : (K : Option Header → List RawParts → Option RawParts → Type 0) (s : ReaderState) (text : List ℕ) (at n : ℕ) (line : List ℕ) → IsReadUpTo K s text at → s.counts.is_ended ≡ true → IsNextLine line text at n
     → is_tail line ≡ false → IsLeastFault (lines text) (s.counts.lines + s.tail + 1) 11
 tail_faulty K s text at n line read e here is =
     first_is_least (lines text) (s.counts.lines + s.tail + 1) 11 (
@@ -210,13 +264,13 @@ next_last last text rest line at i n here rest_is some fits split =
 -- ---- the end
 
 -- no TRL was read
-none_ended : (K : List RawParts → Option RawParts → Type 0) (s : ReaderState) (text : List ℕ) (at number : ℕ) → IsReadUpTo K s text at → s.counts.is_ended ≡ false → drop at text ≡ []
+none_ended : (K : Option Header → List RawParts → Option RawParts → Type 0) (s : ReaderState) (text : List ℕ) (at number : ℕ) → IsReadUpTo K s text at → s.counts.is_ended ≡ false → drop at text ≡ []
     → ((s.counts.lines ≡ 0) × (number ≡ 1)) ⊎ ((0 < s.counts.lines) × (number ≡ 11)) → IsLeastFault (lines text) (s.counts.lines + 1) number
 none_ended K s text at number read goes end which =
     let g = read.goes goes in
     end_faulty text s.counts at g.before (drop at text) number g.visiting.going refl end which
 
-given : (K : List RawParts → Option RawParts → Type 0) (s : ReaderState) (text : List ℕ) (at : ℕ) (head : Header) → IsReadUpTo K s text at → s.counts.is_ended ≡ true → drop at text ≡ []
+given : (K : Option Header → List RawParts → Option RawParts → Type 0) (s : ReaderState) (text : List ℕ) (at : ℕ) (head : Header) → IsReadUpTo K s text at → s.counts.is_ended ≡ true → drop at text ≡ []
     → s.header ≡ Some head → WasGiven K text head s.counts.groups s.counts.lines
 given K s text at head read ended end head_is =
     let x = read.ended ended in
@@ -231,13 +285,13 @@ given K s text at head read ended end head_is =
       file = file.0;
       transactions = x.whole;
       formed = file.1;
-      kept = x.kept;
+      kept = subst (λ (o : Option Header). K o x.whole None) head_is x.kept;
       submission = record { header = stands; transactions = parts.transactions; groups = parts.groups; records = parts.records };
       bounds = file_bounds text file.0 head x.whole file.1 stands parts.transactions;
     }
 
 -- after the file's end the header is known
-some_header : (K : List RawParts → Option RawParts → Type 0) (s : ReaderState) (text : List ℕ) (at : ℕ) → IsReadUpTo K s text at → s.counts.is_ended ≡ true → s.header ≡ None → ⊥
+some_header : (K : Option Header → List RawParts → Option RawParts → Type 0) (s : ReaderState) (text : List ℕ) (at : ℕ) → IsReadUpTo K s text at → s.counts.is_ended ≡ true → s.header ≡ None → ⊥
 some_header K s text at read ended none =
     let some = (read.ended ended).some in
     let headed = read.headed (omega (arith, some)) in
@@ -245,7 +299,7 @@ some_header K s text at read ended none =
     absurd cc
 
 -- what an envelope takes for granted
-pub few_lines : (K : List RawParts → Option RawParts → Type 0) (s : ReaderState) (text : List ℕ) (at : ℕ) → IsReadUpTo K s text at → s.counts.lines ≤ at
+pub few_lines : (K : Option Header → List RawParts → Option RawParts → Type 0) (s : ReaderState) (text : List ℕ) (at : ℕ) → IsReadUpTo K s text at → s.counts.lines ≤ at
 few_lines K s text at read =
     (elim s.counts.is_ended as (λ b. s.counts.is_ended ≡ b → s.counts.lines ≤ at) [
       | true ↦ λ e. (let few = (read.ended e).few in omega (arith, few))
@@ -255,15 +309,15 @@ few_lines K s text at read =
           omega (arith, few, ap (λ (x : FileCounts). x.lines) going.counted, length-map (read.goes e).before role_of))
     ]) refl
 
-pub fits_envelope : (K : List RawParts → Option RawParts → Type 0) (s : ReaderState) (text : List ℕ) (at : ℕ) → IsReadUpTo K s text at → s.counts.is_ended ≡ true
+pub fits_envelope : (K : Option Header → List RawParts → Option RawParts → Type 0) (s : ReaderState) (text : List ℕ) (at : ℕ) → IsReadUpTo K s text at → s.counts.is_ended ≡ true
     → (s.counts.groups < 10 ^ 5) × (s.counts.lines < 10 ^ 8) × (s.header ≡ None → ⊥)
 fits_envelope K s text at read e = let x = read.ended e in (x.few_groups, x.few_records, some_header K s text at read e)
 
 -- and what it answers
-pub envelope_given : (K : List RawParts → Option RawParts → Type 0) (s : ReaderState) (text : List ℕ) (at : ℕ) (envelope : Envelope) → IsReadUpTo K s text at → drop at text ≡ []
+pub envelope_given : (K : Option Header → List RawParts → Option RawParts → Type 0) (s : ReaderState) (text : List ℕ) (at : ℕ) (envelope : Envelope) → IsReadUpTo K s text at → drop at text ≡ []
     → (s.counts.is_ended ≡ true) × (s.header ≡ Some envelope.header) × (envelope.groups ≡ s.counts.groups) × (envelope.records ≡ s.counts.lines) → WasGiven K text envelope.header envelope.groups envelope.records
 envelope_given K s text at envelope read end (ended, head_is, groups, records) = rw (groups, records) (given K s text at envelope.header read ended end head_is)
 
-pub envelope_faulty : (K : List RawParts → Option RawParts → Type 0) (s : ReaderState) (text : List ℕ) (at : ℕ) (refusal : FileRefusal) → IsReadUpTo K s text at → drop at text ≡ []
+pub envelope_faulty : (K : Option Header → List RawParts → Option RawParts → Type 0) (s : ReaderState) (text : List ℕ) (at : ℕ) (refusal : FileRefusal) → IsReadUpTo K s text at → drop at text ≡ []
     → (s.counts.is_ended ≡ false) × (number : ℕ) × (refusal ≡ Fault number (s.counts.lines + 1)) × (((s.counts.lines ≡ 0) × (number ≡ 1)) ⊎ ((0 < s.counts.lines) × (number ≡ 11))) → IsRefusal (lines text) refusal
 envelope_faulty K s text at refusal read end (goes, number, is, which) = rw is (none_ended K s text at number read goes end which)

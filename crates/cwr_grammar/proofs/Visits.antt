@@ -223,9 +223,9 @@ visiting_gives K text s at before is_open whole current line role v read clear s
 -- and then all holds before the next line
 pub visiting_goes : (K L : List RawParts → Option RawParts → Type 0) (text : List ℕ) (s next : FileCounts) (at n : ℕ) (before : List (List ℕ)) (is_open is_next : Bool) (whole : List RawParts) (current : Option RawParts) (line : List ℕ) (role : Role)
     → Visiting K text s at before is_open whole current → OneLine text before at n line role next → next.is_ended ≡ false → is_next ≡ leaves_open role
-    → ((whole : List RawParts) (current : Option RawParts) → is_some current ≡ is_open → K whole current → L (whole_after role whole current) (open_after role line s.groups s.transactions current))
+    → L (whole_after role whole current) (open_after role line s.groups s.transactions current)
     → Visiting L text next (at + n) (line ∷ before) is_next (whole_after role whole current) (open_after role line s.groups s.transactions current)
-visiting_goes K L text s next at n before is_open is_next whole current line role v one goes next_is gives =
+visiting_goes K L text s next at n before is_open is_next whole current line role v one goes next_is gave =
     let more = no_trailer text s next at n before line role v.going one goes in
     let none = ap (role_fault (map role_of before)) one.read ∙ clear_role before line v.going.goes one.clear in
     let is = subst (λ (x : FileCounts). IsOpen x is_open current) v.going.counted v.is in
@@ -238,7 +238,7 @@ visiting_goes K L text s next at n before is_open is_next whole current line rol
     let T : FileCounts → Type 0 = λ x. IsGiven (raws (lines text) 0 0) (whole_after role whole current) (open_after role line s.groups s.transactions current) x.groups x.transactions (lines (drop (at + n) text)) in
     record {
       going = goes_on text s next at n before line role v.going one goes;
-      kept = gives whole current v.is.open_is v.kept;
+      kept = gave;
       is = subst P (sym one.counted) (rw next_is opened);
       few = omega (arith, whole_few role whole current _ v.few);
       given = subst T (sym one.counted) (subst S (sym v.going.counted) (given_goes role (map role_of before) (raws (lines text) 0 0) whole current line (lines (drop (at + n) text)) (sym one.read) more (subst R v.going.counted given)));
@@ -265,7 +265,15 @@ none_after (Detail j d) line g t current e = absurd cc
 
 pub visiting_kept : (K L : List RawParts → Option RawParts → Type 0) (text : List ℕ) (s next : FileCounts) (at n : ℕ) (before : List (List ℕ)) (is_open : Bool) (whole : List RawParts) (current : Option RawParts) (line : List ℕ) (role : Role)
     → Visiting K text s at before is_open whole current → OneLine text before at n line role next → next.is_ended ≡ true
-    → ((whole : List RawParts) (current : Option RawParts) → is_some current ≡ is_open → K whole current → L (whole_after role whole current) (open_after role line s.groups s.transactions current))
-    → L (whole_after role whole current) None
-visiting_kept K L text s next at n before is_open whole current line role v one ended gives =
-    subst (L (whole_after role whole current)) (none_after role line s.groups s.transactions current (trailer text s next at n before line role v.going one ended)) (gives whole current v.is.open_is v.kept)
+    → L (whole_after role whole current) (open_after role line s.groups s.transactions current) → L (whole_after role whole current) None
+visiting_kept K L text s next at n before is_open whole current line role v one ended gave =
+    subst (L (whole_after role whole current)) (none_after role line s.groups s.transactions current (trailer text s next at n before line role v.going one ended)) gave
+
+-- before the first line nothing was given
+pub none_given : (K : List RawParts → Option RawParts → Type 0) (text : List ℕ) (s : FileCounts) (at : ℕ) (before : List (List ℕ)) (is_open : Bool) (whole : List RawParts) (current : Option RawParts)
+    → Visiting K text s at before is_open whole current → length before ≡ 0 → (whole ≡ []) × (current ≡ None)
+none_given K text s at (b ∷ before) is_open whole current v none = absurd (omega (arith, none))
+none_given K text s at [] is_open (t ∷ whole) current v none = absurd (let few = v.few in omega (arith, few))
+none_given K text s at [] is_open [] None v none = (refl, refl)
+none_given K text s at [] is_open [] (Some t) v none =
+    absurd (let never : true ≡ false = v.is.open_is ∙ v.is.counted ∙ ap (λ (x : FileCounts). x.in_group && x.in_transaction) v.going.counted in cc)

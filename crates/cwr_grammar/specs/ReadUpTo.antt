@@ -108,11 +108,12 @@ pub record IsHeadOf (head : Option Header) (text : List ℕ) : Type 0 where
   pub stands : (f : File) → IsFile (lines text) f → StandsFor table.header f.header header
 
 -- A reader has gone past the lines of a text before a position, with no fault so far, and a visitor keeps of their
--- transactions what it says.
-pub record IsReadUpTo (keeps : List RawParts → Option RawParts → Type 0) (s : ReaderState) (text : List ℕ) (at : ℕ) : Type 0 where
-  pub goes : s.counts.is_ended ≡ false → GoesOnAt keeps s text at
-  pub ended : s.counts.is_ended ≡ true → EndedBefore keeps s text at
+-- header and of their transactions what it says.
+pub record IsReadUpTo (keeps : Option Header → List RawParts → Option RawParts → Type 0) (s : ReaderState) (text : List ℕ) (at : ℕ) : Type 0 where
+  pub goes : s.counts.is_ended ≡ false → GoesOnAt (keeps s.header) s text at
+  pub ended : s.counts.is_ended ≡ true → EndedBefore (keeps s.header) s text at
   pub first : s.counts.lines ≡ 0 → at ≡ 0
+  pub headless : s.counts.lines ≡ 0 → s.header ≡ None
   pub headed : 0 < s.counts.lines → IsHeadOf s.header text
 
 -- a text goes on with a line, whose bytes with its end are so many

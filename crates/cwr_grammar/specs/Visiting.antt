@@ -13,12 +13,12 @@ use Rattle.cwr_grammar.specs.Submitted.{IsSubmission, IsBounded}
 abbrev pub with_line : List ℕ → RawParts → RawParts
 with_line line t = record t { lines = t.lines ++ line ∷ [] }
 
--- A file of so many bytes was given whole: a visitor keeps of it just its transactions, in order.
-pub record WasGiven (keeps : List RawParts → Option RawParts → Type 0) (bytes : List ℕ) (head : Header) (group_count record_count : ℕ) : Type 0 where
+-- A file of so many bytes was given whole: a visitor keeps of it just its header and its transactions, in order.
+pub record WasGiven (keeps : Option Header → List RawParts → Option RawParts → Type 0) (bytes : List ℕ) (head : Header) (group_count record_count : ℕ) : Type 0 where
   pub file : File
   pub transactions : List RawParts
   pub formed : IsFile (lines bytes) file
-  pub kept : keeps transactions None
+  pub kept : keeps (Some head) transactions None
   pub submission : IsSubmission file head transactions group_count record_count
   pub bounds : IsBounded (length bytes) head transactions
 

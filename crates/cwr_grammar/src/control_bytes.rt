@@ -1,22 +1,16 @@
-ghost use Rattle.std.specs.Prelude.{◌≡◌, ◌+◌, ◌≤◌, ◌<◌, ◌^◌, ℕ, true, false, length, take, drop, slice_index};
+ghost use Rattle.std.specs.Prelude.{◌≡◌, ◌+◌, ◌≤◌, ◌<◌, ℕ, false, length, take, drop, slice_index};
 ghost use Rattle.std.specs.List.{position_or_len};
 ghost use Rattle.cwr_field.specs.Layout.{is_control};
 
-use cwr_field::LEAST_PRINTABLE;
+use cwr_field::{BLOCK, CONTROLS, LEAST_PRINTABLE, has_in_block, is_free_before};
 use std::simd::prelude::*;
-
-/// How many bytes are looked at together.
-pub(crate) const BLOCK: usize = 64;
-
-/// And how many of them together, where there are fewer.
-pub(crate) const HALF: usize = 32;
 
 /// How many bytes of a block come before the first control byte.
 fn before_control(text: &[u8], at: usize) -> u32
     requires { at + 64 ≤ length text.now }
     ensures { result ≡ position_or_len is_control (take 64 (drop at text.now)) }
 {
-    if !has_control_in(text, at) {
+    if !has_in_block(text, at, CONTROLS) {
         return BLOCK as u32;
     }
     u8x64::from_slice(&text[at..])
@@ -25,31 +19,22 @@ fn before_control(text: &[u8], at: usize) -> u32
         .trailing_zeros()
 }
 
-/// Whether a block has a control byte: the least of its bytes, taken two by two, tell it sooner than a mask of all.
-pub(crate) fn has_control_in(text: &[u8], at: usize) -> bool
-    requires { at + 64 ≤ length text.now }
-    ensures { result ≡ false → (k : ℕ) → at ≤ k → k < at + 64 → is_control (slice_index text.now k) ≡ false }
+/// The index of the first control byte, or the length, where it may be at an index.
+#[inline(always)]
+pub(crate) fn first_control_near(text: &[u8], guess: usize) -> usize
+    ensures { result ≡ position_or_len is_control text.now }
 {
-    let front = u8x32::from_slice(&text[at..]);
-    let back = u8x32::from_slice(&text[at + HALF..]);
-    front
-        .simd_min(back)
-        .simd_lt(u8x32::splat(LEAST_PRINTABLE))
-        .any()
-}
-
-/// Whether half a block has a control byte.
-pub(crate) fn has_control_in_half(text: &[u8], at: usize) -> bool
-    requires { at + 32 ≤ length text.now }
-    ensures { result ≡ false → (k : ℕ) → at ≤ k → k < at + 32 → is_control (slice_index text.now k) ≡ false }
-{
-    u8x32::from_slice(&text[at..])
-        .simd_lt(u8x32::splat(LEAST_PRINTABLE))
-        .any()
+    if guess < text.len()
+        && text[guess] < LEAST_PRINTABLE
+        && is_free_before(text, guess, CONTROLS)
+    {
+        return guess;
+    }
+    first_control(text)
 }
 
 /// The index of the first control byte, or the length.
-pub(crate) fn first_control(text: &[u8]) -> usize
+fn first_control(text: &[u8]) -> usize
     ensures { result ≡ position_or_len is_control text.now }
 {
     let mut at = 0;

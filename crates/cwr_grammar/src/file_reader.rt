@@ -3,7 +3,7 @@ ghost use Rattle.std.specs.List.{position};
 ghost use Rattle.std.specs.Str.Lines.{lines};
 ghost use Rattle.cwr_grammar.specs.Awaited.{next_detail, next_header};
 ghost use Rattle.cwr_grammar.specs.Counted.{counts_of, AreSmall};
-ghost use Rattle.cwr_grammar.specs.FaultTests.{has_control, is_tail};
+ghost use Rattle.cwr_grammar.specs.FaultTests.{has_control, is_file_header, is_tail};
 ghost use Rattle.cwr_grammar.specs.File.{IsPlain};
 ghost use Rattle.cwr_grammar.specs.FirstFault.{line_fault};
 ghost use Rattle.cwr_grammar.specs.ReadUpTo.{IsNextLine, IsPast, IsReadUpTo, StandsAt, HeadAfter, at_start};
@@ -29,7 +29,7 @@ use cwr_record::{Header, RecordType, WorkKind, read_header, type_of};
 use std::alloc::Allocator;
 use std::marker::Model;
 
-/// Reads a file whose bytes come a piece at a time, and gives its transactions to a visitor on its way.
+/// Reads a file whose bytes come a piece at a time, and gives its header and its transactions to a visitor on its way.
 ///
 /// It keeps no byte of the file but its header. A file that comes as one piece is read by
 /// [`visit_file`](crate::visit_file). After an error it tells nothing any more.
@@ -106,8 +106,8 @@ impl FileReader {
 
     /// Goes past the last bytes of the file, and answers its envelope.
     ///
-    /// A well-formed file has given the visitor all its transactions, in order. Of any other the first fault is
-    /// answered: what the visitor was given by then is of no file. No memory is asked for but by the visitor.
+    /// A well-formed file has given the visitor its header and all its transactions, in order. Of any other the first
+    /// fault is answered: what the visitor was given by then is of no file. No memory is asked for but by the visitor.
     pub fn finish<V: Visitor>(
         mut self,
         visitor: &mut V,
@@ -239,6 +239,7 @@ impl FileReader {
     }
 
     /// Goes past the next line, whatever it is.
+    #[inline(never)]
     fn take_other<V: Visitor>(
         &mut self,
         visitor: &mut V,
@@ -256,10 +257,29 @@ impl FileReader {
         }
         let record_type = type_of(line);
         let role = self.clear_role(record_type, line, is_clean)?;
+        if let Role::FileHeader(_) = role {
+            self.take_file_header(visitor, line);
+            return Ok(());
+        }
         self.take_clear(visitor, line, record_type, role)
     }
 
-    /// Goes past the next line, of this role, which has no fault.
+    /// Goes past the file's header, which has no fault, and so is its first line.
+    fn take_file_header<V: Visitor>(&mut self, visitor: &mut V, line: &[u8])
+        requires goes { self.old.counts.is_ended ≡ false }
+        requires role { role_of line.now ≡ FileHeader true }
+        requires clear { (before : List (List ℕ)) → self.old.counts ≡ counts_of (map role_of before) → None ≡ line_fault before line.now }
+        requires next { (first : V) × (text : List ℕ) × (at : ℕ) × (n : ℕ) × IsReadUpTo (V.keeps first visitor.old) self.old text at × IsNextLine line.now text at n × (at + n < 2 ^ 63) }
+        ensures { (first : V) (text : List ℕ) (at n : ℕ) → IsNextLine line.now text at n → IsReadUpTo (V.keeps first visitor.old) self.old text at → IsReadUpTo (V.keeps first visitor.new) self.new text (at + n) }
+    {
+        self.pass(line, &Role::FileHeader(true));
+        let Some(header) = &self.header else {
+            unreachable!()
+        };
+        visitor.header(header);
+    }
+
+    /// Goes past the next line, of this role, which has no fault and is not the file's header.
     #[inline(always)]
     fn take_clear<V: Visitor>(
         &mut self,
@@ -271,6 +291,7 @@ impl FileReader {
         requires goes { self.old.counts.is_ended ≡ false }
         requires read { record_type ≡ type_of line.now }
         requires role { role ≡ role_of line.now }
+        requires behind { is_file_header role ≡ false }
         requires clear { (before : List (List ℕ)) → self.old.counts ≡ counts_of (map role_of before) → None ≡ line_fault before line.now }
         requires next { (first : V) × (text : List ℕ) × (at : ℕ) × (n : ℕ) × IsReadUpTo (V.keeps first visitor.old) self.old text at × IsNextLine line.now text at n × (at + n < 2 ^ 63) }
         ensures taken { OnOk result ((first : V) (text : List ℕ) (at n : ℕ) → IsNextLine line.now text at n → IsReadUpTo (V.keeps first visitor.old) self.old text at → IsReadUpTo (V.keeps first visitor.new) self.new text (at + n)) }
@@ -297,10 +318,10 @@ impl FileReader {
         line: &FirstLine<'_>,
     ) -> Result<Option<Open>, FileRefusal>
         requires clean { line.now.is_clean ≡ true → has_control line.now.bytes.now ≡ false }
-        requires next { (text : List ℕ) × IsReadUpTo (Placed text spans.old.items current at) self.old text at × IsNextLine line.now.bytes.now text at line.now.size × (at + line.now.size < 2 ^ 63) }
-        ensures taken { IfOk result (λ next. (text : List ℕ) → IsNextLine line.now.bytes.now text at line.now.size → IsLineAt line.now.bytes.now text at line.now.size → IsReadUpTo (Placed text spans.old.items current at) self.old text at
-            → IsReadUpTo (Placed text spans.new.items next (at + line.now.size)) self.new text (at + line.now.size)) }
-        ensures fault { IfErr result (λ refusal. (text : List ℕ) → IsNextLine line.now.bytes.now text at line.now.size → IsReadUpTo (Placed text spans.old.items current at) self.old text at → IsRefusal (lines text) refusal) }
+        requires next { (text : List ℕ) × IsReadUpTo (λ _. Placed text spans.old.items current at) self.old text at × IsNextLine line.now.bytes.now text at line.now.size × (at + line.now.size < 2 ^ 63) }
+        ensures taken { IfOk result (λ next. (text : List ℕ) → IsNextLine line.now.bytes.now text at line.now.size → IsLineAt line.now.bytes.now text at line.now.size → IsReadUpTo (λ _. Placed text spans.old.items current at) self.old text at
+            → IsReadUpTo (λ _. Placed text spans.new.items next (at + line.now.size)) self.new text (at + line.now.size)) }
+        ensures fault { IfErr result (λ refusal. (text : List ℕ) → IsNextLine line.now.bytes.now text at line.now.size → IsReadUpTo (λ _. Placed text spans.old.items current at) self.old text at → IsRefusal (lines text) refusal) }
     {
         if self.is_next_detail(line) {
             self.pass_detail();

@@ -1,14 +1,13 @@
 //! The grammar of CWR submission files.
 //!
 //! [`parse_file`] reads a submission file: its header and its transactions, or its first fault. Nothing is copied:
-//! a [`RawTransaction`] borrows the file's bytes, and [`Lines`] goes over lines. [`visit_file`] gives the same transactions
-//! to a [`Visitor`] line by line, on its way, and a [`FileReader`] those of a file that comes a piece at a time.
-//! [`file_header`] reads the header alone.
+//! a [`RawTransaction`] borrows the file's bytes, and [`Lines`] goes over lines. [`visit_file`] gives the same header
+//! and transactions to a [`Visitor`], these line by line, on its way, and a [`FileReader`] those of a file that comes a
+//! piece at a time.
 #![tactic(auto)]
 
 mod awaited;
 mod control_bytes;
-mod control_near;
 mod envelope;
 mod fault;
 mod file_counts;
@@ -25,7 +24,7 @@ mod visitor;
 
 pub use cwr_field::Memory;
 pub use cwr_record::{Header, WorkKind};
-pub use envelope::{Envelope, file_header};
+pub use envelope::Envelope;
 pub use file_reader::FileReader;
 pub use lines::Lines;
 pub use refusal::FileRefusal;

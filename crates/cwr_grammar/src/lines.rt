@@ -5,7 +5,7 @@ ghost use Rattle.std.specs.Str.Lines.{lines, strip_carriage_return};
 ghost use Rattle.cwr_field.specs.Layout.{is_control};
 ghost use Rattle.cwr_grammar.specs.FaultTests.{has_control};
 
-use crate::control_near::first_control_near;
+use crate::control_bytes::first_control_near;
 use std::iter::FusedIterator;
 use std::marker::Model;
 
@@ -141,7 +141,7 @@ fn other_line(text: &[u8]) -> FirstLine<'_>
     ensures ended { result.is_whole ≡ true → (more : List ℕ) → lines (take result.size text.now ++ more) ≡ result.bytes.now ∷ lines more }
     ensures unended { result.is_whole ≡ false → position (λ b. b == 10) text.now ≡ None }
 {
-    match newline_in(text) {
+    match cwr_field::line_end(text) {
         Some(end) => FirstLine {
             bytes: without_return(&text[..end]),
             size: end + 1,
@@ -155,14 +155,6 @@ fn other_line(text: &[u8]) -> FirstLine<'_>
             is_whole: false,
         },
     }
-}
-
-/// The index of the first LF.
-fn newline_in(text: &[u8]) -> Option<usize>
-    ensures value { result ≡ position (λ b. b == 10) text.now }
-    ensures inside { IfSome result (λ end. end < length text.now) }
-{
-    text.iter().position(|byte| *byte == b'\n')
 }
 
 /// The bytes of a line that an LF ended, less one CR at their end.

@@ -3,6 +3,7 @@ ghost use Rattle.std.specs.Str.Lines.{lines};
 ghost use Rattle.cwr_field.specs.Layout.{is_printable};
 ghost use Rattle.cwr_field.specs.Number.{most_count};
 ghost use Rattle.cwr_record.specs.RecordTypes.{type_of};
+ghost use Rattle.cwr_record.specs.declared.control.Header.{Header};
 ghost use Rattle.cwr_grammar.specs.Counted.{FitsHeader};
 ghost use Rattle.cwr_grammar.specs.RawParts.{RawParts};
 ghost use Rattle.cwr_grammar.specs.Submitted.{IsRefusal};
@@ -14,15 +15,21 @@ use crate::file_reader::FileReader;
 use crate::refusal::FileRefusal;
 use crate::role::Role;
 use cwr_field::Memory;
-use cwr_record::{RecordType, WorkKind};
+use cwr_record::{Header, RecordType, WorkKind};
 
-/// Takes the transactions of a file line by line, as [`visit_file`] comes to them.
+/// Takes the header of a file, and then its transactions line by line, as [`visit_file`] comes to them.
 ///
 /// No line that it is given has a byte below 32. Where memory is refused, it is given nothing any more.
 pub trait Visitor {
-    // What it keeps, since it was as at first, of the transactions that it was given whole, and of the lines of one that
-    // is open.
-    ghost keeps: { Self → Self → List RawParts → Option RawParts → Type 0 };
+    // What it keeps, since it was as at first, of the header that it was given, of the transactions that it was given
+    // whole, and of the lines of one that is open.
+    ghost keeps: { Self → Self → Option Header → List RawParts → Option RawParts → Type 0 };
+
+    /// The file begins, with this header. No byte of its sender is below 32.
+    fn header(&mut self, header: &Header)
+        requires nothing { (first : Self) × keeps first self.old None [] None }
+        requires printable { IsTrue (is_printable header.now.sender) }
+        ensures { (first : Self) → keeps first self.old None [] None → keeps first self.new (Some header.now) [] None };
 
     /// A transaction begins: its group id, its transaction sequence, its kind and its header's line.
     fn begin(
@@ -32,41 +39,44 @@ pub trait Visitor {
         kind: WorkKind,
         head: &[u8],
     ) -> Result<(), Memory>
-        requires between { (first : Self) × (whole : List RawParts) × keeps first self.old whole None }
+        requires between { (first : Self) × (header : Header) × (whole : List RawParts) × keeps first self.old (Some header) whole None }
         requires group { group < 10 ^ 5 }
         requires sequence { sequence < 10 ^ 8 }
         requires printable { IsTrue (is_printable head.now) }
-        ensures { OnOk result ((first : Self) (whole : List RawParts) → keeps first self.old whole None
-            → keeps first self.new whole (Some (record { group = group; sequence = sequence; kind = kind; lines = head.now ∷ [] }))) };
+        ensures { OnOk result ((first : Self) (header : Header) (whole : List RawParts) → keeps first self.old (Some header) whole None
+            → keeps first self.new (Some header) whole (Some (record { group = group; sequence = sequence; kind = kind; lines = head.now ∷ [] }))) };
 
     /// The open transaction goes on with a detail's line, of this record type.
     fn detail(&mut self, line: &[u8], record_type: RecordType) -> Result<(), Memory>
-        requires begun { (first : Self) × (whole : List RawParts) × (t : RawParts) × keeps first self.old whole (Some t) × (length t.lines ≤ most_count) }
+        requires begun { (first : Self) × (header : Header) × (whole : List RawParts) × (t : RawParts) × keeps first self.old (Some header) whole (Some t) × (length t.lines ≤ most_count) }
         requires read { record_type ≡ type_of line.now }
         requires printable { IsTrue (is_printable line.now) }
-        ensures { OnOk result ((first : Self) (whole : List RawParts) (t : RawParts) → keeps first self.old whole (Some t) → keeps first self.new whole (Some (with_line line.now t))) };
+        ensures { OnOk result ((first : Self) (header : Header) (whole : List RawParts) (t : RawParts) → keeps first self.old (Some header) whole (Some t)
+            → keeps first self.new (Some header) whole (Some (with_line line.now t))) };
 
     /// The open transaction is whole.
     fn end(&mut self) -> Result<(), Memory>
-        requires begun { (first : Self) × (whole : List RawParts) × (t : RawParts) × keeps first self.old whole (Some t) × (length t.lines ≤ most_count + 1) × (length whole < 2 ^ 63) }
-        ensures { OnOk result ((first : Self) (whole : List RawParts) (t : RawParts) → keeps first self.old whole (Some t) → keeps first self.new (whole ++ t ∷ []) None) };
+        requires begun { (first : Self) × (header : Header) × (whole : List RawParts) × (t : RawParts) × keeps first self.old (Some header) whole (Some t) × (length t.lines ≤ most_count + 1) × (length whole < 2 ^ 63) }
+        ensures { OnOk result ((first : Self) (header : Header) (whole : List RawParts) (t : RawParts) → keeps first self.old (Some header) whole (Some t)
+            → keeps first self.new (Some header) (whole ++ t ∷ []) None) };
 }
 
-/// Reads a file as [`parse_file`](crate::parse_file) does, and gives its transactions to a visitor on its way. One whose
-/// bytes come a piece at a time is read by a [`FileReader`].
+/// Reads a file as [`parse_file`](crate::parse_file) does, and gives its header and its transactions to a visitor on its
+/// way. One whose bytes come a piece at a time is read by a [`FileReader`].
 ///
-/// A well-formed file gives it all its transactions, in order, and answers the
-/// file's envelope. Of any other the first fault is answered: what the visitor was given by then is of no file. No
-/// memory is asked for but by the visitor.
+/// A well-formed file gives it the header, and then all its transactions, in order, and answers the file's envelope. Of
+/// any other the first fault is answered: what the visitor was given by then is of no file. No memory is asked for but
+/// by the visitor.
 pub fn visit_file<V: Visitor>(bytes: &[u8], visitor: &mut V) -> Result<Envelope, FileRefusal>
-    requires { V.keeps visitor.old visitor.old [] None }
+    requires { V.keeps visitor.old visitor.old None [] None }
     ensures given { IfOk result (λ envelope. WasGiven (V.keeps visitor.old visitor.new) bytes.now envelope.header envelope.groups envelope.records) }
     ensures fault { IfErr result (IsRefusal (lines bytes.now)) }
 {
     FileReader::new().finish(visitor, bytes)
 }
 
-/// Gives a line to a visitor: one that is no detail ends the open transaction, and a header opens the next one.
+/// Gives a line behind the file's header to a visitor: one that is no detail ends the open transaction, and a header of a
+/// transaction opens the next one.
 #[inline(always)]
 pub(crate) fn give<V: Visitor>(
     visitor: &mut V,
@@ -79,9 +89,9 @@ pub(crate) fn give<V: Visitor>(
     requires fits { FitsHeader role.now counts.now }
     requires read { record_type ≡ type_of line.now }
     requires printable { IsTrue (is_printable line.now) }
-    requires kept { (first : V) × (whole : List RawParts) × (current : Option RawParts) × V.keeps first visitor.old whole current × MayBeGiven role.now is_open current × (length whole < 2 ^ 63) }
-    ensures { OnOk result ((first : V) (whole : List RawParts) (current : Option RawParts) → is_some current ≡ is_open → V.keeps first visitor.old whole current
-        → V.keeps first visitor.new (whole_after role.now whole current) (open_after role.now line.now counts.now.groups counts.now.transactions current)) }
+    requires kept { (first : V) × (header : Header) × (whole : List RawParts) × (current : Option RawParts) × V.keeps first visitor.old (Some header) whole current × MayBeGiven role.now is_open current × (length whole < 2 ^ 63) }
+    ensures { OnOk result ((first : V) (header : Header) (whole : List RawParts) (current : Option RawParts) → is_some current ≡ is_open → V.keeps first visitor.old (Some header) whole current
+        → V.keeps first visitor.new (Some header) (whole_after role.now whole current) (open_after role.now line.now counts.now.groups counts.now.transactions current)) }
 {
     if let Role::Detail(_, _) = *role {
         visitor.detail(line, record_type)?;

@@ -2,5 +2,6 @@ mod LeastFault
 mod Fronts
 pub mod LineTexts
 mod SameRecords
+mod TerritoryDigits
 mod TrailingBlanks
 pub mod lemmas

@@ -32,6 +32,7 @@ pub struct Column {
 ///
 /// The column begins at one of the positions 1 to 4096 and has 1 to 150 bytes, as each constant does. A line that is too
 /// short for the field reads as if blanks followed it without end.
+#[inline(always)]
 pub fn field_at(line: &[u8], column: Column) -> Field<'_>
     requires { IsTrue (is_in_line column) }
     ensures value { result ≡ field_at line.now column }
@@ -41,6 +42,7 @@ pub fn field_at(line: &[u8], column: Column) -> Field<'_>
 }
 
 /// The number that a column of at most 18 bytes holds, where each of its bytes is a digit.
+#[inline(always)]
 pub fn digits_at(line: &[u8], column: Column) -> Option<u64>
     requires column { IsTrue (is_in_line column) }
     requires width { column.width ≤ 18 }

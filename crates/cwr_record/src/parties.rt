@@ -9,9 +9,10 @@ use crate::columns::{Column, field_at};
 use crate::publishers::{Publisher, PublisherTerritory};
 use crate::record_type::RecordType;
 use crate::writers::{Link, Writer, WriterTerritory};
-use cwr_field::{cut, digits, party, share};
+use cwr_field::{cut, digits, number_of_four, party, share};
 
 /// The shares of a line in these columns.
+#[inline(always)]
 fn shares_at(
     line: &[u8],
     performing: Column,
@@ -47,6 +48,7 @@ pub fn party_of(line: &[u8], record_type: RecordType) -> Option<[u8; 9]>
 
 /// The ownership shares of an SPU, OPU, SWR or OWR line of that type: performing, mechanical and synchronization
 /// right, in hundredths of one per cent. A field that holds no share is `None`; blanks are 0.
+#[inline(always)]
 pub fn ownership_of(line: &[u8], record_type: RecordType) -> [Option<u16>; 3]
     requires { IsTrue (has_ownership record_type) }
     ensures { result ≡ shares_at line.now (ownership_columns record_type) }
@@ -76,6 +78,7 @@ pub fn publisher_of(line: &[u8]) -> Option<[u8; 9]>
 
 /// The collection shares of an SPT or SWT line of that type: performing, mechanical and synchronization right, in
 /// hundredths of one per cent. A field that holds no share is `None`; blanks are 0.
+#[inline(always)]
 pub fn collection_of(line: &[u8], record_type: RecordType) -> [Option<u16>; 3]
     requires { IsTrue (has_collection record_type) }
     ensures { result ≡ shares_at line.now (collection_columns record_type) }
@@ -110,15 +113,36 @@ pub fn indicator_of(line: &[u8], record_type: RecordType) -> u8
 
 /// The territory (TIS) of an SPT or SWT line of that type: the number of the one to four digits that remain of its
 /// field once blanks before and after are removed, or `None` where anything else remains.
+#[inline(always)]
 pub fn territory_of(line: &[u8], record_type: RecordType) -> Option<u16>
     requires { IsTrue (has_collection record_type) }
     ensures { result ≡ territory_of (field_at line.now (territory_column record_type)) }
 {
-    let column = match record_type {
-        RecordType::Spt => PublisherTerritory::TERRITORY,
-        _ => WriterTerritory::TERRITORY,
-    };
+    match record_type {
+        RecordType::Spt => territory_at(line, PublisherTerritory::TERRITORY),
+        _ => territory_at(line, WriterTerritory::TERRITORY),
+    }
+}
+
+/// The territory in a column. Four digits, which most have, are read at once.
+#[inline(always)]
+fn territory_at(line: &[u8], column: Column) -> Option<u16>
+    requires line { IsTrue (is_in_line column) }
+    requires width { column.width ≡ 4 }
+    ensures { result ≡ territory_of (field_at line.now column) }
+{
     let code = field_at(line, column).bytes::<4>();
+    match number_of_four(code) {
+        Some(number) => Some(number as u16),
+        None => spaced_code(code),
+    }
+}
+
+/// The territory that four bytes name, blanks before and after it.
+#[inline(never)]
+fn spaced_code(code: [u8; 4]) -> Option<u16>
+    ensures { result ≡ territory_of code }
+{
     some_number(without_trailing(without_leading(&code)))
 }
 

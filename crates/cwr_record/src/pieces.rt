@@ -6,7 +6,7 @@ ghost use Rattle.cwr_field.specs.Iswc.{iswc_text};
 ghost use Rattle.cwr_record.specs.Pieces.{piece_text, piece_width, FitsPiece, IsDated};
 
 use crate::columns::Column;
-use cwr_field::{Clock, Day, Memory, check_digit, fill_digits, fill_text};
+use cwr_field::{Clock, Day, Memory, fill_digits, fill_text, iswc_text};
 use std::alloc::Allocator;
 
 /// A field that is written.
@@ -63,19 +63,8 @@ pub(crate) fn fill_piece(room: &mut [u8], piece: &Piece)
         Piece::OptionalTime(None) => fill_text(room, b""),
         Piece::OptionalTime(Some(time)) => fill_digits(room, time.number() as u64),
         Piece::Code(None) => fill_text(room, b""),
-        Piece::Code(Some(number)) => fill_code(room, number),
+        Piece::Code(Some(number)) => fill_text(room, &iswc_text(number as u32)),
     }
-}
-
-/// Writes a work's code over eleven bytes.
-fn fill_code(room: &mut [u8], number: u64)
-    requires code { number < 10 ^ 9 }
-    requires width { length room.old ≡ 11 }
-    ensures { room.new ≡ iswc_text number }
-{
-    fill_text(&mut room[..1], b"T");
-    fill_digits(&mut room[1..10], number);
-    fill_text(&mut room[10..], &[b'0' + check_digit(number)]);
 }
 
 /// Appends a field. A refusal leaves the vector as it was.

@@ -1,7 +1,7 @@
 //! Values of the CWR 2.2 manual, of ISO 15707 and of the calendar.
 use cwr_field::{
-    Iswc, Memory, check_digit, cut, date, digits, is_blank, iswc, party, put_decimal, put_digits,
-    put_text, share, time,
+    CONTROLS, Iswc, Memory, Sought, check_digit, cut, date, digits, is_blank, is_free_before, iswc,
+    iswc_text, party, put_decimal, put_digits, put_text, share, time,
 };
 use cwr_sheets::{same, same_bytes, same_text};
 use std::test::Fail;
@@ -43,6 +43,19 @@ fn reads_numbers() -> Result<(), Fail> {
         ("999999999999999999", Some(999999999999999999)),
         ("4 2", None),
         ("-42", None),
+        ("1234", Some(1234)),
+        ("12 4", None),
+        ("54321", Some(54321)),
+        ("/4321", None),
+        ("12345678", Some(12345678)),
+        ("1234567:", None),
+        ("123456789", Some(123456789)),
+        ("12345678 ", None),
+        ("1234567 9", None),
+        ("000012345678", Some(12345678)),
+        ("120012345678", Some(120012345678)),
+        ("0000123 5678", None),
+        (" 00012345678", None),
         ("   ", None),
     ] {
         let bytes = text.as_bytes();
@@ -127,8 +140,11 @@ fn reads_work_codes() -> Result<(), Fail> {
     ] {
         same("the work code", &iswc(cut(text, 1, 11)), &wanted)?;
     }
-    same("the check digit", &check_digit(34524680), &1)?;
-    same("the check digit", &check_digit(1), &0)
+    for (number, digit, text) in [(34524680, 1, b"T0345246801"), (1, 0, b"T0000000010")] {
+        same("the check digit", &check_digit(number), &digit)?;
+        same("the code", &iswc_text(number as u32), text)?;
+    }
+    Ok(())
 }
 
 #[test]
@@ -148,6 +164,32 @@ fn reads_interested_party_numbers() -> Result<(), Fail> {
         &party(cut(b"SWR0000000000000001", 20, 9)),
         &None,
     )
+}
+
+/// A text is free of the byte at an index up to there, and no further.
+fn expect_free(bytes: &[u8], at: usize, sought: Sought) -> Result<(), Fail> {
+    for end in [0, 31, 32, 33, 63, 64, 65, 127, 128, 129, 150] {
+        let end = end.min(bytes.len());
+        same(
+            "whether it is free",
+            &is_free_before(bytes, end, sought),
+            &(end <= at),
+        )?;
+    }
+    Ok(())
+}
+
+/// One byte among 150, at each place.
+#[test]
+fn finds_the_bytes_that_are_sought() -> Result<(), Fail> {
+    for (sought, kept, found) in [(CONTROLS, b' ', 31), (Sought::Above(126), 126, 127)] {
+        for at in 0..150 {
+            let mut bytes = [kept; 150];
+            bytes[at] = found;
+            expect_free(&bytes, at, sought)?;
+        }
+    }
+    Ok(())
 }
 
 #[test]

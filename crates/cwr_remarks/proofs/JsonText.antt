@@ -4,10 +4,11 @@ use Rattle.std.specs.Prelude.{codes, decimal}
 use Rattle.json.specs.Print.{escape_byte}
 use Rattle.serde_json.specs.Data.{Data, object, no_members, put}
 use Rattle.serde_json.specs.Written.{compact_text, comma_if}
-use Rattle.cwr_report.specs.Json.{text_data, count_data, option_data}
+use Rattle.cwr_report.specs.Json.{text_data, count_data, option_data, type_data}
 use Rattle.cwr_remarks.specs.declared.remark.Remark.{Remark}
-use Rattle.cwr_remarks.specs.Json.{kind_text, first_in, count_in, length_in, layout_in, record_data, remark_data}
-use Rattle.cwr_remarks.specs.JsonText.{number_text, string_text, remark_text}
+use Rattle.cwr_remarks.specs.Json.{kind_text, first_in, count_in, length_in, layout_in, remark_data}
+use Rattle.cwr_report.specs.JsonText.{option_text, string_text}
+use Rattle.cwr_remarks.specs.JsonText.{remark_text}
 use Rattle.cwr_remarks.specs.Texts.{what_text}
 
 in_one_row : (a b c d e f g h i j k l m n o p q : List ℕ)
@@ -38,10 +39,10 @@ object_is count first layout length kind rtype text line = refl
 
 remark_is : (r : Remark) → remark_text r ≡ compact_text (remark_data r)
 remark_is r =
-    in_one_row (codes "{\"count\":") (number_text (count_in r.what)) (codes ",\"first\":") (number_text (first_in r.what)) (codes ",\"kind\":") (string_text (kind_text r.what))
-    (codes ",\"layout\":") (number_text (layout_in r.what)) (codes ",\"length\":") (number_text (length_in r.what)) (codes ",\"line\":") (decimal r.line)
-    (codes ",\"record\":") (compact_text (record_data r.rtype)) (codes ",\"text\":") (string_text (what_text r.what)) (codes "}")
-    ∙ object_is (count_in r.what) (first_in r.what) (layout_in r.what) (length_in r.what) (text_data (kind_text r.what)) (record_data r.rtype) (text_data (what_text r.what)) r.line
+    in_one_row (codes "{\"count\":") (option_text (count_in r.what)) (codes ",\"first\":") (option_text (first_in r.what)) (codes ",\"kind\":") (string_text (kind_text r.what))
+    (codes ",\"layout\":") (option_text (layout_in r.what)) (codes ",\"length\":") (option_text (length_in r.what)) (codes ",\"line\":") (decimal r.line)
+    (codes ",\"record\":") (compact_text (type_data r.rtype)) (codes ",\"text\":") (string_text (what_text r.what)) (codes "}")
+    ∙ object_is (count_in r.what) (first_in r.what) (layout_in r.what) (length_in r.what) (text_data (kind_text r.what)) (type_data r.rtype) (text_data (what_text r.what)) r.line
 
 -- a remark is written, with a comma where one stands before
 pub item_is : (out mid new : List ℕ) (later : Bool) (r : Remark) → mid ≡ out ++ comma_if later → new ≡ mid ++ remark_text r

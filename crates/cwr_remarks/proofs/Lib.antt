@@ -1,4 +1,3 @@
-pub mod Written
 pub mod Ended
 pub mod JsonText
 pub mod LowBytes

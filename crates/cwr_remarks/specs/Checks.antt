@@ -1,11 +1,11 @@
 -- What a check tells of a file: its report, and then its remarks.
-use Rattle.std.specs.Prelude.{ℕ, ◌≡◌, Bool, ◌&&◌, ◌==◌, List, ◌++◌, codes, Option, Some, None, is_none}
+use Rattle.std.specs.Prelude.{ℕ, Bool, List, ◌++◌, codes, Option, Some, None}
 use Rattle.std.specs.Str.Lines.{lines}
-use Rattle.serde_json.specs.Data.{string, object, put}
-use Rattle.cwr_report.specs.declared.finding.Finding.{Finding}
+use Rattle.serde_json.specs.Data.{object, put}
 use Rattle.cwr_report.specs.declared.file_finding.FileFinding.{FileFinding}
-use Rattle.cwr_report.specs.Json.{json_line, report_members}
-use Rattle.cwr_report.specs.Report.{IsReport, report_text}
+use Rattle.cwr_report.specs.Json.{json_line, report_members, with_file}
+use Rattle.cwr_report.specs.Report.{IsToldBy, report_text}
+use Rattle.cwr_report.specs.Reported.{Reported}
 use Rattle.cwr_remarks.specs.declared.remark.Remark.{Remark}
 use Rattle.cwr_remarks.specs.Beginnings.{beginning, on_beginning}
 use Rattle.cwr_remarks.specs.Headers.{header_remarks}
@@ -29,35 +29,21 @@ remarks_on_lines text (Some refused) = remarks_to refused.line 1 text ++ second_
 abbrev pub told_remarks : List ℕ → Option FileFinding → List Remark
 told_remarks bytes refused = front_remarks bytes ++ remarks_on_lines (lines bytes) refused
 
--- what a check tells a person of a file with these bytes; it is clean where nothing is refused and nothing has faults
-pub record IsRemarkedLong (bytes : List ℕ) (told : List ℕ) (clean : Bool) : Type 0 where
-  pub findings : List Finding
-  pub all : ℕ
-  pub faulty : ℕ
-  pub refused : Option FileFinding
-  pub report : IsReport bytes findings all faulty refused
-  pub told_is : told ≡ report_text (lines bytes) findings all faulty refused ++ remarks_text (told_remarks bytes refused)
-  pub clean_is : clean ≡ (is_none refused && (faulty == 0))
+-- what a check tells a person: the report, and the remarks behind it
+abbrev pub remarked_text : List ℕ → Reported → List ℕ
+remarked_text bytes r = report_text (lines bytes) r ++ remarks_text (told_remarks bytes r.refused)
 
--- what it tells as JSON: the object of the report, with one member more
-pub record IsRemarkedJson (bytes : List ℕ) (told : List ℕ) (clean : Bool) : Type 0 where
-  pub findings : List Finding
-  pub all : ℕ
-  pub faulty : ℕ
-  pub refused : Option FileFinding
-  pub report : IsReport bytes findings all faulty refused
-  pub told_is : told ≡ json_line (object (put (codes "remarks") (remarks_data (told_remarks bytes refused)) (report_members (lines bytes) findings all faulty refused)))
-  pub clean_is : clean ≡ (is_none refused && (faulty == 0))
+-- what it tells as JSON: the object of the report, with the file's name where it is to have one, and one member more
+abbrev pub remarked_object : Option (List ℕ) → List ℕ → Reported → List ℕ
+remarked_object file bytes r =
+    json_line (object (put (codes "remarks") (remarks_data (told_remarks bytes r.refused)) (with_file file (report_members (lines bytes) r))))
+
+abbrev pub IsRemarkedLong : List ℕ → List ℕ → Bool → Type 0
+IsRemarkedLong bytes told clean = IsToldBy remarked_text bytes told clean
+
+abbrev pub IsRemarkedJson : List ℕ → List ℕ → Bool → Type 0
+IsRemarkedJson bytes told clean = IsToldBy (remarked_object None) bytes told clean
 
 -- the same of a file of this name, a text, which is one member more
-pub record IsRemarkedJsonOfFile (name bytes : List ℕ) (told : List ℕ) (clean : Bool) : Type 0 where
-  pub findings : List Finding
-  pub all : ℕ
-  pub faulty : ℕ
-  pub refused : Option FileFinding
-  pub report : IsReport bytes findings all faulty refused
-  pub told_is :
-      told
-      ≡ json_line (object (put (codes "remarks") (remarks_data (told_remarks bytes refused))
-      (put (codes "file") (string name) (report_members (lines bytes) findings all faulty refused))))
-  pub clean_is : clean ≡ (is_none refused && (faulty == 0))
+abbrev pub IsRemarkedJsonOfFile : List ℕ → List ℕ → List ℕ → Bool → Type 0
+IsRemarkedJsonOfFile name bytes told clean = IsToldBy (remarked_object (Some name)) bytes told clean

@@ -1,8 +1,8 @@
 -- What is told of remarks as JSON: an object for each.
 use Rattle.std.specs.Prelude.{ℕ, List, map, codes, Option, Some, None}
-use Rattle.serde_json.specs.Data.{Data, null, array, object, Members, no_members, put}
+use Rattle.serde_json.specs.Data.{Data, array, object, Members, no_members, put}
 use Rattle.serde_json.specs.View.{items_of}
-use Rattle.cwr_report.specs.Json.{text_data, count_data, option_data}
+use Rattle.cwr_report.specs.Json.{text_data, count_data, option_data, type_data}
 use Rattle.cwr_remarks.specs.declared.remark.Remark.{Remark}
 use Rattle.cwr_remarks.specs.declared.remark.Remarked.{Remarked}
 use Rattle.cwr_remarks.specs.declared.remark.Remarked.TheVariants.{ByteOrderMark, Utf16, Gzip, SecondFile, CwrVersion, SenderType, HighBytes, PastLayout, UnknownType, OnlyExcluded}
@@ -38,14 +38,9 @@ abbrev pub layout_in : Remarked → Option ℕ
 layout_in (PastLayout size layout) = Some layout
 layout_in _ = None
 
--- a record type, or null
-abbrev pub record_data : Option (List ℕ) → Data
-record_data None = null
-record_data (Some rtype) = text_data rtype
-
 -- where it is
 abbrev pub place_members : Remark → Members
-place_members r = put (codes "record") (record_data r.rtype) (put (codes "line") (count_data r.line) no_members)
+place_members r = put (codes "record") (type_data r.rtype) (put (codes "line") (count_data r.line) no_members)
 
 -- what it is, in words, with bytes of the file as they stand
 abbrev pub word_members : Remarked → Members → Members

@@ -1,8 +1,8 @@
 -- What is told of remarks: a line for each, with LF at its end.
-use Rattle.std.specs.Prelude.{ℕ, List, [], ◌++◌, codes, Option, Some, None}
+use Rattle.std.specs.Prelude.{ℕ, Bool, true, false, List, [], ◌++◌, codes, Option, Some, None}
 use Rattle.std.specs.List.{flat_map}
 use Rattle.std.specs.Fmt.{decimal}
-use Rattle.cwr_report.specs.Shown.{shown_text}
+use Rattle.cwr_report.specs.Shown.{shown_text, told_bytes}
 use Rattle.cwr_remarks.specs.declared.remark.Remark.{Remark}
 use Rattle.cwr_remarks.specs.declared.remark.Remarked.{Remarked}
 use Rattle.cwr_remarks.specs.declared.remark.Remarked.TheVariants.{ByteOrderMark, Utf16, Gzip, SecondFile, CwrVersion, SenderType, HighBytes, PastLayout, UnknownType, OnlyExcluded}
@@ -34,24 +34,21 @@ sender_text told =
     ++ told
     ++ codes "\"; CWR has PB, AA, SO or WR there, or the first two digits of a number of more than nine"
 
--- what is remarked, with bytes of the file as they stand
-abbrev pub what_text : Remarked → List ℕ
-what_text ByteOrderMark = codes "the file begins with a byte order mark of UTF-8, which is no part of CWR; write it without one"
-what_text Utf16 = codes "the file is UTF-16, which has two bytes for a letter; write it in ASCII, with one byte for a letter"
-what_text Gzip = codes "the file is compressed by gzip; unpack it, and send what is in it"
-what_text SecondFile = codes "a second file begins here; send each file by itself"
-what_text (CwrVersion version) = version_text version
-what_text (SenderType kind) = sender_text kind
-what_text (HighBytes first count) = high_text first count
-what_text (PastLayout size layout) = past_text size layout
-what_text UnknownType = codes "CWR 2.2 has no record of this type; it is carried, and nothing more of it is read"
-what_text OnlyExcluded = codes "all its territories are exclusions, and none is an inclusion: it collects nowhere"
+-- what is remarked, with bytes of the file as they are shown, or as they stand
+abbrev pub what_as : Bool → Remarked → List ℕ
+what_as shows ByteOrderMark = codes "the file begins with a byte order mark of UTF-8, which is no part of CWR; write it without one"
+what_as shows Utf16 = codes "the file is UTF-16, which has two bytes for a letter; write it in ASCII, with one byte for a letter"
+what_as shows Gzip = codes "the file is compressed by gzip; unpack it, and send what is in it"
+what_as shows SecondFile = codes "a second file begins here; send each file by itself"
+what_as shows (CwrVersion version) = version_text (told_bytes shows version)
+what_as shows (SenderType kind) = sender_text (told_bytes shows kind)
+what_as shows (HighBytes first count) = high_text first count
+what_as shows (PastLayout size layout) = past_text size layout
+what_as shows UnknownType = codes "CWR 2.2 has no record of this type; it is carried, and nothing more of it is read"
+what_as shows OnlyExcluded = codes "all its territories are exclusions, and none is an inclusion: it collects nowhere"
 
--- the same, with bytes of the file as they are shown
-abbrev pub shown_what : Remarked → List ℕ
-shown_what (CwrVersion version) = version_text (shown_text version)
-shown_what (SenderType kind) = sender_text (shown_text kind)
-shown_what what = what_text what
+abbrev pub what_text : Remarked → List ℕ
+what_text what = what_as false what
 
 abbrev pub line_text : ℕ → List ℕ
 line_text number = codes "remark, line " ++ decimal number ++ codes ": "
@@ -63,7 +60,7 @@ type_text (Some rtype) = shown_text rtype ++ codes ": "
 
 -- the line, the record type, and what is remarked
 abbrev pub remark_text : Remark → List ℕ
-remark_text r = line_text r.line ++ type_text r.rtype ++ shown_what r.what ++ codes "\n"
+remark_text r = line_text r.line ++ type_text r.rtype ++ what_as true r.what ++ codes "\n"
 
 abbrev pub remarks_text : List Remark → List ℕ
 remarks_text remarks = flat_map remark_text remarks

@@ -1,9 +1,10 @@
-ghost use Rattle.std.specs.Prelude.{◌≡◌, ◌++◌, codes, IfOk, OnOk};
+ghost use Rattle.std.specs.Prelude.{◌≡◌, ◌++◌, codes, option_map, IfOk, OnOk};
 ghost use Rattle.std.specs.Str.Lines.{lines};
-ghost use Rattle.serde_json.specs.Data.{string, object, put as with_member};
-ghost use Rattle.cwr_report.specs.Json.{json_line, report_members};
+ghost use Rattle.serde_json.specs.Data.{object, put as with_member};
+ghost use Rattle.cwr_report.specs.Json.{json_line, report_members, with_file};
+ghost use Rattle.cwr_report.specs.Report.{IsToldBy};
 ghost use Rattle.cwr_remarks.specs.Json.{remarks_data};
-ghost use Rattle.cwr_remarks.specs.Checks.{remarks_on_lines, told_remarks, IsRemarkedLong, IsRemarkedJson, IsRemarkedJsonOfFile};
+ghost use Rattle.cwr_remarks.specs.Checks.{remarks_on_lines, told_remarks, remarked_object, IsRemarkedLong, IsRemarkedJson, IsRemarkedJsonOfFile};
 ghost use Rattle.cwr_remarks.specs.Remarks.{remarks_to};
 ghost use Rattle.cwr_remarks.specs.SecondFile.{second_file};
 
@@ -31,10 +32,8 @@ pub fn remarked_long<A: Allocator + Copy>(alloc: A, bytes: &[u8]) -> Result<Chec
     let found = told_remarks(alloc, bytes, &report.refused)?;
     let mut text = long_text(alloc, bytes, &report)?;
     put_remarks(&mut text, &found)?;
-    Ok(Checked {
-        text,
-        clean: report.refused.is_none() && report.faulty == 0,
-    })
+    let clean = report.is_clean();
+    Ok(Checked { text, clean })
 }
 
 /// Checks a file as `cwr_report::check_json` does, and tells its remarks as one member more, `remarks`: a list of objects.
@@ -43,13 +42,7 @@ pub fn remarked_long<A: Allocator + Copy>(alloc: A, bytes: &[u8]) -> Result<Chec
 pub fn remarked_json(alloc: Global, bytes: &[u8]) -> Result<Checked<Global>, Memory>
     ensures { IfOk result (λ checked. IsRemarkedJson bytes.now checked.text.items checked.clean) }
 {
-    let report = report_on(alloc, bytes)?;
-    let found = told_remarks(alloc, bytes, &report.refused)?;
-    let text = told_json(alloc, bytes, &report, &found)?;
-    Ok(Checked {
-        text,
-        clean: report.refused.is_none() && report.faulty == 0,
-    })
+    remarked_object(alloc, None, bytes)
 }
 
 /// The same of a file of this name, which is one member more, `file`, a text behind `faulty`. So what is told of several
@@ -61,45 +54,40 @@ pub fn remarked_json_of_file(
 ) -> Result<Checked<Global>, Memory>
     ensures { IfOk result (λ checked. IsRemarkedJsonOfFile name.now bytes.now checked.text.items checked.clean) }
 {
+    remarked_object(alloc, Some(name), bytes)
+}
+
+fn remarked_object(
+    alloc: Global,
+    file: Option<&str>,
+    bytes: &[u8],
+) -> Result<Checked<Global>, Memory>
+    ensures { IfOk result (λ checked. IsToldBy (remarked_object (option_map (λ name. name.now) file.entry)) bytes.now checked.text.items checked.clean) }
+{
     let report = report_on(alloc, bytes)?;
     let found = told_remarks(alloc, bytes, &report.refused)?;
-    let text = told_json_of_file(alloc, name, bytes, &report, &found)?;
-    Ok(Checked {
-        text,
-        clean: report.refused.is_none() && report.faulty == 0,
-    })
+    let text = told_object(alloc, file, bytes, &report, &found)?;
+    let clean = report.is_clean();
+    Ok(Checked { text, clean })
 }
 
-/// What is told of a report as JSON, with these remarks.
-fn told_json(
+/// What is told of a report as JSON, with these remarks, and with the name of the file where it is to have one.
+fn told_object(
     alloc: Global,
+    file: Option<&str>,
     bytes: &[u8],
     report: &Report,
     found: &[Remark],
 ) -> Result<Vec<u8>, Memory>
     ensures { IfOk result (λ text. text.items ≡ json_line (object (with_member (codes "remarks") (remarks_data found.now)
-        (report_members (lines bytes.now) report.now.findings.items report.now.transactions report.now.faulty report.now.refused)))) }
+        (with_file (option_map (λ name. name.now) file.entry) (report_members (lines bytes.now) report.now))))) }
 {
     let mut told = Vec::new(alloc);
     put_list(alloc, &mut told, found)?;
-    json_text_with_text(alloc, bytes, report, "remarks", &told)
-}
-
-/// The same of a file of this name.
-fn told_json_of_file(
-    alloc: Global,
-    name: &str,
-    bytes: &[u8],
-    report: &Report,
-    found: &[Remark],
-) -> Result<Vec<u8>, Memory>
-    ensures { IfOk result (λ text. text.items ≡ json_line (object (with_member (codes "remarks") (remarks_data found.now)
-        (with_member (codes "file") (string name.now)
-        (report_members (lines bytes.now) report.now.findings.items report.now.transactions report.now.faulty report.now.refused))))) }
-{
-    let mut told = Vec::new(alloc);
-    put_list(alloc, &mut told, found)?;
-    json_text_of_file(alloc, bytes, report, name, "remarks", &told)
+    match file {
+        None => json_text_with_text(alloc, bytes, report, "remarks", &told),
+        Some(name) => json_text_of_file(alloc, bytes, report, name, "remarks", &told),
+    }
 }
 
 /// The remarks that are told of a file which is refused so, or is not.

@@ -1,8 +1,9 @@
 ghost use Rattle.std.specs.Prelude.{◌≡◌, ◌++◌, length, OnOk};
 ghost use Rattle.std.specs.Str.Lines.{lines};
+ghost use Rattle.cwr_record.specs.declared.record_type.RecordType.TheVariants as of_type;
 ghost use Rattle.cwr_remarks.specs.Beginnings.{begins_with_mark, is_utf16, is_gzip, beginning, on_beginning};
 ghost use Rattle.cwr_remarks.specs.Checks.{front_remarks};
-ghost use Rattle.cwr_remarks.specs.Headers.{header_remarks, remarks_on_header, version_in, sender_in, other_version, other_sender, is_known_sender};
+ghost use Rattle.cwr_remarks.specs.Headers.{header_remarks, remarks_on_header, other_version, other_sender, is_known_sender};
 ghost use Rattle.cwr_remarks.specs.SecondFile.{second_file};
 
 use crate::remark::{Remark, Remarked};
@@ -99,29 +100,21 @@ fn push_on_header<A: Allocator>(
 ) -> Result<(), Memory>
     ensures { OnOk result (found.new.items ≡ found.old.items ++ remarks_on_header record_type line.now) }
 {
-    push_remark(found, 1, line, version_in(record_type, line))?;
-    push_remark(found, 1, line, sender_in(record_type, line))?;
+    match record_type {
+        RecordType::Hdr => push_in_header(found, line),
+        _ => Ok(()),
+    }
+}
+
+/// Appends the remarks on an HDR.
+fn push_in_header<A: Allocator>(found: &mut Vec<Remark, A>, line: &[u8]) -> Result<(), Memory>
+    ensures { OnOk result (found.new.items ≡ found.old.items ++ remarks_on_header of_type.Hdr line.now) }
+{
+    let version = field_at(line, Header::VERSION);
+    push_remark(found, 1, line, other_version(version))?;
+    let kind = cut(line, Header::SENDER.start, 2);
+    push_remark(found, 1, line, other_sender(kind))?;
     Ok(())
-}
-
-/// What is remarked of the version in a line of this type, where it is an HDR.
-fn version_in(record_type: RecordType, line: &[u8]) -> Option<Remarked>
-    ensures { result ≡ version_in record_type line.now }
-{
-    if record_type != RecordType::Hdr {
-        return None;
-    }
-    other_version(field_at(line, Header::VERSION))
-}
-
-/// What is remarked of the sender type in a line of this type, where it is an HDR.
-fn sender_in(record_type: RecordType, line: &[u8]) -> Option<Remarked>
-    ensures { result ≡ sender_in record_type line.now }
-{
-    if record_type != RecordType::Hdr {
-        return None;
-    }
-    other_sender(cut(line, Header::SENDER.start, 2))
 }
 
 /// The version that HDR names, where it is neither blank nor 2.2.

@@ -1,13 +1,14 @@
 ghost use Rattle.std.specs.Prelude.{◌≡◌, ◌++◌, OnOk};
 ghost use Rattle.serde_json.specs.Written.{comma_if, compact_text};
-ghost use Rattle.cwr_remarks.specs.Json.{kind_text, first_in, count_in, length_in, layout_in, record_data, remark_data, remarks_data};
-ghost use Rattle.cwr_remarks.specs.JsonText.{number_text, string_text, amounts_text, remark_text};
+ghost use Rattle.cwr_report.specs.JsonText.{string_text};
+ghost use Rattle.cwr_remarks.specs.Json.{kind_text, first_in, count_in, length_in, layout_in, remark_data, remarks_data};
+ghost use Rattle.cwr_remarks.specs.JsonText.{amounts_text, remark_text};
 ghost use Rattle.cwr_remarks.specs.Texts.{what_text};
 
 use crate::remark::{Remark, Remarked};
-use crate::texts::{put_what, put_words};
+use crate::texts::put_what;
 use cwr_field::{Memory, put_decimal};
-use cwr_report::put_json_text;
+use cwr_report::{put_comma, put_json_text, put_option, put_type};
 use std::alloc::Global;
 
 /// Appends remarks as a list of objects of JSON.
@@ -39,15 +40,6 @@ fn put_item(
     Ok(())
 }
 
-fn put_comma(out: &mut Vec<u8>, later: bool) -> Result<(), Memory>
-    ensures { OnOk result (out.new.items ≡ out.old.items ++ comma_if later) }
-{
-    if later {
-        out.push(b',')?;
-    }
-    Ok(())
-}
-
 /// Appends a remark: its numbers, what it is, and where.
 fn put_remark(out: &mut Vec<u8>, room: &mut Vec<u8>, remark: &Remark) -> Result<(), Memory>
     ensures { OnOk result (out.new.items ≡ out.old.items ++ remark_text remark.now) }
@@ -56,21 +48,11 @@ fn put_remark(out: &mut Vec<u8>, room: &mut Vec<u8>, remark: &Remark) -> Result<
     out.extend_from_slice(b",\"line\":")?;
     put_decimal(out, remark.line)?;
     out.extend_from_slice(b",\"record\":")?;
-    put_record(out, remark.rtype)?;
+    put_type(out, remark.rtype)?;
     out.extend_from_slice(b",\"text\":")?;
     put_told(out, room, remark.what)?;
     out.extend_from_slice(b"}")?;
     Ok(())
-}
-
-/// Appends a record type, or null.
-fn put_record(out: &mut Vec<u8>, rtype: Option<[u8; 3]>) -> Result<(), Memory>
-    ensures { OnOk result (out.new.items ≡ out.old.items ++ compact_text (record_data rtype)) }
-{
-    match rtype {
-        None => put_words(out, b"null"),
-        Some(rtype) => put_json_text(out, &rtype),
-    }
 }
 
 /// Appends the numbers of a remark, with null for each that it does not have, and between them what it is, in a word or a
@@ -78,16 +60,17 @@ fn put_record(out: &mut Vec<u8>, rtype: Option<[u8; 3]>) -> Result<(), Memory>
 fn put_amounts(out: &mut Vec<u8>, what: Remarked) -> Result<(), Memory>
     ensures { OnOk result (out.new.items ≡ out.old.items ++ amounts_text what) }
 {
+    let (count, first, layout, length) = amounts_in(what);
     out.extend_from_slice(b"{\"count\":")?;
-    put_number(out, count_in(what))?;
+    put_option(out, count)?;
     out.extend_from_slice(b",\"first\":")?;
-    put_number(out, first_in(what))?;
+    put_option(out, first)?;
     out.extend_from_slice(b",\"kind\":")?;
     put_json_text(out, kind_text(what))?;
     out.extend_from_slice(b",\"layout\":")?;
-    put_number(out, layout_in(what))?;
+    put_option(out, layout)?;
     out.extend_from_slice(b",\"length\":")?;
-    put_number(out, length_in(what))?;
+    put_option(out, length)?;
     Ok(())
 }
 
@@ -96,19 +79,9 @@ fn put_told(out: &mut Vec<u8>, room: &mut Vec<u8>, what: Remarked) -> Result<(),
     ensures { OnOk result (out.new.items ≡ out.old.items ++ string_text (what_text what)) }
 {
     room.clear();
-    put_what(room, what)?;
+    put_what(room, what, false)?;
     put_json_text(out, room)?;
     Ok(())
-}
-
-/// Appends a number, or null.
-fn put_number(out: &mut Vec<u8>, number: Option<u64>) -> Result<(), Memory>
-    ensures { OnOk result (out.new.items ≡ out.old.items ++ number_text number) }
-{
-    match number {
-        None => put_words(out, b"null"),
-        Some(number) => put_decimal(out, number),
-    }
 }
 
 /// What is remarked, in a word or a few.
@@ -129,38 +102,16 @@ fn kind_text(what: Remarked) -> &'static [u8]
     }
 }
 
-fn first_in(what: Remarked) -> Option<u64>
-    ensures { result ≡ first_in what }
+/// The numbers of a remark: how many bytes, the first of them, where the layout ends, and the length of the line.
+fn amounts_in(what: Remarked) -> (Option<u64>, Option<u64>, Option<u64>, Option<u64>)
+    ensures count { result.0 ≡ count_in what }
+    ensures first { result.1 ≡ first_in what }
+    ensures layout { result.2 ≡ layout_in what }
+    ensures length { result.3 ≡ length_in what }
 {
     match what {
-        Remarked::HighBytes { first, .. } => Some(first),
-        _ => None,
-    }
-}
-
-fn count_in(what: Remarked) -> Option<u64>
-    ensures { result ≡ count_in what }
-{
-    match what {
-        Remarked::HighBytes { count, .. } => Some(count),
-        _ => None,
-    }
-}
-
-fn length_in(what: Remarked) -> Option<u64>
-    ensures { result ≡ length_in what }
-{
-    match what {
-        Remarked::PastLayout { length, .. } => Some(length),
-        _ => None,
-    }
-}
-
-fn layout_in(what: Remarked) -> Option<u64>
-    ensures { result ≡ layout_in what }
-{
-    match what {
-        Remarked::PastLayout { layout, .. } => Some(layout),
-        _ => None,
+        Remarked::HighBytes { first, count } => (Some(count), Some(first), None, None),
+        Remarked::PastLayout { length, layout } => (None, None, Some(layout), Some(length)),
+        _ => (None, None, None, None),
     }
 }

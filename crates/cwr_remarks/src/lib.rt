@@ -11,7 +11,6 @@ mod front;
 mod high_bytes;
 mod json_list;
 mod layouts;
-mod low_bytes;
 mod remark;
 mod remarking;
 mod territories;

@@ -1,10 +1,10 @@
 ghost use Rattle.std.specs.Prelude.{◌≡◌, ◌++◌, OnOk};
-ghost use Rattle.cwr_report.specs.Shown.{shown_text};
-ghost use Rattle.cwr_remarks.specs.Texts.{high_text, past_text, version_text, sender_text, what_text, shown_what, line_text, type_text, remark_text, remarks_text};
+ghost use Rattle.cwr_report.specs.Shown.{told_bytes};
+ghost use Rattle.cwr_remarks.specs.Texts.{high_text, past_text, version_text, sender_text, what_as, line_text, type_text, remark_text, remarks_text};
 
 use crate::remark::{Remark, Remarked};
 use cwr_field::{Memory, put_decimal};
-use cwr_report::put_shown;
+use cwr_report::{put_bytes, put_shown, put_text};
 use std::alloc::Allocator;
 
 /// Appends a line for each remark, with LF at its end: the line of the file, the record type where there is one, and what is
@@ -27,7 +27,7 @@ fn put_remark<A: Allocator>(out: &mut Vec<u8, A>, remark: &Remark) -> Result<(),
 {
     put_line(out, remark.line)?;
     put_type(out, remark.rtype)?;
-    put_shown_what(out, remark.what)?;
+    put_what(out, remark.what, true)?;
     out.extend_from_slice(b"\n")?;
     Ok(())
 }
@@ -54,97 +54,67 @@ fn put_type<A: Allocator>(out: &mut Vec<u8, A>, rtype: Option<[u8; 3]>) -> Resul
     Ok(())
 }
 
-/// Appends what is remarked, in words, with bytes of the file as they are shown.
-fn put_shown_what<A: Allocator>(out: &mut Vec<u8, A>, what: Remarked) -> Result<(), Memory>
-    ensures { OnOk result (out.new.items ≡ out.old.items ++ shown_what what) }
+/// Appends what is remarked, in words, with bytes of the file as they are shown, or as they stand.
+pub(crate) fn put_what<A: Allocator>(
+    out: &mut Vec<u8, A>,
+    what: Remarked,
+    shows: bool,
+) -> Result<(), Memory>
+    ensures { OnOk result (out.new.items ≡ out.old.items ++ what_as shows what) }
 {
     match what {
-        Remarked::CwrVersion(version) => put_shown_version(out, version),
-        Remarked::SenderType(kind) => put_shown_sender(out, kind),
-        _ => put_what(out, what),
-    }
-}
-
-fn put_shown_version<A: Allocator>(out: &mut Vec<u8, A>, version: [u8; 3]) -> Result<(), Memory>
-    ensures { OnOk result (out.new.items ≡ out.old.items ++ version_text (shown_text version)) }
-{
-    out.extend_from_slice(b"CWR version \"")?;
-    put_shown(out, &version)?;
-    out.extend_from_slice(b"\"; the file is read as CWR 2.2")?;
-    Ok(())
-}
-
-fn put_shown_sender<A: Allocator>(out: &mut Vec<u8, A>, kind: [u8; 2]) -> Result<(), Memory>
-    ensures { OnOk result (out.new.items ≡ out.old.items ++ sender_text (shown_text kind)) }
-{
-    out.extend_from_slice(b"sender type \"")?;
-    put_shown(out, &kind)?;
-    out.extend_from_slice(
-        b"\"; CWR has PB, AA, SO or WR there, or the first two digits of a number of more than nine",
-    )?;
-    Ok(())
-}
-
-/// Appends what is remarked, in words, with bytes of the file as they stand.
-pub(crate) fn put_what<A: Allocator>(out: &mut Vec<u8, A>, what: Remarked) -> Result<(), Memory>
-    ensures { OnOk result (out.new.items ≡ out.old.items ++ what_text what) }
-{
-    match what {
-        Remarked::ByteOrderMark => put_words(
+        Remarked::ByteOrderMark => put_text(
             out,
             b"the file begins with a byte order mark of UTF-8, which is no part of CWR; write it without one",
         ),
-        Remarked::Utf16 => put_words(
+        Remarked::Utf16 => put_text(
             out,
             b"the file is UTF-16, which has two bytes for a letter; write it in ASCII, with one byte for a letter",
         ),
-        Remarked::Gzip => put_words(
+        Remarked::Gzip => put_text(
             out,
             b"the file is compressed by gzip; unpack it, and send what is in it",
         ),
-        Remarked::SecondFile => put_words(
+        Remarked::SecondFile => put_text(
             out,
             b"a second file begins here; send each file by itself",
         ),
-        Remarked::CwrVersion(version) => put_version(out, version),
-        Remarked::SenderType(kind) => put_sender(out, kind),
+        Remarked::CwrVersion(version) => put_version(out, version, shows),
+        Remarked::SenderType(kind) => put_sender(out, kind, shows),
         Remarked::HighBytes { first, count } => put_high(out, first, count),
         Remarked::PastLayout { length, layout } => put_past(out, length, layout),
-        Remarked::UnknownType => put_words(
+        Remarked::UnknownType => put_text(
             out,
             b"CWR 2.2 has no record of this type; it is carried, and nothing more of it is read",
         ),
-        Remarked::OnlyExcluded => put_words(
+        Remarked::OnlyExcluded => put_text(
             out,
             b"all its territories are exclusions, and none is an inclusion: it collects nowhere",
         ),
     }
 }
 
-fn put_version<A: Allocator>(out: &mut Vec<u8, A>, version: [u8; 3]) -> Result<(), Memory>
-    ensures { OnOk result (out.new.items ≡ out.old.items ++ version_text version) }
+fn put_version<A: Allocator>(
+    out: &mut Vec<u8, A>,
+    version: [u8; 3],
+    shows: bool,
+) -> Result<(), Memory>
+    ensures { OnOk result (out.new.items ≡ out.old.items ++ version_text (told_bytes shows version)) }
 {
     out.extend_from_slice(b"CWR version \"")?;
-    out.extend_from_slice(&version)?;
+    put_bytes(out, &version, shows)?;
     out.extend_from_slice(b"\"; the file is read as CWR 2.2")?;
     Ok(())
 }
 
-fn put_sender<A: Allocator>(out: &mut Vec<u8, A>, kind: [u8; 2]) -> Result<(), Memory>
-    ensures { OnOk result (out.new.items ≡ out.old.items ++ sender_text kind) }
+fn put_sender<A: Allocator>(out: &mut Vec<u8, A>, kind: [u8; 2], shows: bool) -> Result<(), Memory>
+    ensures { OnOk result (out.new.items ≡ out.old.items ++ sender_text (told_bytes shows kind)) }
 {
     out.extend_from_slice(b"sender type \"")?;
-    out.extend_from_slice(&kind)?;
+    put_bytes(out, &kind, shows)?;
     out.extend_from_slice(
         b"\"; CWR has PB, AA, SO or WR there, or the first two digits of a number of more than nine",
     )?;
-    Ok(())
-}
-
-pub(crate) fn put_words<A: Allocator>(out: &mut Vec<u8, A>, words: &[u8]) -> Result<(), Memory>
-    ensures { OnOk result (out.new.items ≡ out.old.items ++ words.now) }
-{
-    out.extend_from_slice(words)?;
     Ok(())
 }
 

@@ -11,8 +11,8 @@ use Rattle.cwr_report.specs.declared.file_finding.WrongByte.{WrongByte}
 use Rattle.cwr_report.specs.declared.json_faults.Place.{Place}
 use Rattle.cwr_report.specs.FileText.{counted, file_rule_text, file_wanted_text}
 use Rattle.cwr_report.specs.LongText.{name_text, stands_at, message_of, wanted_text}
-use Rattle.cwr_report.specs.Json.{text_data, count_data, option_data, field_members, fields_data, place_members, fault_members, told_data, byte_data, file_place, file_told_data}
-use Rattle.cwr_report.specs.JsonText.{string_text, option_text, field_text, byte_text, type_data, where_text, rule_text, tail_text, fault_text, told_text, file_told_text}
+use Rattle.cwr_report.specs.Json.{text_data, count_data, option_data, field_members, fields_data, type_data, place_members, fault_members, told_data, byte_data, file_place, file_told_data}
+use Rattle.cwr_report.specs.JsonText.{string_text, option_text, field_text, byte_text, where_text, rule_text, tail_text, fault_text, told_text, file_told_text}
 
 in_one_row : (b byte x expected f fields g group l line r rtype u rule s detail t text n transaction end : List ℕ)
     → (b ++ byte ++ x) ++ expected ++ f ++ fields ++ (g ++ group ++ l ++ line ++ r ++ rtype) ++ (u ++ rule) ++ (s ++ detail ++ t ++ text ++ n ++ transaction ++ end)

@@ -1,8 +1,8 @@
+mod OneByOne
 pub mod Fronts
 pub mod lemmas
 pub mod Walking
 pub mod Reported
-pub mod Written
 pub mod Counting
 pub mod JsonStrings
 pub mod JsonRuns
@@ -10,6 +10,6 @@ pub mod JsonText
 pub mod Located
 pub mod Inside
 pub mod Told
+pub mod FindingSteps
 pub mod Naming
 pub mod Steps
-pub mod Sums

@@ -9,7 +9,8 @@ use Rattle.cwr_report.specs.Report.{IsReportOfFile}
 
 pub file_reported : (text : List (List ℕ)) (f : File) (found : List RawParts) (sender : List ℕ) (before findings : List Finding) (all faulty : ℕ) → IsFile text f
     → found ≡ raws_of 1 f.groups → sender ≡ submitter_of f → before ≡ [] → findings ≡ before ++ findings_after sender 0 found
-    → all ≡ length found → faulty ≡ faulty_count sender found → IsReportOfFile text findings all faulty None
+    → all ≡ length found → faulty ≡ faulty_count sender found
+    → IsReportOfFile text (record { findings = findings; transactions = all; faulty = faulty; refused = None })
 file_reported text f found sender before findings all faulty formed found_is sender_is empty pushed counted faults = record {
   file = f;
   formed = formed;

@@ -1,13 +1,12 @@
 -- One line more that a walk has passed.
-use Rattle.std.proofs.Common.{◌≡◌, ◌∙◌, ℕ, zero, suc, ◌+◌, List, [], ◌∷◌, ◌++◌, drop, take, reverse, refl, ap, sym, subst, arith, Option, Some, None, Bor}
+use Rattle.std.proofs.Common.{◌≡◌, ◌∙◌, ℕ, zero, suc, ◌+◌, List, [], ◌∷◌, ◌++◌, drop, take, reverse, refl, ap, sym, subst, arith, IsTrue, Option, Some, None, Bor}
 use Rattle.std.proofs.Math.Seq.{take-add}
 use Rattle.std.proofs.lemmas.List.{append-nil, reverse-append}
 use Rattle.std.specs.Iterator.{YieldsFirstRef}
-use Rattle.cwr_report.specs.declared.line_walk.LineWalk.{LineWalk}
 use Rattle.cwr_report.specs.declared.walk.Walk.{Walk}
 use Rattle.cwr_report.specs.declared.latest.Latest.{Latest}
 use Rattle.cwr_report.specs.Latest.{latest_of}
-use Rattle.cwr_report.specs.Walks.{lines_before, AreLeft, IsWalk, IsLineWalk}
+use Rattle.cwr_report.specs.Walks.{lines_before, AreLeft, IsWalk}
 
 drop_suc : (n : ℕ) (lines : List (List ℕ)) → drop (suc n) lines ≡ drop 1 (drop n lines)
 drop_suc zero lines = refl
@@ -42,44 +41,25 @@ left_after (Some line) before after lines e some = e ∙ some
 -- the line was passed, and another one follows, or none
 pub passed_more : (w : Walk) (lines : List (List ℕ)) (line : Bor (List ℕ)) (next : Option (Bor (List ℕ))) (rest : List (List ℕ)) (latest : Latest)
     → w.line ≡ Some line → YieldsFirstRef (λ l. l) w.rest next rest
-    → ((before : List (List ℕ)) → w.latest ≡ latest_of before → latest ≡ latest_of (line.now ∷ before))
-    → IsWalk w lines w.passed → IsWalk (record { line = next; rest = rest; passed = w.passed + 1; latest = latest }) lines (w.passed + 1)
+    → (IsTrue w.keeps → (before : List (List ℕ)) → w.latest ≡ latest_of before → latest ≡ latest_of (line.now ∷ before))
+    → IsWalk w lines w.passed → IsWalk (record { line = next; rest = rest; passed = w.passed + 1; keeps = w.keeps; latest = latest }) lines (w.passed + 1)
 passed_more w lines line next rest latest is steps adds so_far =
     let here : drop w.passed lines ≡ line.now ∷ w.rest = subst (λ (o : Option (Bor (List ℕ))). AreLeft o w.rest (drop w.passed lines)) is so_far.left in
     let there : drop (w.passed + 1) lines ≡ w.rest = rest_more w.passed lines line.now w.rest here in
     record {
       left = left_after next w.rest rest (drop (w.passed + 1) lines) there steps;
       passed_is = refl;
-      latest_is = adds (lines_before lines w.passed) so_far.latest_is ∙ ap latest_of (sym (before_more w.passed lines line.now w.rest here));
+      latest_is = λ keeps.
+          adds keeps (lines_before lines w.passed) (so_far.latest_is keeps) ∙ ap latest_of (sym (before_more w.passed lines line.now w.rest here));
     }
 
 -- there was no line to pass
 pub passed_end : (w : Walk) (lines : List (List ℕ)) → w.line ≡ None → IsWalk w lines w.passed
-    → IsWalk (record { line = w.line; rest = w.rest; passed = w.passed + 1; latest = w.latest }) lines (w.passed + 1)
+    → IsWalk (record { line = w.line; rest = w.rest; passed = w.passed + 1; keeps = w.keeps; latest = w.latest }) lines (w.passed + 1)
 passed_end w lines is so_far =
     let none : AreLeft None w.rest (drop w.passed lines) = subst (λ (o : Option (Bor (List ℕ))). AreLeft o w.rest (drop w.passed lines)) is so_far.left in
     record {
       left = subst (λ (o : Option (Bor (List ℕ))). AreLeft o w.rest (drop (w.passed + 1) lines)) (sym is) (rest_end w.passed lines none.0, none.1);
       passed_is = refl;
-      latest_is = so_far.latest_is ∙ ap latest_of (sym (before_end w.passed lines none.0));
-    }
-
--- the same of a walk that keeps nothing of what the lines say
-pub line_passed : (w : LineWalk) (lines : List (List ℕ)) (line : Bor (List ℕ)) (next : Option (Bor (List ℕ))) (rest : List (List ℕ))
-    → w.line ≡ Some line → YieldsFirstRef (λ l. l) w.rest next rest → IsLineWalk w lines w.passed
-    → IsLineWalk (record { line = next; rest = rest; passed = w.passed + 1 }) lines (w.passed + 1)
-line_passed w lines line next rest is steps so_far =
-    let here : drop w.passed lines ≡ line.now ∷ w.rest = subst (λ (o : Option (Bor (List ℕ))). AreLeft o w.rest (drop w.passed lines)) is so_far.left in
-    record {
-      left = left_after next w.rest rest (drop (w.passed + 1) lines) (rest_more w.passed lines line.now w.rest here) steps;
-      passed_is = refl;
-    }
-
-pub end_passed : (w : LineWalk) (lines : List (List ℕ)) → w.line ≡ None → IsLineWalk w lines w.passed
-    → IsLineWalk (record { line = w.line; rest = w.rest; passed = w.passed + 1 }) lines (w.passed + 1)
-end_passed w lines is so_far =
-    let none : AreLeft None w.rest (drop w.passed lines) = subst (λ (o : Option (Bor (List ℕ))). AreLeft o w.rest (drop w.passed lines)) is so_far.left in
-    record {
-      left = subst (λ (o : Option (Bor (List ℕ))). AreLeft o w.rest (drop (w.passed + 1) lines)) (sym is) (rest_end w.passed lines none.0, none.1);
-      passed_is = refl;
+      latest_is = λ keeps. so_far.latest_is keeps ∙ ap latest_of (sym (before_end w.passed lines none.0));
     }

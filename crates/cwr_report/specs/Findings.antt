@@ -11,8 +11,7 @@ use Rattle.cwr_grammar.specs.RawParts.{RawParts}
 use Rattle.cwr_call.specs.declared.transaction_fault.Fault.{Fault}
 use Rattle.cwr_rules.specs.declared.added.AddedShares.{AddedShares}
 use Rattle.cwr_rules.specs.declared.added.Over.{Over}
-use Rattle.cwr_rules.specs.Added.{details_of, first_over}
-use Rattle.cwr_rules.specs.Totals.{ownership}
+use Rattle.cwr_rules.specs.Added.{added_in}
 use Rattle.cwr_check.specs.CheckText.{faults_in}
 use Rattle.cwr_report.specs.declared.latest.Latest.{Latest}
 use Rattle.cwr_report.specs.declared.finding.Finding.{Finding}
@@ -21,10 +20,6 @@ use Rattle.cwr_report.specs.declared.finding.Expected.TheVariants.{Rule, Followe
 use Rattle.cwr_report.specs.Fields.{fields_of}
 use Rattle.cwr_report.specs.Latest.{latest_of}
 use Rattle.cwr_report.specs.Walks.{line_at, lines_before}
-
--- what the shares of a transaction add up to
-abbrev pub added_in : RawParts → AddedShares
-added_in t = record { ownership = ownership (details_of t); over = first_over (details_of t) }
 
 -- the nine digits of a work code, behind its T
 abbrev pub iswc_digits : Column

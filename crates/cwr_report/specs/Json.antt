@@ -13,6 +13,7 @@ use Rattle.cwr_report.specs.declared.file_finding.RecordPlace.TheVariants as pla
 use Rattle.cwr_report.specs.declared.file_finding.WrongByte.{WrongByte}
 use Rattle.cwr_report.specs.FileText.{counted, file_rule_text, file_wanted_text}
 use Rattle.cwr_report.specs.LongText.{name_text, stands_at, message_of, wanted_text}
+use Rattle.cwr_report.specs.Reported.{Reported}
 use Rattle.cwr_report.specs.Walks.{line_at}
 
 -- bytes as a text: each byte is the character with its number
@@ -29,6 +30,11 @@ count_data n = number (unsigned n)
 abbrev pub option_data : Option ℕ → Data
 option_data None = null
 option_data (Some n) = count_data n
+
+-- a record type, or null
+abbrev pub type_data : Option (List ℕ) → Data
+type_data None = null
+type_data (Some rtype) = text_data rtype
 
 -- a field that breaks a rule, with the bytes that the line has there
 abbrev pub field_members : List ℕ → Spot → Members
@@ -121,15 +127,12 @@ refused_data None = boolean false
 refused_data (Some refused) = boolean true
 
 -- of a report on a file with these lines
-abbrev pub report_members : List (List ℕ) → List Finding → ℕ → ℕ → Option FileFinding → Members
-report_members lines findings all faulty refused =
-    put (codes "faulty") (count_data faulty)
-    (put (codes "transactions") (count_data all)
-    (put (codes "refused") (refused_data refused)
-    (put (codes "faults") (array (items_of (faults_data lines findings refused))) no_members)))
-
-abbrev pub report_data : List (List ℕ) → List Finding → ℕ → ℕ → Option FileFinding → Data
-report_data lines findings all faulty refused = object (report_members lines findings all faulty refused)
+abbrev pub report_members : List (List ℕ) → Reported → Members
+report_members lines r =
+    put (codes "faulty") (count_data r.faulty)
+    (put (codes "transactions") (count_data r.transactions)
+    (put (codes "refused") (refused_data r.refused)
+    (put (codes "faults") (array (items_of (faults_data lines r.findings r.refused))) no_members)))
 
 -- members with the name of a file, a text, where there is one
 abbrev pub with_file : Option (List ℕ) → Members → Members
@@ -141,5 +144,5 @@ abbrev pub json_line : Data → List ℕ
 json_line value = compact_text value ++ 10 ∷ []
 
 -- the same as a text, on one line
-abbrev pub report_json : List (List ℕ) → List Finding → ℕ → ℕ → Option FileFinding → List ℕ
-report_json lines findings all faulty refused = json_line (report_data lines findings all faulty refused)
+abbrev pub report_json : List (List ℕ) → Reported → List ℕ
+report_json lines r = json_line (object (report_members lines r))

@@ -4,7 +4,7 @@ use Rattle.std.specs.Fmt.{decimal}
 use Rattle.std.specs.Ordering.{nat_cmp, match_ordering}
 use Rattle.std.specs.Cmp.Lexicographic.{slice_cmp}
 use Rattle.json.specs.Print.{quoted}
-use Rattle.serde_json.specs.Data.{Data, null, string, array, Members, no_members, member}
+use Rattle.serde_json.specs.Data.{Data, string, array, Members, no_members, member}
 use Rattle.serde_json.specs.View.{items_of}
 use Rattle.serde_json.specs.Written.{compact_text, comma_if, members_text}
 use Rattle.cwr_report.specs.declared.finding.Finding.{Finding}
@@ -15,9 +15,10 @@ use Rattle.cwr_report.specs.declared.json_faults.Place.{Place}
 use Rattle.cwr_report.specs.declared.json_members.Member.{Member}
 use Rattle.cwr_report.specs.declared.json_members.ReportMember.{ReportMember}
 use Rattle.cwr_report.specs.declared.json_members.ReportMember.TheVariants as own
-use Rattle.cwr_report.specs.Json.{text_data, count_data, option_data, fields_data, refused_data, faults_data}
+use Rattle.cwr_report.specs.Json.{text_data, count_data, option_data, type_data, fields_data, refused_data, faults_data}
 use Rattle.cwr_report.specs.FileText.{counted, file_rule_text, file_wanted_text}
 use Rattle.cwr_report.specs.LongText.{name_text, stands_at, message_of, wanted_text}
+use Rattle.cwr_report.specs.Reported.{Reported}
 
 -- the byte does not stand for itself in a text
 abbrev pub is_changed : ℕ → Bool
@@ -56,11 +57,6 @@ wrong_text wrong =
 abbrev pub byte_text : Option WrongByte → List ℕ
 byte_text None = codes "null"
 byte_text (Some wrong) = wrong_text wrong
-
--- a record type, or null
-abbrev pub type_data : Option (List ℕ) → Data
-type_data None = null
-type_data (Some rtype) = text_data rtype
 
 -- where a fault is
 abbrev pub where_text : Option ℕ → ℕ → Option (List ℕ) → List ℕ
@@ -148,9 +144,9 @@ own_name (own.File name) = codes "file"
 own_name own.Refused = codes "refused"
 own_name own.Transactions = codes "transactions"
 
-abbrev pub own_data : List (List ℕ) → List Finding → ℕ → ℕ → Option FileFinding → ReportMember → Data
-own_data lines findings all faulty refused own.Faults = array (items_of (faults_data lines findings refused))
-own_data lines findings all faulty refused own.Faulty = count_data faulty
-own_data lines findings all faulty refused (own.File name) = string name.now
-own_data lines findings all faulty refused own.Refused = refused_data refused
-own_data lines findings all faulty refused own.Transactions = count_data all
+abbrev pub own_data : List (List ℕ) → Reported → ReportMember → Data
+own_data lines r own.Faults = array (items_of (faults_data lines r.findings r.refused))
+own_data lines r own.Faulty = count_data r.faulty
+own_data lines r (own.File name) = string name.now
+own_data lines r own.Refused = refused_data r.refused
+own_data lines r own.Transactions = count_data r.transactions

@@ -2,7 +2,6 @@ pub mod Fields
 pub mod Latest
 pub mod Walks
 pub mod Findings
-pub mod Added
 pub mod Shown
 pub mod LongText
 pub mod Before
@@ -12,6 +11,7 @@ pub mod FileFindings
 pub mod FileText
 pub mod Json
 pub mod JsonText
+pub mod Reported
 pub mod Report
 pub mod Told
 pub mod ToldLines

@@ -1,5 +1,5 @@
 -- What is told of findings: lines for a person, each with LF at its end.
-use Rattle.std.specs.Prelude.{ℕ, ◌-◌, ◌/◌, ◌%◌, ◌&&◌, ◌==◌, nat_le, List, [], ◌++◌, Option, Some, None, codes, drop, take, if◌then◌else◌}
+use Rattle.std.specs.Prelude.{ℕ, ◌-◌, ◌/◌, ◌%◌, ◌&&◌, ◌==◌, Bool, true, false, nat_le, List, [], ◌++◌, Option, Some, None, codes, drop, take, if◌then◌else◌}
 use Rattle.std.specs.List.{flat_map}
 use Rattle.std.specs.Fmt.{decimal}
 use Rattle.std.specs.Str.{bytes_eq}
@@ -15,7 +15,7 @@ use Rattle.cwr_report.specs.declared.finding.FieldName.{FieldName}
 use Rattle.cwr_report.specs.declared.finding.FieldName.TheVariants as name
 use Rattle.cwr_report.specs.declared.finding.Expected.{Expected}
 use Rattle.cwr_report.specs.declared.finding.Expected.TheVariants.{Rule, FollowerOf, CheckDigit, Party, Ownership, Collection}
-use Rattle.cwr_report.specs.Shown.{shown_text}
+use Rattle.cwr_report.specs.Shown.{shown_text, told_bytes}
 use Rattle.cwr_report.specs.Walks.{line_at}
 
 -- what a field is called
@@ -119,23 +119,20 @@ collection_text over =
 abbrev pub after_text : List ℕ → List ℕ → List ℕ
 after_text told followers = codes "after " ++ told ++ codes ": " ++ followers
 
--- what the rule with this number asked for, with bytes of the file as they stand
-abbrev pub wanted_text : ℕ → Expected → List ℕ
-wanted_text number Rule = rule_text number
-wanted_text number (FollowerOf leading) = after_text leading (followers_text leading)
-wanted_text number (CheckDigit digit) = digit_text digit
-wanted_text number (Party party) = party_text party
-wanted_text number (Ownership total) = ownership_text total
-wanted_text number (Collection over) = collection_text over
+-- what the rule with this number asked for, with bytes of the file as they are shown, or as they stand
+abbrev pub wanted_as : Bool → ℕ → Expected → List ℕ
+wanted_as shows number Rule = rule_text number
+wanted_as shows number (FollowerOf leading) = after_text (told_bytes shows leading) (followers_text leading)
+wanted_as shows number (CheckDigit digit) = digit_text digit
+wanted_as shows number (Party party) = party_text (told_bytes shows party)
+wanted_as shows number (Ownership total) = ownership_text total
+wanted_as shows number (Collection over) = collection_text over
 
--- the same, with bytes of the file as they are shown
-abbrev pub shown_wanted : ℕ → Expected → List ℕ
-shown_wanted number (FollowerOf leading) = after_text (shown_text leading) (followers_text leading)
-shown_wanted number (Party party) = party_text (shown_text party)
-shown_wanted number expected = wanted_text number expected
+abbrev pub wanted_text : ℕ → Expected → List ℕ
+wanted_text number expected = wanted_as false number expected
 
 abbrev pub expected_text : ℕ → Expected → List ℕ
-expected_text number expected = codes "  expected: " ++ shown_wanted number expected ++ codes "\n"
+expected_text number expected = codes "  expected: " ++ wanted_as true number expected ++ codes "\n"
 
 -- the faulty record
 abbrev pub record_text : Finding → List ℕ

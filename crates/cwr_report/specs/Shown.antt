@@ -17,3 +17,7 @@ shown byte = if is_unprinted byte then 92 ∷ 120 ∷ hex_digit (byte / 16) ∷ 
 
 abbrev pub shown_text : List ℕ → List ℕ
 shown_text bytes = flat_map shown bytes
+
+-- bytes as they are shown, or as they stand
+abbrev pub told_bytes : Bool → List ℕ → List ℕ
+told_bytes shows bytes = if shows then shown_text bytes else bytes

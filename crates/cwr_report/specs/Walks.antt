@@ -1,7 +1,6 @@
 -- A walk over lines that has gone past some of them.
-use Rattle.std.specs.Prelude.{ℕ, ◌≡◌, List, [], ◌∷◌, drop, take, reverse, Option, Some, None}
+use Rattle.std.specs.Prelude.{ℕ, ◌≡◌, IsTrue, List, [], ◌∷◌, drop, take, reverse, Option, Some, None}
 use Rattle.std.specs.Borrow.{Bor}
-use Rattle.cwr_report.specs.declared.line_walk.LineWalk.{LineWalk}
 use Rattle.cwr_report.specs.declared.walk.Walk.{Walk}
 use Rattle.cwr_report.specs.Latest.{latest_of}
 
@@ -23,13 +22,8 @@ abbrev pub AreLeft : Option (Bor (List ℕ)) → List (List ℕ) → List (List 
 AreLeft None rest lines = (lines ≡ []) × (rest ≡ [])
 AreLeft (Some line) rest lines = lines ≡ line.now ∷ rest
 
--- so many lines were passed
+-- so many lines were passed, and what they say is kept where it is to be
 pub record IsWalk (w : Walk) (lines : List (List ℕ)) (index : ℕ) : Type 0 where
   pub left : AreLeft w.line w.rest (drop index lines)
   pub passed_is : w.passed ≡ index
-  pub latest_is : w.latest ≡ latest_of (lines_before lines index)
-
--- the same of a walk that keeps nothing of what the lines say
-pub record IsLineWalk (w : LineWalk) (lines : List (List ℕ)) (index : ℕ) : Type 0 where
-  pub left : AreLeft w.line w.rest (drop index lines)
-  pub passed_is : w.passed ≡ index
+  pub latest_is : IsTrue w.keeps → w.latest ≡ latest_of (lines_before lines index)

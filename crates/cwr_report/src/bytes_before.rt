@@ -1,6 +1,7 @@
-ghost use Rattle.std.specs.Prelude.{◌≡◌, ◌<◌, ◌≤◌, ◌==◌, length, drop, IfSome};
-ghost use Rattle.std.specs.List.{position};
+ghost use Rattle.std.specs.Prelude.{◌≡◌, ◌≤◌, length, drop};
 ghost use Rattle.cwr_report.specs.BytesBefore.{first_size, bytes_before};
+
+use cwr_field::line_end;
 
 /// How many bytes the lines before the one at an index have, with their ends. Lines are counted from 0.
 pub(crate) fn bytes_before(bytes: &[u8], index: u64) -> usize
@@ -19,16 +20,8 @@ fn after_first(bytes: &[u8]) -> &[u8]
     ensures rest { result.now ≡ drop (first_size bytes.now) bytes.now }
     ensures inside { first_size bytes.now ≤ length bytes.now }
 {
-    match first_end(bytes) {
+    match line_end(bytes) {
         None => &bytes[bytes.len()..],
         Some(end) => &bytes[end + 1..],
     }
-}
-
-/// The index of the first LF.
-fn first_end(bytes: &[u8]) -> Option<usize>
-    ensures value { result ≡ position (λ b. b == 10) bytes.now }
-    ensures inside { IfSome result (λ end. end < length bytes.now) }
-{
-    bytes.iter().position(|byte| *byte == b'\n')
 }

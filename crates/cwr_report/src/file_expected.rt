@@ -1,5 +1,4 @@
 ghost use Rattle.std.specs.Prelude.{◌≡◌, ◌≤◌, IsTrue, option_map};
-ghost use Rattle.cwr_grammar.specs.FaultTests.{is_number};
 ghost use Rattle.cwr_record.specs.Ranges.{is_in_line};
 ghost use Rattle.cwr_report.specs.Before.{AreFew};
 ghost use Rattle.cwr_report.specs.FileExpected.{malformed_expected, record_expected, group_expected, sequences_expected, expected_in_line, expected_at_end, file_expected, wrong_number, wrong_day, wrong_time, wrong_header_dates, group_column, wrong_sequences, wrong_group_counts, wrong_file_counts, fields_in_line, fields_of_file};
@@ -199,16 +198,7 @@ fn wrong_number(line: &[u8], number: u64, name: FieldName, column: Column) -> Op
     requires { IsTrue (is_in_line column) × (column.width ≤ 18) }
     ensures { result ≡ wrong_number line.now number name column }
 {
-    spot_where(!is_number(digits_at(line, column), number), name, column)
-}
-
-fn is_number(value: Option<u64>, number: u64) -> bool
-    ensures { result ≡ is_number value number }
-{
-    match value {
-        None => false,
-        Some(value) => value == number,
-    }
+    spot_where(digits_at(line, column) != Some(number), name, column)
 }
 
 fn wrong_sequences(line: &[u8], transaction: u64, detail: u64) -> [Option<Spot>; 3]

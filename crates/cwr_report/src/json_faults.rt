@@ -1,11 +1,9 @@
-ghost use Rattle.std.specs.Prelude.{◌≡◌, ◌-◌, ◌++◌, ℕ, OnOk};
-ghost use Rattle.std.specs.Str.Lines.{lines};
+ghost use Rattle.std.specs.Prelude.{◌≡◌, ◌++◌, ℕ, OnOk};
 ghost use Rattle.serde_json.specs.Written.{compact_text};
 ghost use Rattle.cwr_report.specs.FileText.{file_wanted_text};
 ghost use Rattle.cwr_report.specs.LongText.{wanted_text};
-ghost use Rattle.cwr_report.specs.Json.{place_members, finding_data, file_place, file_data};
-ghost use Rattle.cwr_report.specs.JsonText.{string_text, type_data, wrong_text, byte_text, where_text, rule_text, tail_text, told_text, file_told_text};
-ghost use Rattle.cwr_report.specs.Walks.{IsLineWalk};
+ghost use Rattle.cwr_report.specs.Json.{type_data, place_members, told_data, file_place, file_told_data};
+ghost use Rattle.cwr_report.specs.JsonText.{string_text, wrong_text, byte_text, where_text, rule_text, tail_text};
 
 use crate::file_finding::{FileExpected, FileFinding, RecordPlace, WrongByte};
 use crate::file_lines::put_file_wanted;
@@ -13,33 +11,17 @@ use crate::file_words::file_rule_text;
 use crate::finding::{Expected, Finding};
 use crate::json_strings::put_json_text;
 use crate::json_values::{put_fields, put_option, put_rule_name, put_type};
-use crate::line_walk::LineWalk;
 use crate::long_lines::{message_of, put_text, put_wanted};
 use cwr_field::{Memory, put_decimal};
 
-/// Appends a fault of a transaction, where the walk has gone to its line. Texts are put together in a room for them.
-pub(crate) fn put_finding_at(
-    out: &mut Vec<u8>,
-    room: &mut Vec<u8>,
-    bytes: &[u8],
-    walk: &LineWalk,
-    finding: &Finding,
-) -> Result<(), Memory>
-    requires { IsLineWalk walk.now (lines bytes.now) (finding.now.line - 1) }
-    ensures { OnOk result (out.new.items ≡ out.old.items ++ compact_text (finding_data (lines bytes.now) finding.now)) }
-{
-    put_told(out, room, walk.line(), finding)?;
-    Ok(())
-}
-
-/// Appends a fault of a transaction, in this line.
-fn put_told(
+/// Appends a fault of a transaction, in this line. Texts are put together in a room for them.
+pub(crate) fn put_finding(
     out: &mut Vec<u8>,
     room: &mut Vec<u8>,
     line: &[u8],
     finding: &Finding,
 ) -> Result<(), Memory>
-    ensures { OnOk result (out.new.items ≡ out.old.items ++ told_text line.now finding.now) }
+    ensures { OnOk result (out.new.items ≡ out.old.items ++ compact_text (told_data line.now finding.now)) }
 {
     out.extend_from_slice(b"{\"byte\":null,\"expected\":")?;
     put_finding_wanted(out, room, finding.fault.number, &finding.expected)?;
@@ -71,7 +53,7 @@ fn put_finding_wanted(
     ensures { OnOk result (out.new.items ≡ out.old.items ++ string_text (wanted_text number expected.now)) }
 {
     room.clear();
-    put_wanted(room, number, expected)?;
+    put_wanted(room, number, expected, false)?;
     put_json_text(out, room)?;
     Ok(())
 }
@@ -122,32 +104,16 @@ fn put_tail(
     Ok(())
 }
 
-/// Appends the fault of a file, where the walk has gone to its line. Texts are put together in a room for them.
-pub(crate) fn put_file_at(
-    out: &mut Vec<u8>,
-    room: &mut Vec<u8>,
-    bytes: &[u8],
-    walk: &LineWalk,
-    refused: &FileFinding,
-) -> Result<(), Memory>
-    requires { IsLineWalk walk.now (lines bytes.now) (refused.now.line - 1) }
-    ensures { OnOk result (out.new.items ≡ out.old.items ++ compact_text (file_data (lines bytes.now) refused.now)) }
-{
-    let place = Place::of(refused.rtype, &refused.place);
-    put_file_told(out, room, walk.line(), refused, place)?;
-    Ok(())
-}
-
-/// Appends the fault of a file, in this line and in a record that stands there.
-fn put_file_told(
+/// Appends the fault of a file, in this line. Texts are put together in a room for them.
+pub(crate) fn put_file_finding(
     out: &mut Vec<u8>,
     room: &mut Vec<u8>,
     line: &[u8],
     refused: &FileFinding,
-    place: Place,
 ) -> Result<(), Memory>
-    ensures { OnOk result (out.new.items ≡ out.old.items ++ file_told_text line.now refused.now place) }
+    ensures { OnOk result (out.new.items ≡ out.old.items ++ compact_text (file_told_data line.now refused.now)) }
 {
+    let place = Place::of(refused.rtype, &refused.place);
     out.extend_from_slice(b"{\"byte\":")?;
     put_byte(out, &refused.byte)?;
     out.extend_from_slice(b",\"expected\":")?;

@@ -1,21 +1,20 @@
-ghost use Rattle.std.specs.Prelude.{◌≡◌, ◌-◌, ◌∷◌, ◌++◌, [], map, true, false, codes, option_map, IfOk, OnOk};
+ghost use Rattle.std.specs.Prelude.{◌≡◌, ◌∷◌, ◌++◌, [], map, true, false, codes, option_map, IfOk, OnOk};
 ghost use Rattle.std.specs.Str.Lines.{lines};
 ghost use Rattle.serde_json.specs.Data.{Data, Members, member, string, array, object, put as with_member};
 ghost use Rattle.serde_json.specs.View.{view, items_of};
 ghost use Rattle.serde_json.specs.Written.{compact_text, comma_if, items_text, has_float};
-ghost use Rattle.cwr_report.specs.Json.{json_line, finding_data, file_data, faults_data, report_members, with_file, report_json};
+ghost use Rattle.cwr_report.specs.Json.{json_line, told_data, finding_data, file_data, faults_data, report_members, with_file, report_json};
 ghost use Rattle.cwr_report.specs.JsonText.{member_text, left_text, line_with_text, behind_file, own_name, own_data};
 ghost use Rattle.cwr_report.specs.Report.{IsJsonCheck};
-ghost use Rattle.cwr_report.specs.Walks.{IsLineWalk};
 
 use crate::file_finding::FileFinding;
 use crate::finding::Finding;
-use crate::json_faults::{put_file_at, put_finding_at};
+use crate::json_faults::{put_file_finding, put_finding};
 use crate::json_members::{Member, ReportMember, put_last, put_member, put_member_name};
 use crate::json_strings::put_string;
 use crate::json_values::{put_bool, put_comma};
-use crate::line_walk::LineWalk;
 use crate::reporting::{Report, report_on};
+use crate::walk::{Walk, line_of};
 use cwr_check::Checked;
 use cwr_field::{Memory, put_decimal};
 use cwr_grammar::Lines;
@@ -32,19 +31,15 @@ pub fn check_json(alloc: Global, bytes: &[u8]) -> Result<Checked<Global>, Memory
 {
     let report = report_on(alloc, bytes)?;
     let text = json_text(alloc, bytes, &report)?;
-    Ok(Checked {
-        text,
-        clean: report.refused.is_none() && report.faulty == 0,
-    })
+    let clean = report.is_clean();
+    Ok(Checked { text, clean })
 }
 
 /// What is told of a report as JSON, with what stands in the file that it is a report on: one object, and LF.
 pub fn json_text(alloc: Global, bytes: &[u8], report: &Report) -> Result<Vec<u8>, Memory>
-    ensures { IfOk result (λ text. text.items ≡ report_json (lines bytes.now) report.now.findings.items report.now.transactions report.now.faulty report.now.refused) }
+    ensures { IfOk result (λ text. text.items ≡ report_json (lines bytes.now) report.now) }
 {
-    let mut text = Vec::new(alloc);
-    put_line(alloc, &mut text, bytes, report, None, None)?;
-    Ok(text)
+    told_line(alloc, bytes, report, None, None)
 }
 
 /// What is told of a report as JSON, with one member more: one object, and LF.
@@ -59,7 +54,7 @@ pub fn json_text_with(
     more: Value,
 ) -> Result<Vec<u8>, Memory>
     requires { has_float (view more) ≡ false }
-    ensures { IfOk result (λ text. text.items ≡ json_line (object (with_member name.now (view more) (report_members (lines bytes.now) report.now.findings.items report.now.transactions report.now.faulty report.now.refused)))) }
+    ensures { IfOk result (λ text. text.items ≡ json_line (object (with_member name.now (view more) (report_members (lines bytes.now) report.now)))) }
 {
     let value = more.to_string(alloc)?;
     json_text_with_text(alloc, bytes, report, name, value.as_bytes())
@@ -77,19 +72,11 @@ pub fn json_text_with_text(
     name: &str,
     more: &[u8],
 ) -> Result<Vec<u8>, Memory>
-    ensures text { IfOk result (λ text. text.items ≡ line_with_text name.now more.now (report_members (lines bytes.now) report.now.findings.items report.now.transactions report.now.faulty report.now.refused)) }
-    ensures value { (value : Data) → more.now ≡ compact_text value → IfOk result (λ text. text.items ≡ json_line (object (with_member name.now value (report_members (lines bytes.now) report.now.findings.items report.now.transactions report.now.faulty report.now.refused)))) }
+    ensures text { IfOk result (λ text. text.items ≡ line_with_text name.now more.now (report_members (lines bytes.now) report.now)) }
+    ensures value { (value : Data) → more.now ≡ compact_text value → IfOk result (λ text. text.items ≡ json_line (object (with_member name.now value (report_members (lines bytes.now) report.now)))) }
 {
-    let mut text = Vec::new(alloc);
-    put_line(
-        alloc,
-        &mut text,
-        bytes,
-        report,
-        None,
-        Some(Member { name, text: more }),
-    )?;
-    Ok(text)
+    let member = Member { name, text: more };
+    told_line(alloc, bytes, report, None, Some(member))
 }
 
 /// What [`json_text_with_text`] tells of a report on a file of this name, which stands there as a member `file`, a text.
@@ -101,32 +88,28 @@ pub fn json_text_of_file(
     name: &str,
     more: &[u8],
 ) -> Result<Vec<u8>, Memory>
-    ensures text { IfOk result (λ text. text.items ≡ line_with_text name.now more.now
-        (with_member (codes "file") (string file.now) (report_members (lines bytes.now) report.now.findings.items report.now.transactions report.now.faulty report.now.refused))) }
-    ensures value { (value : Data) → more.now ≡ compact_text value → IfOk result (λ text. text.items ≡ json_line (object (with_member name.now value
-        (with_member (codes "file") (string file.now) (report_members (lines bytes.now) report.now.findings.items report.now.transactions report.now.faulty report.now.refused))))) }
+    ensures text { IfOk result (λ text. text.items ≡ line_with_text name.now more.now (with_member (codes "file") (string file.now) (report_members (lines bytes.now) report.now))) }
+    ensures value { (value : Data) → more.now ≡ compact_text value → IfOk result (λ text. text.items ≡ json_line (object (with_member name.now value (with_member (codes "file") (string file.now) (report_members (lines bytes.now) report.now))))) }
 {
-    let mut text = Vec::new(alloc);
     let member = Member { name, text: more };
-    put_line(alloc, &mut text, bytes, report, Some(file), Some(member))?;
-    Ok(text)
+    told_line(alloc, bytes, report, Some(file), Some(member))
 }
 
-/// Appends what is told of a report, with the file's name and one member more where there are such: an object, and LF.
-fn put_line(
+/// What is told of a report, with the file's name and one member more where there are such: an object, and LF.
+fn told_line(
     alloc: Global,
-    out: &mut Vec<u8>,
     bytes: &[u8],
     report: &Report,
     file: Option<&str>,
     more: Option<Member>,
-) -> Result<(), Memory>
-    ensures { OnOk result (out.new.items ≡ out.old.items ++ 123 ∷ (left_text false more.entry (with_file (option_map (λ name. name.now) file.entry) (report_members (lines bytes.now) report.now.findings.items report.now.transactions report.now.faulty report.now.refused)) ++ 10 ∷ [])) }
+) -> Result<Vec<u8>, Memory>
+    ensures { IfOk result (λ text. text.items ≡ 123 ∷ (left_text false more.entry (with_file (option_map (λ name. name.now) file.entry) (report_members (lines bytes.now) report.now)) ++ 10 ∷ [])) }
 {
-    out.push(b'{')?;
-    put_members(alloc, out, bytes, report, file, more)?;
-    out.push(b'\n')?;
-    Ok(())
+    let mut text = Vec::new(alloc);
+    text.push(b'{')?;
+    put_members(alloc, &mut text, bytes, report, file, more)?;
+    text.push(b'\n')?;
+    Ok(text)
 }
 
 /// Appends the members, and ends the object.
@@ -138,7 +121,7 @@ fn put_members(
     file: Option<&str>,
     more: Option<Member>,
 ) -> Result<(), Memory>
-    ensures { OnOk result (out.new.items ≡ out.old.items ++ left_text false more.entry (with_file (option_map (λ name. name.now) file.entry) (report_members (lines bytes.now) report.now.findings.items report.now.transactions report.now.faulty report.now.refused))) }
+    ensures { OnOk result (out.new.items ≡ out.old.items ++ left_text false more.entry (with_file (option_map (λ name. name.now) file.entry) (report_members (lines bytes.now) report.now))) }
 {
     let mut room = Vec::new(alloc);
     let more = put_next(
@@ -220,7 +203,7 @@ fn put_next<'a>(
     own: ReportMember,
 ) -> Result<Option<Member<'a>>, Memory>
     ensures { (ms : Members) → IfOk result (λ left. out.new.items ++ left_text true left ms ≡ out.old.items ++ left_text later more.entry
-        (member (own_name own.entry) (own_data (lines bytes.now) report.now.findings.items report.now.transactions report.now.faulty report.now.refused own.entry) ms)) }
+        (member (own_name own.entry) (own_data (lines bytes.now) report.now own.entry) ms)) }
 {
     let Some(member) = more else {
         put_own(out, room, bytes, report, later, own)?;
@@ -253,7 +236,7 @@ fn put_own(
     own: ReportMember,
 ) -> Result<(), Memory>
     ensures { OnOk result (out.new.items ≡ out.old.items ++ member_text later (own_name own.entry)
-        (compact_text (own_data (lines bytes.now) report.now.findings.items report.now.transactions report.now.faulty report.now.refused own.entry))) }
+        (compact_text (own_data (lines bytes.now) report.now own.entry))) }
 {
     put_member_name(out, later, own.name())?;
     put_value(out, room, bytes, report, own)?;
@@ -269,7 +252,7 @@ fn put_value(
     own: ReportMember,
 ) -> Result<(), Memory>
     ensures { OnOk result (out.new.items ≡ out.old.items
-        ++ compact_text (own_data (lines bytes.now) report.now.findings.items report.now.transactions report.now.faulty report.now.refused own.entry)) }
+        ++ compact_text (own_data (lines bytes.now) report.now own.entry)) }
 {
     match own {
         ReportMember::Faults => put_faults(out, room, bytes, &report.findings, &report.refused),
@@ -306,31 +289,29 @@ fn put_findings(
     ensures { OnOk result (out.new.items ≡ out.old.items ++ 91 ∷ items_text false (items_of (map (finding_data (lines bytes.now)) findings.now))) }
 {
     out.push(b'[')?;
-    let mut walk = LineWalk::new(Lines::of(bytes));
+    let mut walk = Walk::new(Lines::of(bytes), false);
     let mut later = false;
     for finding in findings {
-        walk.go_to(Lines::of(bytes), finding.line.saturating_sub(1));
-        put_item(out, room, bytes, &walk, later, finding)?;
+        let line = walk.go_to(Lines::of(bytes), finding.line.saturating_sub(1));
+        put_item(out, room, line, later, finding)?;
         later = true;
     }
     out.push(b']')?;
     Ok(())
 }
 
-/// Appends the next fault of a transaction, where the walk has gone to its line.
+/// Appends the next fault of a transaction, in this line.
 fn put_item(
     out: &mut Vec<u8>,
     room: &mut Vec<u8>,
-    bytes: &[u8],
-    walk: &LineWalk,
+    line: &[u8],
     later: bool,
     finding: &Finding,
 ) -> Result<(), Memory>
-    requires { IsLineWalk walk.now (lines bytes.now) (finding.now.line - 1) }
-    ensures { OnOk result (out.new.items ≡ out.old.items ++ (comma_if later ++ compact_text (finding_data (lines bytes.now) finding.now))) }
+    ensures { OnOk result (out.new.items ≡ out.old.items ++ (comma_if later ++ compact_text (told_data line.now finding.now))) }
 {
     put_comma(out, later)?;
-    put_finding_at(out, room, bytes, walk, finding)?;
+    put_finding(out, room, line, finding)?;
     Ok(())
 }
 
@@ -343,10 +324,8 @@ fn put_refused(
 ) -> Result<(), Memory>
     ensures { OnOk result (out.new.items ≡ out.old.items ++ 91 ∷ (compact_text (file_data (lines bytes.now) refused.now) ++ 93 ∷ [])) }
 {
-    let mut walk = LineWalk::new(Lines::of(bytes));
-    walk.go_to(Lines::of(bytes), refused.line.saturating_sub(1));
     out.push(b'[')?;
-    put_file_at(out, room, bytes, &walk, refused)?;
+    put_file_finding(out, room, line_of(bytes, refused.line), refused)?;
     out.push(b']')?;
     Ok(())
 }

@@ -2,16 +2,16 @@ ghost use Rattle.std.specs.Prelude.{◌≡◌, ◌++◌, ◌∷◌, ℕ, List, I
 ghost use Rattle.serde_json.specs.Data.{Data, boolean};
 ghost use Rattle.serde_json.specs.View.{view, items_of};
 ghost use Rattle.serde_json.specs.Written.{comma_if, compact_text, items_text};
-ghost use Rattle.cwr_report.specs.Json.{latin, text_data, spot_data, fields_data};
-ghost use Rattle.cwr_report.specs.JsonText.{string_text, option_text, type_data, field_text};
+ghost use Rattle.cwr_report.specs.Json.{latin, text_data, type_data, spot_data, fields_data};
+ghost use Rattle.cwr_report.specs.JsonText.{string_text, option_text, field_text};
 ghost use Rattle.cwr_report.specs.FileText.{counted};
 
 use crate::file_lines::put_counted;
 use crate::finding::Spot;
 use crate::json_strings::put_json_text;
 use crate::long_lines::{put_text, stands_at};
-use crate::numbers::put_number;
 use crate::words::name_text;
+use cwr_check::put_number;
 use cwr_field::{Memory, put_decimal};
 use serde_json::Value;
 use std::alloc::Global;
@@ -36,7 +36,7 @@ pub fn text_value(alloc: Global, bytes: &[u8]) -> Result<Value, Memory>
 }
 
 /// Appends a comma, where something stands before.
-pub(crate) fn put_comma(out: &mut Vec<u8>, later: bool) -> Result<(), Memory>
+pub fn put_comma(out: &mut Vec<u8>, later: bool) -> Result<(), Memory>
     ensures { OnOk result (out.new.items ≡ out.old.items ++ comma_if later) }
 {
     if later {
@@ -46,7 +46,7 @@ pub(crate) fn put_comma(out: &mut Vec<u8>, later: bool) -> Result<(), Memory>
 }
 
 /// Appends a number, or null.
-pub(crate) fn put_option(out: &mut Vec<u8>, number: Option<u64>) -> Result<(), Memory>
+pub fn put_option(out: &mut Vec<u8>, number: Option<u64>) -> Result<(), Memory>
     ensures { OnOk result (out.new.items ≡ out.old.items ++ option_text number) }
 {
     match number {
@@ -67,7 +67,7 @@ pub(crate) fn put_bool(out: &mut Vec<u8>, value: bool) -> Result<(), Memory>
 }
 
 /// Appends a record type, or null.
-pub(crate) fn put_type(out: &mut Vec<u8>, rtype: Option<[u8; 3]>) -> Result<(), Memory>
+pub fn put_type(out: &mut Vec<u8>, rtype: Option<[u8; 3]>) -> Result<(), Memory>
     ensures { OnOk result (out.new.items ≡ out.old.items ++ compact_text (type_data rtype)) }
 {
     match rtype {

@@ -1,4 +1,4 @@
-ghost use Rattle.std.specs.Prelude.{◌≡◌, ◌∷◌, ℕ, List, []};
+ghost use Rattle.std.specs.Prelude.{◌≡◌, ◌∷◌, ℕ, List, [], IsTrue};
 ghost use Rattle.cwr_report.specs.Latest.{latest_of};
 
 use cwr_record::{Publisher, RecordType, Writer, field_at, type_of};
@@ -27,7 +27,7 @@ impl Latest {
     }
 
     /// Goes past a line.
-    pub(crate) fn add(&mut self, line: &[u8])
+    fn add(&mut self, line: &[u8])
         ensures { (before : List (List ℕ)) → self.old ≡ latest_of before → self.new ≡ latest_of (line.now ∷ before) }
     {
         match type_of(line) {
@@ -37,5 +37,15 @@ impl Latest {
             _ => {}
         }
         self.leading = field_at(line, RecordType::COLUMN).bytes();
+    }
+
+    /// Goes past a line, where what the lines say is kept.
+    #[inline(always)]
+    pub(crate) fn add_where(&mut self, keeps: bool, line: &[u8])
+        ensures { IsTrue keeps → (before : List (List ℕ)) → self.old ≡ latest_of before → self.new ≡ latest_of (line.now ∷ before) }
+    {
+        if keeps {
+            self.add(line);
+        }
     }
 }

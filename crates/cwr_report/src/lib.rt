@@ -17,12 +17,9 @@ mod json_report;
 mod json_runs;
 mod json_strings;
 mod json_values;
-mod judged;
 mod latest;
 pub mod laws;
-mod line_walk;
 mod long_lines;
-mod numbers;
 mod reporting;
 mod shown;
 mod telling;
@@ -42,8 +39,9 @@ pub use json_report::{
     check_json, json_text, json_text_of_file, json_text_with, json_text_with_text,
 };
 pub use json_strings::put_json_text;
-pub use json_values::text_value;
+pub use json_values::{put_comma, put_option, put_type, text_value};
+pub use long_lines::put_text;
 pub use reporting::{Report, report_on};
-pub use shown::put_shown;
+pub use shown::{put_bytes, put_shown};
 pub use telling::{check_faults, check_long, long_text};
 pub use told_lines::{put_fault_lines, put_named_lines};

@@ -1,12 +1,12 @@
 ghost use Rattle.std.specs.Prelude.{◌≡◌, ◌++◌, OnOk};
-ghost use Rattle.cwr_report.specs.LongText.{stands_at, spot_text, spots_text, percent_text, followers_text, after_text, digit_text, party_text, ownership_text, collection_text, collected_text, wanted_text, shown_wanted, expected_text, record_text, transaction_text, message_of, broken_text, told_of};
-ghost use Rattle.cwr_report.specs.Shown.{shown_text};
+ghost use Rattle.cwr_report.specs.LongText.{stands_at, spot_text, spots_text, percent_text, followers_text, after_text, digit_text, party_text, ownership_text, collection_text, collected_text, wanted_as, expected_text, record_text, transaction_text, message_of, broken_text, told_of};
+ghost use Rattle.cwr_report.specs.Shown.{told_bytes};
 
 use crate::finding::{Expected, Finding, Spot};
-use crate::numbers::put_number;
-use crate::shown::put_shown;
+use crate::shown::{put_bytes, put_shown};
 use crate::words::{followers_text, name_text, rule_text};
 use cwr_acknowledgement::message_text;
+use cwr_check::put_number;
 use cwr_field::{Memory, put_decimal, put_digits};
 use cwr_record::Column;
 use cwr_rules::{Over, Totals};
@@ -127,74 +127,47 @@ fn put_expected<A: Allocator>(
     ensures { OnOk result (out.new.items ≡ out.old.items ++ expected_text number expected.now) }
 {
     out.extend_from_slice(b"  expected: ")?;
-    put_shown_wanted(out, number, expected)?;
+    put_wanted(out, number, expected, true)?;
     out.extend_from_slice(b"\n")?;
     Ok(())
 }
 
-fn put_shown_wanted<A: Allocator>(
-    out: &mut Vec<u8, A>,
-    number: u8,
-    expected: &Expected,
-) -> Result<(), Memory>
-    ensures { OnOk result (out.new.items ≡ out.old.items ++ shown_wanted number expected.now) }
-{
-    match *expected {
-        Expected::FollowerOf(leading) => put_shown_followers(out, leading),
-        Expected::Party(party) => put_shown_party(out, party),
-        _ => put_wanted(out, number, expected),
-    }
-}
-
-fn put_shown_followers<A: Allocator>(out: &mut Vec<u8, A>, leading: [u8; 3]) -> Result<(), Memory>
-    ensures { OnOk result (out.new.items ≡ out.old.items ++ after_text (shown_text leading) (followers_text leading)) }
-{
-    out.extend_from_slice(b"after ")?;
-    put_shown(out, &leading)?;
-    out.extend_from_slice(b": ")?;
-    out.extend_from_slice(followers_text(leading))?;
-    Ok(())
-}
-
-fn put_shown_party<A: Allocator>(out: &mut Vec<u8, A>, party: [u8; 9]) -> Result<(), Memory>
-    ensures { OnOk result (out.new.items ≡ out.old.items ++ party_text (shown_text party)) }
-{
-    out.extend_from_slice(b"\"")?;
-    put_shown(out, &party)?;
-    out.extend_from_slice(b"\"")?;
-    Ok(())
-}
-
-/// Appends what the rule with this number asked for, with bytes of the file as they stand.
+/// Appends what the rule with this number asked for, with bytes of the file as they are shown, or as they stand.
 pub(crate) fn put_wanted<A: Allocator>(
     out: &mut Vec<u8, A>,
     number: u8,
     expected: &Expected,
+    shows: bool,
 ) -> Result<(), Memory>
-    ensures { OnOk result (out.new.items ≡ out.old.items ++ wanted_text number expected.now) }
+    ensures { OnOk result (out.new.items ≡ out.old.items ++ wanted_as shows number expected.now) }
 {
     match *expected {
         Expected::Rule => put_text(out, rule_text(number)),
-        Expected::FollowerOf(leading) => put_followers(out, leading),
+        Expected::FollowerOf(leading) => put_followers(out, leading, shows),
         Expected::CheckDigit(digit) => put_digit(out, digit),
-        Expected::Party(party) => put_party(out, party),
+        Expected::Party(party) => put_party(out, party, shows),
         Expected::Ownership(total) => put_ownership(out, total),
         Expected::Collection(over) => put_collection(out, over),
     }
 }
 
-pub(crate) fn put_text<A: Allocator>(out: &mut Vec<u8, A>, text: &[u8]) -> Result<(), Memory>
+/// Appends a text as it stands.
+pub fn put_text<A: Allocator>(out: &mut Vec<u8, A>, text: &[u8]) -> Result<(), Memory>
     ensures { OnOk result (out.new.items ≡ out.old.items ++ text.now) }
 {
     out.extend_from_slice(text)?;
     Ok(())
 }
 
-fn put_followers<A: Allocator>(out: &mut Vec<u8, A>, leading: [u8; 3]) -> Result<(), Memory>
-    ensures { OnOk result (out.new.items ≡ out.old.items ++ after_text leading (followers_text leading)) }
+fn put_followers<A: Allocator>(
+    out: &mut Vec<u8, A>,
+    leading: [u8; 3],
+    shows: bool,
+) -> Result<(), Memory>
+    ensures { OnOk result (out.new.items ≡ out.old.items ++ after_text (told_bytes shows leading) (followers_text leading)) }
 {
     out.extend_from_slice(b"after ")?;
-    out.extend_from_slice(&leading)?;
+    put_bytes(out, &leading, shows)?;
     out.extend_from_slice(b": ")?;
     out.extend_from_slice(followers_text(leading))?;
     Ok(())
@@ -208,11 +181,11 @@ fn put_digit<A: Allocator>(out: &mut Vec<u8, A>, digit: u8) -> Result<(), Memory
     Ok(())
 }
 
-fn put_party<A: Allocator>(out: &mut Vec<u8, A>, party: [u8; 9]) -> Result<(), Memory>
-    ensures { OnOk result (out.new.items ≡ out.old.items ++ party_text party) }
+fn put_party<A: Allocator>(out: &mut Vec<u8, A>, party: [u8; 9], shows: bool) -> Result<(), Memory>
+    ensures { OnOk result (out.new.items ≡ out.old.items ++ party_text (told_bytes shows party)) }
 {
     out.extend_from_slice(b"\"")?;
-    out.extend_from_slice(&party)?;
+    put_bytes(out, &party, shows)?;
     out.extend_from_slice(b"\"")?;
     Ok(())
 }

@@ -1,9 +1,10 @@
-ghost use Rattle.std.specs.Prelude.{IfOk, length};
+ghost use Rattle.std.specs.Prelude.{◌≡◌, IfOk, length};
 ghost use Rattle.std.specs.Str.Lines.{lines};
 ghost use Rattle.cwr_grammar.specs.Faults.{IsLeastFault};
 ghost use Rattle.cwr_grammar.specs.File.{File, IsFile};
 ghost use Rattle.cwr_grammar.specs.Submitted.{IsSubmission, IsBounded};
 ghost use Rattle.cwr_report.specs.Report.{IsReport, IsReportOfFile, IsReportOfFault};
+ghost use Rattle.cwr_report.specs.Reported.{is_clean};
 
 use crate::file_finding::{FileFinding, file_finding};
 use crate::finding::Finding;
@@ -11,6 +12,7 @@ use crate::findings::push_findings;
 use cwr_field::Memory;
 use cwr_grammar::{FileRefusal, Submission, parse_file};
 use std::alloc::{Allocator, Global};
+use std::marker::Model;
 
 /// What a check found in a file.
 #[derive_where(Debug)]
@@ -26,13 +28,30 @@ pub struct Report<A: Allocator = Global> {
     pub refused: Option<FileFinding>,
 }
 
+impl<A: Allocator> Model for Report<A> {
+    ghost use Rattle.cwr_report.specs.Reported.{Reported};
+
+    ghost Value = { Reported };
+
+    ghost view = { λ r. record { findings = r.findings.items; transactions = r.transactions; faulty = r.faulty; refused = r.refused } };
+}
+
+impl<A: Allocator> Report<A> {
+    /// Whether the file is well-formed and none of its transactions has a fault.
+    pub fn is_clean(&self) -> bool
+        ensures { result ≡ is_clean self.now }
+    {
+        self.refused.is_none() && self.faulty == 0
+    }
+}
+
 /// Checks a file by the rules of files and of transactions, F1 to F12 and J1 to J15, without a registry.
 ///
 /// Of a well-formed file it tells every fault of its transactions, each once and in order: by record sequence, and
 /// within a record by the number of the rule. Of any other file it tells the first fault. Where memory is refused
 /// nothing is told.
 pub fn report_on<A: Allocator + Copy>(alloc: A, bytes: &[u8]) -> Result<Report<A>, Memory>
-    ensures { IfOk result (λ r. IsReport bytes.now r.findings.items r.transactions r.faulty r.refused) }
+    ensures { IfOk result (IsReport bytes.now) }
 {
     match parse_file(alloc, bytes) {
         Ok(file) => report_of_file(alloc, bytes, &file),
@@ -49,7 +68,7 @@ fn report_of_file<A: Allocator + Copy>(
 ) -> Result<Report<A>, Memory>
     requires file { (f : File) × IsFile (lines bytes.now) f × IsSubmission f file.now.header file.now.transactions file.now.groups file.now.records }
     requires bounds { IsBounded (length bytes.now) file.now.header file.now.transactions }
-    ensures { IfOk result (λ r. IsReportOfFile (lines bytes.now) r.findings.items r.transactions r.faulty r.refused) }
+    ensures { IfOk result (IsReportOfFile (lines bytes.now)) }
 {
     let mut findings = Vec::new(alloc);
     let faulty = push_findings(alloc, &mut findings, file.header.sender, &file.transactions)?;
@@ -64,7 +83,7 @@ fn report_of_file<A: Allocator + Copy>(
 /// The report on a file that has a fault.
 fn report_of_fault<A: Allocator + Copy>(alloc: A, bytes: &[u8], number: u8, line: u64) -> Report<A>
     requires { IsLeastFault (lines bytes.now) line number }
-    ensures { IsReportOfFault bytes.now result.findings.items result.transactions result.faulty result.refused }
+    ensures { IsReportOfFault bytes.now result }
 {
     Report {
         findings: Vec::new(alloc),

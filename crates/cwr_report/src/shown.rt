@@ -1,6 +1,7 @@
 ghost use Rattle.std.specs.Prelude.{◌≡◌, ◌<◌, ◌++◌, OnOk};
-ghost use Rattle.cwr_report.specs.Shown.{hex_digit, is_unprinted, shown, shown_text};
+ghost use Rattle.cwr_report.specs.Shown.{hex_digit, is_unprinted, shown, shown_text, told_bytes};
 
+use crate::long_lines::put_text;
 use cwr_field::{LEAST_PRINTABLE, Memory};
 use std::alloc::Allocator;
 
@@ -15,6 +16,21 @@ pub fn put_shown<A: Allocator>(out: &mut Vec<u8, A>, bytes: &[u8]) -> Result<(),
         put_shown_byte(out, *byte)?;
     }
     Ok(())
+}
+
+/// Appends bytes of a file as they are shown, or as they stand. A refusal may leave a part of them.
+pub fn put_bytes<A: Allocator>(
+    out: &mut Vec<u8, A>,
+    bytes: &[u8],
+    shows: bool,
+) -> Result<(), Memory>
+    ensures { OnOk result (out.new.items ≡ out.old.items ++ told_bytes shows bytes.now) }
+{
+    if shows {
+        put_shown(out, bytes)
+    } else {
+        put_text(out, bytes)
+    }
 }
 
 /// Appends a byte, as it is shown.

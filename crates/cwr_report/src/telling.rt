@@ -1,18 +1,16 @@
-ghost use Rattle.std.specs.Prelude.{◌≡◌, ◌-◌, ◌++◌, IfOk, OnOk};
+ghost use Rattle.std.specs.Prelude.{◌≡◌, ◌++◌, IfOk, OnOk};
 ghost use Rattle.std.specs.List.{flat_map};
 ghost use Rattle.std.specs.Str.Lines.{lines};
-ghost use Rattle.cwr_check.specs.CheckText.{total_line};
 ghost use Rattle.cwr_report.specs.FileText.{file_text};
 ghost use Rattle.cwr_report.specs.LongText.{finding_text, long_text};
 ghost use Rattle.cwr_report.specs.Report.{report_text, faults_text, IsLongCheck, IsFaultsCheck};
-ghost use Rattle.cwr_report.specs.Walks.{IsLineWalk};
 
 use crate::file_finding::FileFinding;
 use crate::file_lines::put_file_finding;
 use crate::finding::Finding;
-use crate::line_walk::LineWalk;
 use crate::long_lines::put_finding;
 use crate::reporting::{Report, report_on};
+use crate::walk::{Walk, line_of};
 use cwr_check::{Checked, put_total};
 use cwr_field::Memory;
 use cwr_grammar::Lines;
@@ -26,10 +24,8 @@ pub fn check_long<A: Allocator + Copy>(alloc: A, bytes: &[u8]) -> Result<Checked
 {
     let report = report_on(alloc, bytes)?;
     let text = long_text(alloc, bytes, &report)?;
-    Ok(Checked {
-        text,
-        clean: report.refused.is_none() && report.faulty == 0,
-    })
+    let clean = report.is_clean();
+    Ok(Checked { text, clean })
 }
 
 /// Checks a file as [`check_long`] does, and tells its faults alone: of a well-formed file no last line, so that nothing is
@@ -41,7 +37,7 @@ pub fn check_faults<A: Allocator + Copy>(alloc: A, bytes: &[u8]) -> Result<Check
 {
     let report = report_on(alloc, bytes)?;
     let text = faults_text(alloc, bytes, &report)?;
-    let clean = report.refused.is_none() && report.faulty == 0;
+    let clean = report.is_clean();
     Ok(Checked { text, clean })
 }
 
@@ -51,7 +47,7 @@ fn faults_text<A: Allocator + Copy>(
     bytes: &[u8],
     report: &Report<A>,
 ) -> Result<Vec<u8, A>, Memory>
-    ensures { IfOk result (λ text. text.items ≡ faults_text (lines bytes.now) report.now.findings.items report.now.refused) }
+    ensures { IfOk result (λ text. text.items ≡ faults_text (lines bytes.now) report.now) }
 {
     let mut text = Vec::new(alloc);
     match &report.refused {
@@ -71,7 +67,7 @@ pub fn long_text<A: Allocator + Copy>(
     bytes: &[u8],
     report: &Report<A>,
 ) -> Result<Vec<u8, A>, Memory>
-    ensures { IfOk result (λ text. text.items ≡ report_text (lines bytes.now) report.now.findings.items report.now.transactions report.now.faulty report.now.refused) }
+    ensures { IfOk result (λ text. text.items ≡ report_text (lines bytes.now) report.now) }
 {
     let mut text = Vec::new(alloc);
     match &report.refused {
@@ -89,23 +85,7 @@ fn put_refused<A: Allocator>(
 ) -> Result<(), Memory>
     ensures { OnOk result (out.new.items ≡ out.old.items ++ file_text (lines bytes.now) refused.now) }
 {
-    let mut walk = LineWalk::new(Lines::of(bytes));
-    walk.go_to(Lines::of(bytes), refused.line.saturating_sub(1));
-    put_refused_at(out, bytes, &walk, refused)
-}
-
-/// Appends what is told of the fault of a file, where the walk has gone to its line.
-fn put_refused_at<A: Allocator>(
-    out: &mut Vec<u8, A>,
-    bytes: &[u8],
-    walk: &LineWalk,
-    refused: &FileFinding,
-) -> Result<(), Memory>
-    requires { IsLineWalk walk.now (lines bytes.now) (refused.now.line - 1) }
-    ensures { OnOk result (out.new.items ≡ out.old.items ++ file_text (lines bytes.now) refused.now) }
-{
-    put_file_finding(out, walk.line(), refused)?;
-    Ok(())
+    put_file_finding(out, line_of(bytes, refused.line), refused)
 }
 
 /// Appends what is told of a well-formed file.
@@ -114,7 +94,7 @@ fn put_report<A: Allocator>(
     bytes: &[u8],
     report: &Report<A>,
 ) -> Result<(), Memory>
-    ensures { OnOk result (out.new.items ≡ out.old.items ++ long_text (lines bytes.now) report.now.findings.items report.now.transactions report.now.faulty) }
+    ensures { OnOk result (out.new.items ≡ out.old.items ++ long_text (lines bytes.now) report.now.findings report.now.transactions report.now.faulty) }
 {
     put_findings(out, bytes, &report.findings)?;
     put_total(out, report.transactions, report.faulty)?;
@@ -129,24 +109,10 @@ fn put_findings<A: Allocator>(
 ) -> Result<(), Memory>
     ensures { OnOk result (out.new.items ≡ out.old.items ++ flat_map (finding_text (lines bytes.now)) findings.now) }
 {
-    let mut walk = LineWalk::new(Lines::of(bytes));
+    let mut walk = Walk::new(Lines::of(bytes), false);
     for finding in findings {
-        walk.go_to(Lines::of(bytes), finding.line.saturating_sub(1));
-        put_finding_at(out, bytes, &walk, finding)?;
+        let line = walk.go_to(Lines::of(bytes), finding.line.saturating_sub(1));
+        put_finding(out, line, finding)?;
     }
-    Ok(())
-}
-
-/// Appends what is told of a fault, where the walk has gone to its line.
-fn put_finding_at<A: Allocator>(
-    out: &mut Vec<u8, A>,
-    bytes: &[u8],
-    walk: &LineWalk,
-    finding: &Finding,
-) -> Result<(), Memory>
-    requires { IsLineWalk walk.now (lines bytes.now) (finding.now.line - 1) }
-    ensures { OnOk result (out.new.items ≡ out.old.items ++ finding_text (lines bytes.now) finding.now) }
-{
-    put_finding(out, walk.line(), finding)?;
     Ok(())
 }

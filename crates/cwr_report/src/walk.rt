@@ -1,4 +1,5 @@
 ghost use Rattle.std.specs.Prelude.{◌≡◌, ◌+◌, ◌-◌, ◌<◌, ◌≤◌, ◌^◌, ℕ, List};
+ghost use Rattle.std.specs.Str.Lines.{lines};
 ghost use Rattle.cwr_report.specs.Walks.{IsWalk, line_at};
 
 use crate::latest::Latest;
@@ -8,19 +9,22 @@ use cwr_grammar::Lines;
 #[derive(Drop)]
 pub(crate) struct Walk<'a> {
     /// The line that it has gone to, where there is one.
-    pub(crate) line: Option<&'a [u8]>,
+    line: Option<&'a [u8]>,
     /// The lines after that one.
-    pub(crate) rest: Lines<'a>,
+    rest: Lines<'a>,
     /// How many lines it has gone past.
-    pub(crate) passed: u64,
-    /// What they say.
+    passed: u64,
+    /// Whether it keeps what they say.
+    keeps: bool,
+    /// What they say, where it keeps that.
     pub(crate) latest: Latest,
 }
 
 impl<'a> Walk<'a> {
     /// At the first line.
-    pub(crate) fn new(lines: Lines<'a>) -> Walk<'a>
-        ensures { IsWalk result lines.entry 0 }
+    pub(crate) fn new(lines: Lines<'a>, keeps: bool) -> Walk<'a>
+        ensures walk { IsWalk result lines.entry 0 }
+        ensures keeps { result.keeps ≡ keeps }
     {
         let mut rest = lines;
         let line = rest.next();
@@ -28,52 +32,58 @@ impl<'a> Walk<'a> {
             line,
             rest,
             passed: 0,
+            keeps,
             latest: Latest::new(),
         }
     }
 
-    /// Goes to the line at an index, counted from 0, of all the lines that it goes over. It begins anew where it has gone
-    /// past that one.
-    pub(crate) fn go_to(&mut self, all: Lines<'a>, index: u64)
+    /// Goes to the line at an index, counted from 0, of all the lines that it goes over, and gives that line; no bytes where
+    /// there is none. It begins anew where it has gone past that one.
+    pub(crate) fn go_to(&mut self, all: Lines<'a>, index: u64) -> &'a [u8]
         requires { IsWalk self.old all self.old.passed }
-        ensures { IsWalk self.new all.entry index }
+        ensures walk { IsWalk self.new all.entry index }
+        ensures keeps { self.new.keeps ≡ self.old.keeps }
+        ensures line { result.now ≡ line_at all.entry index }
     {
         if index < self.passed {
-            *self = Walk::new(all);
-            self.go_on_to(index);
-            return;
+            *self = Walk::new(all, self.keeps);
+            return self.go_on_to(index);
         }
-        self.go_on_to(index);
+        self.go_on_to(index)
     }
 
     /// Goes to a line that it has not gone past: past the lines before it, and no further.
-    fn go_on_to(&mut self, index: u64)
+    fn go_on_to(&mut self, index: u64) -> &'a [u8]
         requires { self.old.passed ≤ index }
-        ensures { (lines : List (List ℕ)) → IsWalk self.old lines self.old.passed → IsWalk self.new lines index }
+        ensures walk { (lines : List (List ℕ)) → IsWalk self.old lines self.old.passed → IsWalk self.new lines index }
+        ensures keeps { self.new.keeps ≡ self.old.keeps }
+        ensures line { (lines : List (List ℕ)) → IsWalk self.old lines self.old.passed → result.now ≡ line_at lines index }
     {
         while self.passed < index {
             self.pass_line();
         }
+        self.line()
     }
 
     /// Goes past a line, where there is one more.
     fn pass_line(&mut self)
         requires { self.old.passed < 2 ^ 64 - 1 }
         ensures passed { self.new.passed ≡ self.old.passed + 1 }
+        ensures keeps { self.new.keeps ≡ self.old.keeps }
         ensures walk { (lines : List (List ℕ)) → IsWalk self.old lines self.old.passed → IsWalk self.new lines self.new.passed }
     {
         self.passed += 1;
         match self.line {
             None => {}
             Some(line) => {
-                self.latest.add(line);
+                self.latest.add_where(self.keeps, line);
                 self.line = self.rest.next();
             }
         }
     }
 
     /// The line that it has gone to; no bytes where there is none.
-    pub(crate) fn line(&self) -> &'a [u8]
+    fn line(&self) -> &'a [u8]
         ensures { (lines : List (List ℕ)) (index : ℕ) → IsWalk self.now lines index → result.now ≡ line_at lines index }
     {
         match self.line {
@@ -81,4 +91,12 @@ impl<'a> Walk<'a> {
             None => &[],
         }
     }
+}
+
+/// The line of a file with this number, counted from 1; no bytes where there is none.
+pub(crate) fn line_of(bytes: &[u8], number: u64) -> &[u8]
+    ensures { result.now ≡ line_at (lines bytes.now) (number - 1) }
+{
+    let mut walk = Walk::new(Lines::of(bytes), false);
+    walk.go_to(Lines::of(bytes), number.saturating_sub(1))
 }

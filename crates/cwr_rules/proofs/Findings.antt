@@ -1,16 +1,16 @@
 -- The findings of one pass come to the faults.
-use Rattle.std.proofs.Common.{◌≡◌, ℕ, ◌+◌, ◌<◌, ◌≤◌, Bool, true, false, not, List, [], ◌∷◌, ◌++◌, length, get_or, drop, Some, None, refl, sym, ap, ◌∙◌, append_assoc, append-nil}
+use Rattle.std.proofs.Common.{◌≡◌, ℕ, ◌+◌, ◌<◌, ◌≤◌, Bool, true, false, not, List, [], ◌∷◌, ◌++◌, length, get_or, drop, Option, Some, None, refl, sym, ap, ◌∙◌, append_assoc, append-nil}
 use Rattle.std.specs.Prelude.{◌&&◌, if◌then◌else◌}
 use Rattle.std.specs.List.{cons_option}
 use Rattle.std.proofs.lemmas.List.{drop_more, drop_all}
-use Rattle.cwr_field.proofs.lemmas.Tests.{or_right}
+use Rattle.cwr_field.proofs.lemmas.Tests.{neither, or_right}
 use Rattle.cwr_call.specs.declared.transaction_fault.Fault.{Fault}
 use Rattle.cwr_rules.specs.declared.finding.Finding.{Finding}
 use Rattle.cwr_rules.specs.declared.record.Record.{Record}
 use Rattle.cwr_rules.specs.declared.record.Record.TheVariants.{Pwr}
 use Rattle.cwr_rules.specs.Rules.{publisher_party, publishers, is_party_of, name_of, follows_swr, has_unknown_publisher, is_out_of_order, has_wrong_share, is_nameless, is_of_another_party, has_wrong_territory}
 use Rattle.cwr_rules.specs.Faults.{found, all_found, record_rules, faults_after}
-use Rattle.cwr_rules.specs.SoFar.{link_publisher, rules_so_far, finding, all_findings, findings_of, stands, standing}
+use Rattle.cwr_rules.specs.SoFar.{link_publisher, rules_so_far, some_holds, finding, all_findings, findings_of, stands, standing}
 use Rattle.cwr_rules.proofs.Turned.{turned, same_parties, party_more}
 
 -- what is one of the first parties is one of the second
@@ -107,3 +107,10 @@ pub all_standing : (parties : List (List ℕ)) (findings : List Finding) (i : �
     → length findings ≤ i → faults ++ standing parties (drop i findings) ≡ all → faults ≡ all
 all_standing parties findings i faults all le so_far =
     sym (append-nil faults) ∙ ap (λ (fs : List Finding). faults ++ standing parties fs) (sym (drop_all i findings le)) ∙ so_far
+
+-- rules none of which holds have no finding
+pub none_found : (k : ℕ) (t : List ℕ) (rules : List (ℕ × Bool × Option (List ℕ))) → some_holds rules ≡ false → all_findings k t rules ≡ []
+none_found k t [] h = refl
+none_found k t (rule ∷ rules) h =
+    let two = neither rule.1 (some_holds rules) h in
+    ap (λ (b : Bool). finding k t rule.0 b rule.2 ++ all_findings k t rules) two.0 ∙ none_found k t rules two.1

@@ -1,13 +1,14 @@
 -- One line more, as far as it includes a territory.
-use Rattle.std.proofs.Common.{◌≡◌, ℕ, true, false, List, ◌∷◌, Option, Some, None, refl, sym, ap, ◌∙◌}
+use Rattle.std.proofs.Common.{◌≡◌, ℕ, Bool, true, false, List, [], ◌∷◌, Option, Some, None, refl, sym, ap, ◌∙◌}
 use Rattle.std.specs.Prelude.{find, option_map}
-use Rattle.std.specs.List.{cons_option}
+use Rattle.std.specs.List.{cons_option, list_any}
+use Rattle.cwr_field.proofs.lemmas.Tests.{neither}
 use Rattle.cwr_rules.specs.declared.added.Over.{Over}
 use Rattle.cwr_rules.specs.declared.record.Record.{Record}
 use Rattle.cwr_rules.specs.declared.totals.Totals.{Totals}
 use Rattle.cwr_rules.specs.Added.{over_at, first_over}
 use Rattle.cwr_rules.specs.Records.{record_of, records_of}
-use Rattle.cwr_rules.specs.Totals.{included, codes_of, collection, is_over}
+use Rattle.cwr_rules.specs.Totals.{included, codes_of, collection, is_over, is_over_somewhere}
 
 -- the first code of some at which more than the whole is collected
 abbrev pub over_among : List Record → List ℕ → Option Over
@@ -40,3 +41,15 @@ found_over records lines rest line code t step is t_is high so_far =
     let at : over_among records (code ∷ codes_of (records_of rest)) ≡ Some (over_at records code) = rw here refl in
     let over : Totals → Option Over = λ x. Some (record { territory = code; totals = x }) in
     ap over t_is ∙ sym at ∙ ap (λ (codes : List ℕ). over_among records codes) (sym (codes_more lines rest line (Some code) step is)) ∙ so_far
+
+none_passes : (p : ℕ → Bool) (codes : List ℕ) → list_any p codes ≡ false → find p codes ≡ None
+none_passes p [] e = refl
+none_passes p (code ∷ codes) e =
+    let two = neither (p code) (list_any p codes) e in
+    rw two.0 (none_passes p codes two.1)
+
+-- where it is so nowhere, it is first so nowhere
+pub nowhere_over : (records : List Record) → is_over_somewhere records ≡ false → None ≡ first_over records
+nowhere_over records low =
+    let over : Option ℕ → Option Over = λ code. option_map (over_at records) code in
+    ap over (sym (none_passes (λ code. is_over (collection code records)) (codes_of records) low))

@@ -8,7 +8,6 @@ pub mod LawfulCall
 pub mod TerritoryLaw
 pub mod Turned
 pub mod Findings
-pub mod OnePass
 pub mod FirstOver
 pub mod Lines
 pub mod NameLaw
@@ -16,7 +15,5 @@ pub mod PartyKeys
 pub mod RecordLaw
 pub mod ShareWords
 pub mod CodeWords
-pub mod NineDigits
-pub mod CheckDigit
 pub mod FrontFields
 pub mod lemmas

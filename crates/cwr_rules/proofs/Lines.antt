@@ -57,6 +57,15 @@ few_all_of lines details head is le =
 pub few_all : (s : JudgeState) (kind : WorkKind) (lines : List (List ℕ)) (h : IsJudging s kind lines) → length lines ≤ most_count + 1 → length (records_of h.details) ≤ most_count
 few_all s kind lines h le = few_all_of lines h.details h.head h.lines_are le
 
+-- each line counts
+pub lines_counted : (s : JudgeState) (kind : WorkKind) (lines : List (List ℕ)) → IsJudging s kind lines → s.count + 1 ≡ length lines
+lines_counted s kind lines h =
+    let same : length lines ≡ length (h.head ∷ h.details) = ap (λ (xs : List (List ℕ)). length xs) h.lines_are in
+    let mapped : length (records_of h.details) ≡ length h.details = length-map h.details record_of in
+    let turned : length (reverse (records_of h.details)) ≡ length (records_of h.details) = length-reverse (records_of h.details) in
+    let counted = h.so_far.counted in
+    omega arith
+
 pub whole_of : (s : JudgeState) (kind : WorkKind) (lines : List (List ℕ)) (h : IsJudging s kind lines)
     → IsWhole s.sums (kept_in s.first_party (record { keys = s.parties })) (found_in s.first_code (found_among s.codes)) s.is_over s.findings (records_of h.details)
 whole_of s kind lines h =

@@ -1,5 +1,5 @@
 -- What is added up over records is the same in whatever order they are gone over.
-use Rattle.std.proofs.Common.{◌≡◌, ℕ, ◌+◌, Bool, true, false, cond, List, [], ◌∷◌, length, Option, Some, None, refl, sym, ap, ◌∙◌, arith}
+use Rattle.std.proofs.Common.{◌≡◌, ℕ, ◌+◌, Bool, true, false, cond, List, [], ◌∷◌, Option, Some, None, refl, sym, ap, ◌∙◌, arith}
 use Rattle.std.specs.Prelude.{◌||◌, filter}
 use Rattle.std.specs.List.{list_any, cons_option}
 use Rattle.std.specs.Str.{bytes_eq}
@@ -18,10 +18,6 @@ use Rattle.cwr_rules.proofs.TerritoryLaw.{some_code, at_code}
 abbrev pub turned : List Record → List Record → List Record
 turned [] before = before
 turned (r ∷ rest) before = turned rest (r ∷ before)
-
-pub length_turned : (rest before : List Record) → length (turned rest before) ≡ length rest + length before
-length_turned [] before = omega arith
-length_turned (r ∷ rest) before = omega (arith, length_turned rest (r ∷ before))
 
 total_more : (right : Shares → Option ℕ) (p : Record → Bool) (r : Record) (before : List Record)
     → total right (filter p (r ∷ before)) ≡ cond (p r) (total right (filter p before) + valued (right (shares_of r))) (total right (filter p before))

@@ -2,9 +2,10 @@
 use Rattle.std.specs.Prelude.{ℕ, List, drop, find, Option, option_map}
 use Rattle.cwr_grammar.specs.RawParts.{RawParts}
 use Rattle.cwr_rules.specs.declared.record.Record.{Record}
+use Rattle.cwr_rules.specs.declared.added.AddedShares.{AddedShares}
 use Rattle.cwr_rules.specs.declared.added.Over.{Over}
 use Rattle.cwr_rules.specs.Records.{records_of}
-use Rattle.cwr_rules.specs.Totals.{collection, is_over, codes_of}
+use Rattle.cwr_rules.specs.Totals.{collection, ownership, is_over, codes_of}
 
 -- the records behind the header
 abbrev pub details_of : RawParts → List Record
@@ -16,3 +17,7 @@ over_at records code = record { territory = code; totals = collection code recor
 -- the first territory, in the order of the records, whose collection shares are in some right above the whole
 abbrev pub first_over : List Record → Option Over
 first_over records = option_map (over_at records) (find (λ code. is_over (collection code records)) (codes_of records))
+
+-- what the shares of a transaction add up to
+abbrev pub added_in : RawParts → AddedShares
+added_in t = record { ownership = ownership (details_of t); over = first_over (details_of t) }

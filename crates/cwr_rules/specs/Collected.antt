@@ -4,6 +4,7 @@ use Rattle.std.specs.List.{list_any}
 use Rattle.std.specs.HashMap.{HashMap}
 use Rattle.std.specs.Map.{lookup}
 use Rattle.cwr_field.specs.Share.{whole}
+use Rattle.cwr_rules.specs.declared.collected.Collected.{Collected}
 use Rattle.cwr_rules.specs.declared.record.Record.{Record}
 use Rattle.cwr_rules.specs.declared.totals.Totals.{Totals}
 use Rattle.cwr_rules.specs.declared.record.Shares.{Shares}
@@ -51,6 +52,10 @@ abbrev pub found_in : Option (ℕ × Totals) → (ℕ → Option Totals) → ℕ
 found_in None others code = others code
 found_in (Some first) others code = if first.0 == code then Some first.1 else others code
 
+-- the same of what memory keeps
+abbrev pub found_by : {A : Type 0} → Collected A → ℕ → Option Totals
+found_by c = found_in c.first (kept_at c.others)
+
 -- the totals at a code, where nothing found is nothing collected
 abbrev pub value_at : (ℕ → Option Totals) → ℕ → Totals
 value_at found code = unwrap_or (found code) (record { performing = 0; mechanical = 0; synchronization = 0 })
@@ -62,3 +67,6 @@ with_shares t s = record { performing = t.performing + valued s.performing; mech
 pub record IsCollected (found : ℕ → Option Totals) (over : Bool) (records : List Record) : Type 0 where
   pub values : (code : ℕ) → value_at found code ≡ collection code records
   pub over_is : over ≡ is_over_somewhere records
+
+abbrev pub IsCollectedBy : {A : Type 0} → Collected A → List Record → Type 0
+IsCollectedBy c records = IsCollected (found_by c) c.is_over records

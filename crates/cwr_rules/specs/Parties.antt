@@ -4,6 +4,7 @@ use Rattle.std.specs.BTreeSet.{BTreeSet, contains}
 use Rattle.std.specs.Int.{w64, from_be_bytes}
 use Rattle.std.specs.Ordering.{nat_cmp, ordering_then, is_eq}
 use Rattle.std.specs.declared.cmp.Ordering.{Ordering}
+use Rattle.cwr_rules.specs.declared.parties.Parties.{Parties}
 use Rattle.cwr_rules.specs.Rules.{is_party_of}
 
 -- the first eight bytes, and the last
@@ -22,6 +23,10 @@ pub record IsNumber (party : List ℕ) : Type 0 where
 abbrev pub kept_in : Option (ℕ × ℕ) → BTreeSet (ℕ × ℕ) → ℕ × ℕ → Bool
 kept_in None others key = contains key_cmp others key
 kept_in (Some first) others key = is_eq (key_cmp first key) || contains key_cmp others key
+
+-- the same of what memory keeps
+abbrev pub kept_by : {A : Type 0} → Parties A → ℕ × ℕ → Bool
+kept_by p = kept_in p.first p.set
 
 -- these parties are kept and no others
 abbrev pub HoldsParties : (ℕ × ℕ → Bool) → List (List ℕ) → Type 0

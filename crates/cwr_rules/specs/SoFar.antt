@@ -1,15 +1,19 @@
 -- What is kept of the records of a transaction while they are read, as the records before make it.
-use Rattle.std.specs.Prelude.{ℕ, ◌≡◌, ◌+◌, Bool, true, not, List, [], ◌∷◌, ◌++◌, length, Option, Some, None, if◌then◌else◌}
+use Rattle.std.specs.Prelude.{ℕ, ◌≡◌, ◌+◌, ◌<◌, Bool, true, not, List, [], ◌∷◌, ◌++◌, length, Option, Some, None, if◌then◌else◌}
 use Rattle.std.specs.List.{flat_map, list_any}
 use Rattle.cwr_call.specs.declared.transaction_fault.Fault.{Fault}
+use Rattle.cwr_field.specs.Number.{most_count}
 use Rattle.cwr_rules.specs.declared.record.Record.{Record}
 use Rattle.cwr_rules.specs.declared.record.Record.TheVariants.{Pwr}
 use Rattle.cwr_rules.specs.declared.finding.Finding.{Finding}
 use Rattle.cwr_rules.specs.declared.position.Position.{Position}
+use Rattle.cwr_rules.specs.declared.so_far.SoFar.{SoFar}
 use Rattle.cwr_rules.specs.declared.sums.Sums.{Sums}
 use Rattle.cwr_rules.specs.declared.totals.Totals.{Totals}
+use Rattle.cwr_rules.specs.Collected.{AreSmall, AreSmallSums, found_by, value_at}
 use Rattle.cwr_rules.specs.Rules.{name_of, publishers, is_party_of, is_out_of_order, has_wrong_share, is_nameless, is_of_another_party, has_unknown_publisher, has_wrong_territory}
 use Rattle.cwr_rules.specs.Faults.{faults_after}
+use Rattle.cwr_rules.specs.Parties.{kept_by}
 use Rattle.cwr_rules.specs.Position.{position_of}
 use Rattle.cwr_rules.specs.Summary.{IsSummary}
 
@@ -66,3 +70,17 @@ pub record IsSoFar (count : ℕ) (position : Position) (sums : Sums) (kept : ℕ
 pub record IsWhole (sums : Sums) (kept : ℕ × ℕ → Bool) (found : ℕ → Option Totals) (is_over : Bool) (findings : List Finding) (records : List Record) : Type 0 where
   pub summary : IsSummary sums kept found is_over records
   pub faults_are : standing (publishers records) findings ≡ faults_after (publishers records) [] records
+
+-- the first of them of what memory keeps
+abbrev pub IsKeptSoFar : {A : Type 0} → SoFar A → List Record → Type 0
+IsKeptSoFar s before =
+    IsSoFar s.count s.position s.summary.sums (kept_by s.summary.parties) (found_by s.summary.collected) s.summary.collected.is_over s.findings.items before
+
+abbrev pub IsKeptWhole : {A : Type 0} → SoFar A → List Record → Type 0
+IsKeptWhole s records = IsWhole s.summary.sums (kept_by s.summary.parties) (found_by s.summary.collected) s.summary.collected.is_over s.findings.items records
+
+-- one record more can be counted, and its shares added
+pub record HasRoom {A : Type 0} (s : SoFar A) : Type 0 where
+  pub few : s.count < most_count
+  pub sums : AreSmallSums s.summary.sums
+  pub collected : (q : ℕ) → AreSmall (value_at (found_by s.summary.collected) q)

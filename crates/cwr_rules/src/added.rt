@@ -1,16 +1,14 @@
-ghost use Rattle.std.specs.Prelude.{◌≡◌, IfOk};
-ghost use Rattle.cwr_rules.specs.Added.{details_of, first_over};
-ghost use Rattle.cwr_rules.specs.Collected.{found_in, kept_at, IsCollected};
+ghost use Rattle.std.specs.Prelude.{◌≡◌};
+ghost use Rattle.cwr_rules.specs.Added.{first_over};
+ghost use Rattle.cwr_rules.specs.Collected.{IsCollectedBy};
 ghost use Rattle.cwr_rules.specs.Records.{records_of};
-ghost use Rattle.cwr_rules.specs.Totals.{included, ownership};
+ghost use Rattle.cwr_rules.specs.Totals.{included};
 
 use crate::collected::Collected;
-use crate::reading::{parts, record_of};
+use crate::reading::record_of;
 use crate::record::Record;
-use crate::so_far::SoFar;
 use crate::totals::Totals;
-use cwr_field::Memory;
-use cwr_grammar::{Lines, RawTransaction};
+use cwr_grammar::Lines;
 use std::alloc::Allocator;
 
 /// What the shares of a transaction add up to, which the rules J11, J12, J13 and J15 look at.
@@ -31,31 +29,17 @@ pub struct Over {
     pub totals: Totals,
 }
 
-/// What the shares of a transaction add up to.
-///
-/// Memory is asked for as [`judge`](crate::judge) asks; where it is refused nothing is left.
-pub fn added_shares<A: Allocator + Copy>(
-    alloc: A,
-    transaction: &RawTransaction,
-) -> Result<AddedShares, Memory>
-    ensures ownership { IfOk result (λ added. added.ownership ≡ ownership (details_of transaction.now)) }
-    ensures over { IfOk result (λ added. added.over ≡ first_over (details_of transaction.now)) }
-{
-    let (_, details) = parts(transaction);
-    let mut read = SoFar::new(alloc);
-    read.take_all(details)?;
-    let (_, again) = parts(transaction);
-    Ok(AddedShares {
-        ownership: read.summary.sums.ownership,
-        over: first_over(&read.summary.collected, again),
-    })
-}
-
-/// The first territory in which more than the whole is collected.
-fn first_over<A: Allocator + Copy>(collected: &Collected<A>, lines: Lines) -> Option<Over>
-    requires { IsCollected (found_in collected.now.first (kept_at collected.now.others)) collected.now.is_over (records_of lines) }
+/// The first territory in which more than the whole is collected. Where there is none, no line is gone over.
+pub(crate) fn first_over<A: Allocator + Copy>(
+    collected: &Collected<A>,
+    lines: Lines,
+) -> Option<Over>
+    requires { IsCollectedBy collected.now (records_of lines) }
     ensures { result ≡ first_over (records_of lines.entry) }
 {
+    if !collected.is_over {
+        return None;
+    }
     for line in lines {
         let Some(territory) = included(&record_of(line)) else {
             continue;

@@ -4,21 +4,23 @@ ghost use Rattle.cwr_field.specs.Number.{most_count};
 ghost use Rattle.cwr_grammar.specs.RawParts.{RawParts};
 ghost use Rattle.cwr_record.specs.RecordTypes.{type_of};
 ghost use Rattle.cwr_record.specs.declared.works.WorkKind.{WorkKind};
-ghost use Rattle.cwr_rules.specs.Collected.{found_in, kept_at};
+ghost use Rattle.cwr_rules.specs.Added.{added_in};
 ghost use Rattle.cwr_rules.specs.Calls.{call_in, call_of};
 ghost use Rattle.cwr_rules.specs.Faults.{faults_of};
 ghost use Rattle.cwr_rules.specs.KeptHead.{kept_head};
 ghost use Rattle.cwr_rules.specs.Judging.{IsJudging};
-ghost use Rattle.cwr_rules.specs.Parties.{kept_in};
-ghost use Rattle.cwr_rules.specs.SoFar.{IsWhole};
+ghost use Rattle.cwr_rules.specs.SoFar.{IsKeptWhole};
 ghost use Rattle.cwr_rules.specs.declared.record.Record.{Record};
 
+use crate::added::{AddedShares, first_over};
 use crate::header::KeptHead;
+use crate::reading::parts;
 use crate::so_far::SoFar;
 use crate::standing::push_standing;
 use crate::whole_faults::push_faults_of_whole;
 use cwr_call::{Call, Fault, Faults};
 use cwr_field::Memory;
+use cwr_grammar::RawTransaction;
 use cwr_record::{RecordType, WorkKind};
 use std::alloc::{Allocator, Global};
 use std::marker::Model;
@@ -99,6 +101,27 @@ impl<A: Allocator + Copy> Judge<A> {
         Ok(Faults::new(faults))
     }
 
+    /// How many lines were taken, the header's among them.
+    pub fn lines(&self) -> u64
+        ensures { (kind : WorkKind) (lines : List (List ℕ)) → IsJudging self.now kind lines → result ≡ length lines }
+    {
+        self.read.count as u64 + 1
+    }
+
+    /// What the shares of the transaction add up to whose lines were taken. They are gone over again only where more than the
+    /// whole is collected in some territory.
+    pub fn added(&self, transaction: &RawTransaction) -> AddedShares
+        requires read { IsJudging self.now transaction.now.kind transaction.now.lines }
+        ensures { result ≡ added_in transaction.now }
+    {
+        let (_, details) = parts(transaction);
+        let summary = &self.read.summary;
+        AddedShares {
+            ownership: summary.sums.ownership,
+            over: first_over(&summary.collected, details),
+        }
+    }
+
     /// The call of the transaction whose lines were taken. Memory is asked for only where it has faults.
     pub fn end(&self, submitter: [u8; 11]) -> Result<Call<A>, Memory>
         requires clean { IsTrue (is_clean submitter) }
@@ -132,9 +155,7 @@ fn faults_of<A: Allocator + Copy>(
     read: &SoFar<A>,
 ) -> Result<Vec<Fault, A>, Memory>
     ensures { IfOk result (λ faults. (kind : WorkKind) (head : List ℕ) (records : List Record)
-        → header.now ≡ kept_head kind head
-        → IsWhole read.now.summary.sums (kept_in read.now.summary.parties.first read.now.summary.parties.set) (found_in read.now.summary.collected.first (kept_at read.now.summary.collected.others)) read.now.summary.collected.is_over read.now.findings.items records
-        → faults.items ≡ faults_of kind head records) }
+        → header.now ≡ kept_head kind head → IsKeptWhole read.now records → faults.items ≡ faults_of kind head records) }
 {
     let mut faults = Vec::new(alloc);
     push_faults_of_whole(&mut faults, header, &read.summary)?;

@@ -2,7 +2,7 @@ ghost use Rattle.std.specs.Prelude.{◌≡◌, ◌==◌, if◌then◌else◌, �
 ghost use Rattle.std.specs.HashMap.{get};
 ghost use Rattle.cwr_rules.specs.Totals.{included_in, included, shares_of};
 ghost use Rattle.cwr_rules.specs.declared.record.Record.{Record};
-ghost use Rattle.cwr_rules.specs.Collected.{AreSmall, IsCollected, found_in, kept_at, value_at, with_shares};
+ghost use Rattle.cwr_rules.specs.Collected.{AreSmall, IsCollectedBy, found_by, kept_at, value_at, with_shares};
 
 use crate::record::{Record, Shares, Territory};
 use crate::totals::Totals;
@@ -32,7 +32,7 @@ pub(crate) struct Collected<A: Allocator> {
 impl<A: Allocator + Copy> Collected<A> {
     /// Of no records.
     pub(crate) fn new(alloc: A) -> Collected<A>
-        ensures { IsCollected (found_in result.first (kept_at result.others)) result.is_over [] }
+        ensures { IsCollectedBy result [] }
     {
         Collected {
             first: None,
@@ -45,7 +45,7 @@ impl<A: Allocator + Copy> Collected<A> {
     /// As of no records. A map is kept where emptying it takes no longer than making it again.
     #[inline(always)]
     pub(crate) fn clear(&mut self)
-        ensures { IsCollected (found_in self.new.first (kept_at self.new.others)) self.new.is_over [] }
+        ensures { IsCollectedBy self.new [] }
     {
         self.first = None;
         self.is_over = false;
@@ -71,7 +71,7 @@ impl<A: Allocator + Copy> Collected<A> {
 
     /// What is collected in the territory of a code.
     pub(crate) fn at(&self, code: u16) -> Totals
-        ensures { result ≡ value_at (found_in self.now.first (kept_at self.now.others)) code }
+        ensures { result ≡ value_at (found_by self.now) code }
     {
         match self.first {
             None => self.at_other(code),
@@ -152,10 +152,9 @@ impl<A: Allocator + Copy> Collected<A> {
 
     /// Adds shares at a code, and answers what is collected there then.
     fn add_at(&mut self, code: u16, shares: Shares) -> Result<Totals, Memory>
-        requires { AreSmall (value_at (found_in self.old.first (kept_at self.old.others)) code) }
-        ensures totals { IfOk result (λ totals. totals ≡ with_shares (value_at (found_in self.old.first (kept_at self.old.others)) code) shares) }
-        ensures found { IfOk result (λ totals. (q : ℕ) → found_in self.new.first (kept_at self.new.others) q
-            ≡ (if code == q then Some totals else found_in self.old.first (kept_at self.old.others) q)) }
+        requires { AreSmall (value_at (found_by self.old) code) }
+        ensures totals { IfOk result (λ totals. totals ≡ with_shares (value_at (found_by self.old) code) shares) }
+        ensures found { IfOk result (λ totals. (q : ℕ) → found_by self.new q ≡ (if code == q then Some totals else found_by self.old q)) }
         ensures same { OnOk result (self.new.is_over ≡ self.old.is_over) }
     {
         let before = match self.first {
@@ -173,9 +172,8 @@ impl<A: Allocator + Copy> Collected<A> {
     }
 
     fn include(&mut self, code: u16, shares: Shares) -> Result<(), Memory>
-        requires { (q : ℕ) → AreSmall (value_at (found_in self.old.first (kept_at self.old.others)) q) }
-        ensures { OnOk result ((rest : List Record) (r : Record) → included r ≡ Some code → shares_of r ≡ shares
-            → IsCollected (found_in self.old.first (kept_at self.old.others)) self.old.is_over rest → IsCollected (found_in self.new.first (kept_at self.new.others)) self.new.is_over (r ∷ rest)) }
+        requires { (q : ℕ) → AreSmall (value_at (found_by self.old) q) }
+        ensures { OnOk result ((rest : List Record) (r : Record) → included r ≡ Some code → shares_of r ≡ shares → IsCollectedBy self.old rest → IsCollectedBy self.new (r ∷ rest)) }
     {
         let totals = self.add_at(code, shares)?;
         self.is_over = totals.is_over_or(self.is_over);
@@ -184,9 +182,8 @@ impl<A: Allocator + Copy> Collected<A> {
 
     #[inline(always)]
     fn include_in(&mut self, territory: &Territory, shares: Shares) -> Result<(), Memory>
-        requires { (q : ℕ) → AreSmall (value_at (found_in self.old.first (kept_at self.old.others)) q) }
-        ensures { OnOk result ((rest : List Record) (r : Record) → included r ≡ included_in territory.now → shares_of r ≡ shares
-            → IsCollected (found_in self.old.first (kept_at self.old.others)) self.old.is_over rest → IsCollected (found_in self.new.first (kept_at self.new.others)) self.new.is_over (r ∷ rest)) }
+        requires { (q : ℕ) → AreSmall (value_at (found_by self.old) q) }
+        ensures { OnOk result ((rest : List Record) (r : Record) → included r ≡ included_in territory.now → shares_of r ≡ shares → IsCollectedBy self.old rest → IsCollectedBy self.new (r ∷ rest)) }
     {
         match territory.included() {
             Some(code) => self.include(code, shares)?,
@@ -198,8 +195,8 @@ impl<A: Allocator + Copy> Collected<A> {
     /// Adds a record to those that were added.
     #[inline(always)]
     pub(crate) fn add(&mut self, detail: &Record) -> Result<(), Memory>
-        requires { (q : ℕ) → AreSmall (value_at (found_in self.old.first (kept_at self.old.others)) q) }
-        ensures { OnOk result ((rest : List Record) → IsCollected (found_in self.old.first (kept_at self.old.others)) self.old.is_over rest → IsCollected (found_in self.new.first (kept_at self.new.others)) self.new.is_over (detail.now ∷ rest)) }
+        requires { (q : ℕ) → AreSmall (value_at (found_by self.old) q) }
+        ensures { OnOk result ((rest : List Record) → IsCollectedBy self.old rest → IsCollectedBy self.new (detail.now ∷ rest)) }
     {
         match *detail {
             Record::Spt(_, shares, territory) => self.include_in(&territory, shares)?,

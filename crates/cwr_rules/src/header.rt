@@ -5,8 +5,7 @@ ghost use Rattle.cwr_record.specs.Columns.{field_at, work_head_copyright_date, w
 ghost use Rattle.cwr_rules.specs.Head.{has_no_title, has_no_number, has_wrong_iswc, has_wrong_date, is_copyright_date, is_duration, number_in};
 ghost use Rattle.cwr_rules.specs.KeptHead.{kept_head};
 
-use crate::iswc::iswc;
-use cwr_field::{Iswc, date, is_blank, time};
+use cwr_field::{Iswc, date, is_blank, iswc, time};
 use cwr_record::{WorkHead, WorkKind, field_at, is_no_day};
 
 /// What is kept of a transaction's header line, NWR or REV: what the call and the rules need of it.

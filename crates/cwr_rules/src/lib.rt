@@ -2,7 +2,7 @@
 //!
 //! [`judge`] reads a transaction's lines and gives its [`Call`]: who submits which work under which number, with how
 //! large a control of each right, and every fault of the rules J1 to J15, in rising order. A [`Judge`] gives the same of
-//! lines that come one by one. For who is to mend it, [`added_shares`] tells what its shares add up to, and
+//! lines that come one by one. For who is to mend it, [`Judge::added`] tells what its shares add up to, and
 //! [`is_copyright_date`] and [`is_duration`] which of the two is wrong. [`laws`] says of the definitions what they mean.
 #![tactic(auto)]
 
@@ -12,7 +12,6 @@ mod code;
 mod collected;
 mod finding;
 mod header;
-mod iswc;
 mod judging;
 mod last_block;
 pub mod laws;
@@ -31,12 +30,12 @@ mod totals;
 mod whole_faults;
 mod whole_record;
 
-pub use added::{AddedShares, Over, added_shares};
+pub use added::{AddedShares, Over};
 pub use by_line::Judge;
 pub use cwr_call::{Call, Fault, Faults};
 pub use cwr_field::Memory;
 pub use cwr_grammar::RawTransaction;
 pub use cwr_record::{RecordType, WorkKind};
 pub use header::{is_copyright_date, is_duration};
-pub use judging::judge;
+pub use judging::{judge, judged};
 pub use totals::Totals;

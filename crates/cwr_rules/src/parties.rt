@@ -1,7 +1,7 @@
 ghost use Rattle.std.specs.Prelude.{◌≡◌, ◌||◌, ◌∷◌, ℕ, [], List, OnOk};
 ghost use Rattle.cwr_rules.specs.Rules.{is_unknown, publishers};
 ghost use Rattle.cwr_rules.specs.declared.record.Record.{Record};
-ghost use Rattle.cwr_rules.specs.Parties.{HoldsParties, IsNumber, kept_in, key_cmp, key_of};
+ghost use Rattle.cwr_rules.specs.Parties.{HoldsParties, IsNumber, kept_by, key_cmp, key_of};
 ghost use Rattle.std.specs.Ordering.{is_eq};
 ghost use Rattle.std.specs.Str.{bytes_eq};
 
@@ -45,7 +45,7 @@ pub(crate) fn is_same_party(one: [u8; 9], other: [u8; 9]) -> bool
 impl<A: Allocator + Copy> Parties<A> {
     /// None.
     pub(crate) fn new(alloc: A) -> Parties<A>
-        ensures { HoldsParties (kept_in result.first result.set) [] }
+        ensures { HoldsParties (kept_by result) [] }
     {
         Parties {
             first: None,
@@ -56,7 +56,7 @@ impl<A: Allocator + Copy> Parties<A> {
     /// None again.
     #[inline(always)]
     pub(crate) fn clear(&mut self, alloc: A)
-        ensures { HoldsParties (kept_in self.new.first self.new.set) [] }
+        ensures { HoldsParties (kept_by self.new) [] }
     {
         self.first = None;
         if !self.set.is_empty() {
@@ -66,7 +66,7 @@ impl<A: Allocator + Copy> Parties<A> {
 
     /// Whether the party is named, and none of these.
     pub(crate) fn is_unknown(&self, party: Option<[u8; 9]>) -> bool
-        ensures { (parties : List (List ℕ)) → HoldsParties (kept_in self.now.first self.now.set) parties → result ≡ is_unknown parties party }
+        ensures { (parties : List (List ℕ)) → HoldsParties (kept_by self.now) parties → result ≡ is_unknown parties party }
     {
         match party {
             None => false,
@@ -75,7 +75,7 @@ impl<A: Allocator + Copy> Parties<A> {
     }
 
     fn has(&self, key: (u64, u8)) -> bool
-        ensures { result ≡ kept_in self.now.first self.now.set key }
+        ensures { result ≡ kept_by self.now key }
     {
         match self.first {
             None => self.set.contains(&key),
@@ -85,7 +85,7 @@ impl<A: Allocator + Copy> Parties<A> {
 
     /// Keeps a key.
     fn keep(&mut self, key: (u64, u8)) -> Result<(), Memory>
-        ensures { OnOk result ((q : ℕ × ℕ) → kept_in self.new.first self.new.set q ≡ (is_eq (key_cmp key q) || kept_in self.old.first self.old.set q)) }
+        ensures { OnOk result ((q : ℕ × ℕ) → kept_by self.new q ≡ (is_eq (key_cmp key q) || kept_by self.old q)) }
     {
         match self.first {
             None => self.first = Some(key),
@@ -97,7 +97,7 @@ impl<A: Allocator + Copy> Parties<A> {
     }
 
     fn add(&mut self, party: [u8; 9]) -> Result<(), Memory>
-        ensures { OnOk result ((parties : List (List ℕ)) → HoldsParties (kept_in self.old.first self.old.set) parties → HoldsParties (kept_in self.new.first self.new.set) (party ∷ parties)) }
+        ensures { OnOk result ((parties : List (List ℕ)) → HoldsParties (kept_by self.old) parties → HoldsParties (kept_by self.new) (party ∷ parties)) }
     {
         self.keep(key_of(party))?;
         Ok(())
@@ -106,7 +106,7 @@ impl<A: Allocator + Copy> Parties<A> {
     /// Adds the party of a publisher's record, where it names one.
     #[inline(always)]
     pub(crate) fn add_publisher(&mut self, detail: &Record) -> Result<(), Memory>
-        ensures { OnOk result ((rest : List Record) → HoldsParties (kept_in self.old.first self.old.set) (publishers rest) → HoldsParties (kept_in self.new.first self.new.set) (publishers (detail.now ∷ rest))) }
+        ensures { OnOk result ((rest : List Record) → HoldsParties (kept_by self.old) (publishers rest) → HoldsParties (kept_by self.new) (publishers (detail.now ∷ rest))) }
     {
         match *detail {
             Record::Spu(Some(party), _) => self.add(party)?,

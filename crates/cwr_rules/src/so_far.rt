@@ -1,11 +1,8 @@
-ghost use Rattle.std.specs.Prelude.{◌≡◌, ◌<◌, ◌∷◌, ℕ, [], List, length, IfSome, OnOk};
-ghost use Rattle.cwr_field.specs.Number.{most_count};
+ghost use Rattle.std.specs.Prelude.{◌≡◌, ◌∷◌, [], List, IfSome, OnOk};
 ghost use Rattle.cwr_rules.specs.declared.record.Record.{Record};
-ghost use Rattle.cwr_rules.specs.Collected.{found_in, kept_at, AreSmall, AreSmallSums, value_at};
-ghost use Rattle.cwr_rules.specs.Records.{record_as, record_of, records_of};
+ghost use Rattle.cwr_rules.specs.Records.{record_as, record_of};
 ghost use Rattle.cwr_record.specs.RecordTypes.{type_of};
-ghost use Rattle.cwr_rules.specs.Parties.{kept_in};
-ghost use Rattle.cwr_rules.specs.SoFar.{IsSoFar, IsWhole};
+ghost use Rattle.cwr_rules.specs.SoFar.{IsKeptSoFar, HasRoom};
 
 use crate::finding::Finding;
 use crate::position::Position;
@@ -18,7 +15,6 @@ use crate::whole_record::{
     whole_swt,
 };
 use cwr_field::Memory;
-use cwr_grammar::Lines;
 use cwr_record::{RecordType, field_at, type_of};
 use std::alloc::Allocator;
 
@@ -35,7 +31,7 @@ pub(crate) struct SoFar<A: Allocator> {
 impl<A: Allocator + Copy> SoFar<A> {
     /// Before the first record. No memory is asked for.
     pub(crate) fn new(alloc: A) -> SoFar<A>
-        ensures { IsSoFar result.count result.position result.summary.sums (kept_in result.summary.parties.first result.summary.parties.set) (found_in result.summary.collected.first (kept_at result.summary.collected.others)) result.summary.collected.is_over result.findings.items [] }
+        ensures { IsKeptSoFar result [] }
     {
         SoFar {
             count: 0,
@@ -48,7 +44,7 @@ impl<A: Allocator + Copy> SoFar<A> {
     /// As before the first record. No memory is asked for.
     #[inline(always)]
     pub(crate) fn clear(&mut self, alloc: A)
-        ensures { IsSoFar self.new.count self.new.position self.new.summary.sums (kept_in self.new.summary.parties.first self.new.summary.parties.set) (found_in self.new.summary.collected.first (kept_at self.new.summary.collected.others)) self.new.summary.collected.is_over self.new.findings.items [] }
+        ensures { IsKeptSoFar self.new [] }
     {
         self.count = 0;
         self.position = Position::new();
@@ -59,12 +55,8 @@ impl<A: Allocator + Copy> SoFar<A> {
     /// Goes past a record.
     #[inline(always)]
     fn add(&mut self, detail: &Record) -> Result<(), Memory>
-        requires few { self.old.count < most_count }
-        requires sums { AreSmallSums self.old.summary.sums }
-        requires collected { (q : ℕ) → AreSmall (value_at (found_in self.old.summary.collected.first (kept_at self.old.summary.collected.others)) q) }
-        ensures { OnOk result ((before : List Record)
-            → IsSoFar self.old.count self.old.position self.old.summary.sums (kept_in self.old.summary.parties.first self.old.summary.parties.set) (found_in self.old.summary.collected.first (kept_at self.old.summary.collected.others)) self.old.summary.collected.is_over self.old.findings.items before
-            → IsSoFar self.new.count self.new.position self.new.summary.sums (kept_in self.new.summary.parties.first self.new.summary.parties.set) (found_in self.new.summary.collected.first (kept_at self.new.summary.collected.others)) self.new.summary.collected.is_over self.new.findings.items (detail.now ∷ before)) }
+        requires room { HasRoom self.old }
+        ensures { OnOk result ((before : List Record) → IsKeptSoFar self.old before → IsKeptSoFar self.new (detail.now ∷ before)) }
     {
         self.count += 1;
         add_findings(
@@ -82,12 +74,8 @@ impl<A: Allocator + Copy> SoFar<A> {
     /// Goes past a line of a type that is seldom met, or past one that ends before the last of its fields.
     #[inline(never)]
     fn take_any(&mut self, line: &[u8], record_type: RecordType) -> Result<(), Memory>
-        requires few { self.old.count < most_count }
-        requires sums { AreSmallSums self.old.summary.sums }
-        requires collected { (q : ℕ) → AreSmall (value_at (found_in self.old.summary.collected.first (kept_at self.old.summary.collected.others)) q) }
-        ensures { OnOk result ((before : List Record)
-            → IsSoFar self.old.count self.old.position self.old.summary.sums (kept_in self.old.summary.parties.first self.old.summary.parties.set) (found_in self.old.summary.collected.first (kept_at self.old.summary.collected.others)) self.old.summary.collected.is_over self.old.findings.items before
-            → IsSoFar self.new.count self.new.position self.new.summary.sums (kept_in self.new.summary.parties.first self.new.summary.parties.set) (found_in self.new.summary.collected.first (kept_at self.new.summary.collected.others)) self.new.summary.collected.is_over self.new.findings.items (record_as record_type line.now ∷ before)) }
+        requires room { HasRoom self.old }
+        ensures { OnOk result ((before : List Record) → IsKeptSoFar self.old before → IsKeptSoFar self.new (record_as record_type line.now ∷ before)) }
     {
         match bare_record(line, record_type) {
             Some(detail) => self.add(&detail)?,
@@ -100,12 +88,8 @@ impl<A: Allocator + Copy> SoFar<A> {
     /// read by itself.
     #[inline(never)]
     fn take_front(&mut self, front: &[u8; 150], record_type: RecordType) -> Result<(), Memory>
-        requires few { self.old.count < most_count }
-        requires sums { AreSmallSums self.old.summary.sums }
-        requires collected { (q : ℕ) → AreSmall (value_at (found_in self.old.summary.collected.first (kept_at self.old.summary.collected.others)) q) }
-        ensures { OnOk result ((before : List Record)
-            → IsSoFar self.old.count self.old.position self.old.summary.sums (kept_in self.old.summary.parties.first self.old.summary.parties.set) (found_in self.old.summary.collected.first (kept_at self.old.summary.collected.others)) self.old.summary.collected.is_over self.old.findings.items before
-            → IsSoFar self.new.count self.new.position self.new.summary.sums (kept_in self.new.summary.parties.first self.new.summary.parties.set) (found_in self.new.summary.collected.first (kept_at self.new.summary.collected.others)) self.new.summary.collected.is_over self.new.findings.items (record_as record_type front.now ∷ before)) }
+        requires room { HasRoom self.old }
+        ensures { OnOk result ((before : List Record) → IsKeptSoFar self.old before → IsKeptSoFar self.new (record_as record_type front.now ∷ before)) }
     {
         match record_type {
             RecordType::Spu => self.add(&record_as(front, RecordType::Spu))?,
@@ -128,13 +112,9 @@ impl<A: Allocator + Copy> SoFar<A> {
         record_type: RecordType,
         detail: Option<Record>,
     ) -> Result<(), Memory>
-        requires few { self.old.count < most_count }
-        requires sums { AreSmallSums self.old.summary.sums }
-        requires collected { (q : ℕ) → AreSmall (value_at (found_in self.old.summary.collected.first (kept_at self.old.summary.collected.others)) q) }
+        requires room { HasRoom self.old }
         requires read { IfSome detail (λ r. r ≡ record_as record_type line.now) }
-        ensures { OnOk result ((before : List Record)
-            → IsSoFar self.old.count self.old.position self.old.summary.sums (kept_in self.old.summary.parties.first self.old.summary.parties.set) (found_in self.old.summary.collected.first (kept_at self.old.summary.collected.others)) self.old.summary.collected.is_over self.old.findings.items before
-            → IsSoFar self.new.count self.new.position self.new.summary.sums (kept_in self.new.summary.parties.first self.new.summary.parties.set) (found_in self.new.summary.collected.first (kept_at self.new.summary.collected.others)) self.new.summary.collected.is_over self.new.findings.items (record_as record_type line.now ∷ before)) }
+        ensures { OnOk result ((before : List Record) → IsKeptSoFar self.old before → IsKeptSoFar self.new (record_as record_type line.now ∷ before)) }
     {
         match detail {
             Some(detail) => self.add(&detail)?,
@@ -145,13 +125,9 @@ impl<A: Allocator + Copy> SoFar<A> {
 
     /// Goes past a line, of this record type. Each type that the rules know has its own code.
     pub(crate) fn take(&mut self, line: &[u8], record_type: RecordType) -> Result<(), Memory>
-        requires few { self.old.count < most_count }
-        requires sums { AreSmallSums self.old.summary.sums }
-        requires collected { (q : ℕ) → AreSmall (value_at (found_in self.old.summary.collected.first (kept_at self.old.summary.collected.others)) q) }
+        requires room { HasRoom self.old }
         requires read { record_type ≡ type_of line.now }
-        ensures { OnOk result ((before : List Record)
-            → IsSoFar self.old.count self.old.position self.old.summary.sums (kept_in self.old.summary.parties.first self.old.summary.parties.set) (found_in self.old.summary.collected.first (kept_at self.old.summary.collected.others)) self.old.summary.collected.is_over self.old.findings.items before
-            → IsSoFar self.new.count self.new.position self.new.summary.sums (kept_in self.new.summary.parties.first self.new.summary.parties.set) (found_in self.new.summary.collected.first (kept_at self.new.summary.collected.others)) self.new.summary.collected.is_over self.new.findings.items (record_of line.now ∷ before)) }
+        ensures { OnOk result ((before : List Record) → IsKeptSoFar self.old before → IsKeptSoFar self.new (record_of line.now ∷ before)) }
     {
         match record_type {
             RecordType::Spu => self.take_whole(line, RecordType::Spu, whole_spu(line))?,
@@ -168,18 +144,6 @@ impl<A: Allocator + Copy> SoFar<A> {
                 self.add(&Record::Carried(name))?;
             }
             other => self.take_any(line, other)?,
-        }
-        Ok(())
-    }
-
-    /// Goes over the lines of a transaction's details, before which no record was read.
-    pub(crate) fn take_all(&mut self, lines: Lines) -> Result<(), Memory>
-        requires few { length lines < most_count }
-        requires fresh { IsSoFar self.old.count self.old.position self.old.summary.sums (kept_in self.old.summary.parties.first self.old.summary.parties.set) (found_in self.old.summary.collected.first (kept_at self.old.summary.collected.others)) self.old.summary.collected.is_over self.old.findings.items [] }
-        ensures { OnOk result (IsWhole self.new.summary.sums (kept_in self.new.summary.parties.first self.new.summary.parties.set) (found_in self.new.summary.collected.first (kept_at self.new.summary.collected.others)) self.new.summary.collected.is_over self.new.findings.items (records_of lines.entry)) }
-    {
-        for line in lines {
-            self.take(line, type_of(line))?;
         }
         Ok(())
     }

@@ -1,6 +1,6 @@
 ghost use Rattle.std.specs.Prelude.{◌≡◌, ◌++◌, ℕ, List, OnOk};
 ghost use Rattle.cwr_rules.specs.Faults.{found};
-ghost use Rattle.cwr_rules.specs.Parties.{HoldsParties, kept_in};
+ghost use Rattle.cwr_rules.specs.Parties.{HoldsParties, kept_by};
 ghost use Rattle.cwr_rules.specs.SoFar.{stands, standing};
 
 use crate::finding::Finding;
@@ -31,7 +31,7 @@ pub(crate) fn push_found<A: Allocator>(
 
 /// Whether a fault stands, where the parties are those of all publishers.
 fn stands<A: Allocator + Copy>(known: &Parties<A>, unless: Option<[u8; 9]>) -> bool
-    ensures { (parties : List (List ℕ)) → HoldsParties (kept_in known.now.first known.now.set) parties → result ≡ stands parties unless }
+    ensures { (parties : List (List ℕ)) → HoldsParties (kept_by known.now) parties → result ≡ stands parties unless }
 {
     match unless {
         None => true,
@@ -45,8 +45,7 @@ pub(crate) fn push_standing<A: Allocator + Copy>(
     known: &Parties<A>,
     findings: &[Finding],
 ) -> Result<(), Memory>
-    ensures { OnOk result ((parties : List (List ℕ)) → HoldsParties (kept_in known.now.first known.now.set) parties
-        → faults.new.items ≡ faults.old.items ++ standing parties findings.now) }
+    ensures { OnOk result ((parties : List (List ℕ)) → HoldsParties (kept_by known.now) parties → faults.new.items ≡ faults.old.items ++ standing parties findings.now) }
 {
     for finding in findings {
         let fault = finding.fault;

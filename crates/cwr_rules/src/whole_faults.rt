@@ -1,12 +1,10 @@
 ghost use Rattle.std.specs.Prelude.{◌≡◌, ◌++◌, List, OnOk};
 ghost use Rattle.cwr_record.specs.Kinds.{work_kind_code};
-ghost use Rattle.cwr_rules.specs.Collected.{found_in, kept_at};
 ghost use Rattle.cwr_rules.specs.declared.record.Record.{Record};
 ghost use Rattle.cwr_rules.specs.Head.{is_off};
 ghost use Rattle.cwr_rules.specs.KeptHead.{whole_rules};
 ghost use Rattle.cwr_rules.specs.Faults.{all_found};
-ghost use Rattle.cwr_rules.specs.Parties.{kept_in};
-ghost use Rattle.cwr_rules.specs.Summary.{IsSummary};
+ghost use Rattle.cwr_rules.specs.Summary.{IsKeptSummary};
 
 use crate::header::KeptHead;
 use crate::standing::push_found;
@@ -28,8 +26,7 @@ pub(crate) fn push_faults_of_whole<A: Allocator + Copy>(
     header: &KeptHead,
     summary: &Summary<A>,
 ) -> Result<(), Memory>
-    ensures { OnOk result ((records : List Record) → IsSummary summary.now.sums (kept_in summary.now.parties.first summary.now.parties.set) (found_in summary.now.collected.first (kept_at summary.now.collected.others)) summary.now.collected.is_over records
-        → faults.new.items ≡ faults.old.items ++ all_found 0 (work_kind_code header.now.kind) (whole_rules header.now records)) }
+    ensures { OnOk result ((records : List Record) → IsKeptSummary summary.now records → faults.new.items ≡ faults.old.items ++ all_found 0 (work_kind_code header.now.kind) (whole_rules header.now records)) }
 {
     let rtype = *header.kind.code();
     let ownership = summary.sums.ownership;

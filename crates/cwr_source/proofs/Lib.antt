@@ -1,4 +1,1 @@
-pub mod lemmas
-pub mod Rests
-pub mod Stops
-pub mod Visited
+mod Visited

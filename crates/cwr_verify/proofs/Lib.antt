@@ -1,12 +1,12 @@
+pub mod Lists
 pub mod Owning
-pub mod Chaining
 pub mod Acknowledging
-pub mod Checked
 pub mod Files
 pub mod Judging
 pub mod Telling
 pub mod Turns
 pub mod Proposing
+pub mod Replying
 pub mod Runs
 pub mod FileRuns
 pub mod RunReplies

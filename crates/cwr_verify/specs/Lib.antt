@@ -1,13 +1,13 @@
 pub mod Sent
 pub mod Reading
+pub mod Replied
+pub mod Compared
 pub mod Owned
-pub mod Chained
 pub mod Acknowledged
 pub mod Digest
 pub mod Wanting
 pub mod Proposed
 pub mod Verified
 pub mod Told
-pub mod Home
 pub mod Run
 pub mod Again

@@ -2,16 +2,17 @@
 use Rattle.std.specs.Prelude.{◌≡◌, ℕ, List, [], ◌∷◌}
 use Rattle.work_registry.specs.EntryValue.{EntryValue}
 use Rattle.cwr_verify.specs.Acknowledged.{told_in}
-use Rattle.cwr_verify.specs.Reading.{Reading, asked_in}
+use Rattle.cwr_verify.specs.Reading.{transactions_in}
 use Rattle.cwr_verify.specs.Sent.{Sent}
+use Rattle.cwr_verify.specs.declared.reading.Reading.{Reading}
 use Rattle.cwr_verify.specs.Wanting.{Wanting, IsFirst, HasMovedOn}
 
 -- what a file wants, so judged, none of whose transactions is found
-abbrev pub wanting_of : Sent → Reading → Wanting
-wanting_of sent reading = record { calls = asked_in reading.transactions; told = told_in sent.acknowledgement; found = 0 }
+abbrev pub wanting_of : {Z : Type 0} → Sent → Reading Z → Wanting
+wanting_of sent reading = record { replied = record { transactions = transactions_in reading; replies = [] }; told = told_in sent.acknowledgement }
 
 -- each of these files
-abbrev pub wantings_of : List Sent → List Reading → List Wanting
+abbrev pub wantings_of : {Z : Type 0} → List Sent → List (Reading Z) → List Wanting
 wantings_of [] readings = []
 wantings_of (sent ∷ files) [] = []
 wantings_of (sent ∷ files) (reading ∷ readings) = wanting_of sent reading ∷ wantings_of files readings
@@ -23,8 +24,4 @@ AreFirst before [] [] after = after ≡ before
 AreFirst before [] (owner ∷ owners) after = ⊥
 AreFirst before (entry ∷ history) [] after = ⊥
 AreFirst before (entry ∷ history) (owner ∷ owners) after =
-    (next : List Wanting) × IsFirst before entry owner × HasMovedOn before next owner × AreFirst next history owners after
-
--- the owners of a history, whatever stays wanted after it
-abbrev pub AreProposed : List Sent → List Reading → List EntryValue → List ℕ → Type 0
-AreProposed files readings history owners = (after : List Wanting) × AreFirst (wantings_of files readings) history owners after
+    (next : List Wanting) × IsFirst before entry owner × HasMovedOn entry before next owner × AreFirst next history owners after

@@ -1,28 +1,29 @@
 -- What files are, each of them judged once.
-use Rattle.std.specs.Prelude.{◌≡◌, ℕ, ◌<◌, List, [], length, slice_index_or, Result, IfOk, IfErr, OnErr, map}
-use Rattle.std.specs.Str.Lines.{lines}
+use Rattle.std.specs.Prelude.{ℕ, ◌<◌, ◌≤◌, List, [], length, map}
+use Rattle.std.specs.List.{AllZip}
 use Rattle.cwr_call.specs.CallValue.{CallValue}
-use Rattle.cwr_record.specs.declared.control.Header.{Header}
-use Rattle.cwr_grammar.specs.Submitted.{IsRefusal}
-use Rattle.cwr_grammar.specs.declared.refusal.FileRefusal.{FileRefusal}
+use Rattle.cwr_engine.specs.Account.{IsRefused, most}
 use Rattle.cwr_engine.specs.Judged.{JudgedValue, WasJudged}
 use Rattle.cwr_verify.specs.Sent.{Sent}
+use Rattle.cwr_verify.specs.declared.reading.Reading.{Reading}
+use Rattle.cwr_verify.specs.declared.reading.Reading.TheVariants.{File, TooLong, Refused}
 
--- a header and transactions, or a fault
-pub record Reading : Type 0 where
-  pub header : Result Header FileRefusal
-  pub transactions : List JudgedValue
-
--- the text is a well-formed file with this header and these transactions, or has this fault first, and then there are none
-pub record IsReadingOf (text : List ℕ) (reading : Reading) : Type 0 where
-  pub judged : IfOk reading.header (λ head. WasJudged text head reading.transactions)
-  pub refused : IfErr reading.header (IsRefusal (lines text))
-  pub none : OnErr reading.header (reading.transactions ≡ [])
+-- the text is a well-formed file with this header and these transactions; or it has more bytes than a file may have; or it has
+-- this fault first
+abbrev pub IsReadingOf : {Z : Type 0} → List ℕ → Reading Z → Type 0
+IsReadingOf text (File file) = (length text ≤ most) × WasJudged text file.header file.transactions.items
+IsReadingOf text TooLong = most < length text
+IsReadingOf text (Refused number line) = IsRefused text number line
 
 -- each of these files, judged
-pub record AreReadingsOf (files : List Sent) (readings : List Reading) : Type 0 where
-  pub count : length readings ≡ length files
-  pub each : (file : ℕ) (d : Sent) (e : Reading) → file < length files → IsReadingOf (slice_index_or files file d).text (slice_index_or readings file e)
+abbrev pub AreReadingsOf : {Z : Type 0} → List Sent → List (Reading Z) → Type 0
+AreReadingsOf files readings = AllZip (λ sent reading. IsReadingOf sent.text reading) files readings
+
+-- the transactions of a well-formed file; of any other none
+abbrev pub transactions_in : {Z : Type 0} → Reading Z → List JudgedValue
+transactions_in (File file) = file.transactions.items
+transactions_in TooLong = []
+transactions_in (Refused number line) = []
 
 -- the calls of transactions, in order
 abbrev pub asked_in : List JudgedValue → List CallValue

@@ -2,18 +2,9 @@
 -- it is so. Of the others, which depend on the register too, it is told no more.
 use Rattle.std.specs.Prelude.{◌≡◌, ℕ, ◌<◌, List, length, Option, Some, None, IfSome, slice_index_or, ⊤}
 use Rattle.cwr_engine.specs.Account.{IsRefused, most}
-use Rattle.cwr_engine.specs.declared.outcome.FileOutcome.{FileOutcome}
-use Rattle.cwr_engine.specs.declared.outcome.FileOutcome.TheVariants as outcome
-use Rattle.cwr_engine.specs.declared.outcome.Why.TheVariants as why
 use Rattle.cwr_verify.specs.Sent.{Sent}
 use Rattle.cwr_verify.specs.declared.unverified.Unverified.{Unverified}
 use Rattle.cwr_verify.specs.declared.unverified.Unverified.TheVariants.{Memory, TooLong, Refused, Transaction, Acknowledgement}
-
--- what an outcome says of the text alone
-abbrev pub IsSo : List ℕ → FileOutcome → Type 0
-IsSo text (outcome.Refused fault line) = IsRefused text fault line
-IsSo text (outcome.Stopped handed why.TooLong) = most < length text
-IsSo text _ = ⊤
 
 -- what is told of the file with this number
 abbrev pub IsToldOf : ℕ → Sent → Unverified → Type 0

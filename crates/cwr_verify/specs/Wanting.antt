@@ -1,5 +1,5 @@
 -- What files want of a history, and which of them an entry is for.
-use Rattle.std.specs.Prelude.{◌≡◌, ℕ, ◌+◌, ◌<◌, ◌≤◌, true, List, Option, Some, length, option_and_then, option_map, slice_get, slice_index_or}
+use Rattle.std.specs.Prelude.{◌≡◌, ◌≢◌, ◌↔◌, ℕ, ◌<◌, ◌≤◌, true, false, List, Option, Some, length, option_and_then, option_map, slice_get}
 use Rattle.std.specs.BTreeSet.{BTreeSet, contains}
 use Rattle.std.specs.Ordering.{nat_cmp, ordering_then}
 use Rattle.std.specs.declared.cmp.Ordering.{Ordering}
@@ -8,14 +8,14 @@ use Rattle.work_registry.specs.EntryValue.{EntryValue}
 use Rattle.work_registry.specs.Told.{status_in, work_in}
 use Rattle.work_registry.specs.declared.reply.Reply.{Reply}
 use Rattle.cwr_verify.specs.Digest.{digest_of, word_at}
+use Rattle.cwr_verify.specs.Replied.{Replied, next_call, replied_by}
 use Rattle.cwr_verify.specs.declared.told.Told.{Told}
 use Rattle.cwr_verify.specs.declared.waiting.Key.{Key}
 
--- the calls of a file, what its acknowledgement tells of each, and how many are found
+-- the transactions of a file with the replies to those that are found, and what its acknowledgement tells of each
 pub record Wanting : Type 0 where
-  pub calls : List CallValue
+  pub replied : Replied
   pub told : List Told
-  pub found : ℕ
 
 -- what an acknowledgement tells of a reply
 abbrev pub told_of : Reply → Told
@@ -23,24 +23,24 @@ told_of reply = record { status = status_in reply; work = work_in reply }
 
 -- the file's next transaction can have made the entry: it has this call, and is told this reply
 pub record CanHaveMade (wanting : Wanting) (entry : EntryValue) : Type 0 where
-  pub call : slice_get wanting.calls wanting.found ≡ Some entry.call
-  pub told : slice_get wanting.told wanting.found ≡ Some (told_of entry.reply)
+  pub call : next_call wanting.replied ≡ Some entry.call
+  pub told : slice_get wanting.told (length wanting.replied.replies) ≡ Some (told_of entry.reply)
 
 -- the first file whose next transaction can have made the entry; the number of the files where there is none
 pub record IsFirst (all : List Wanting) (entry : EntryValue) (file : ℕ) : Type 0 where
   pub within : file ≤ length all
-  pub passed : (before : ℕ) (d : Wanting) → before < file → CanHaveMade (slice_index_or all before d) entry → ⊥
-  pub made : (d : Wanting) → file < length all → CanHaveMade (slice_index_or all file d) entry
+  pub passed : (before : ℕ) (wanting : Wanting) → before < file → slice_get all before ≡ Some wanting → CanHaveMade wanting entry → ⊥
+  pub made : (wanting : Wanting) → slice_get all file ≡ Some wanting → CanHaveMade wanting entry
 
 -- one more transaction of the file is found
-abbrev pub found_next : Wanting → Wanting
-found_next wanting = record { calls = wanting.calls; told = wanting.told; found = wanting.found + 1 }
+abbrev pub found_by : EntryValue → Wanting → Wanting
+found_by entry wanting = record { replied = replied_by entry wanting.replied; told = wanting.told }
 
--- what of files stays wanted
-pub record HasMovedOn (before after : List Wanting) (file : ℕ) : Type 0 where
+-- what of files stays wanted once the entry is this file's
+pub record HasMovedOn (entry : EntryValue) (before after : List Wanting) (file : ℕ) : Type 0 where
   pub files : length after ≡ length before
-  pub others : (other : ℕ) (d : Wanting) → (other ≡ file → ⊥) → slice_index_or after other d ≡ slice_index_or before other d
-  pub its : (d : Wanting) → file < length before → slice_index_or after file d ≡ found_next (slice_index_or before file d)
+  pub others : (other : ℕ) → other ≢ file → slice_get after other ≡ slice_get before other
+  pub its : slice_get after file ≡ option_map (found_by entry) (slice_get before file)
 
 -- what a transaction is looked up by: the last eight bytes of the submitter's number, and a digest of all that is told of its
 -- reply and that its call says
@@ -53,7 +53,11 @@ key_of_entry entry = key_of (told_of entry.reply) entry.call
 
 -- what a file's next transaction is looked up by, where there is one of which something is told
 unfoldable pub next_key : Wanting → Option Key
-next_key wanting = option_and_then (λ call. option_map (λ told. key_of told call) (slice_get wanting.told wanting.found)) (slice_get wanting.calls wanting.found)
+next_key wanting = option_and_then (λ call. option_map (λ told. key_of told call) (slice_get wanting.told (length wanting.replied.replies))) (next_call wanting.replied)
+
+-- the same of the file with this number, where there is one
+abbrev pub next_of : List Wanting → ℕ → Option Key
+next_of all file = option_and_then next_key (slice_get all file)
 
 abbrev pub key_cmp : Key → Key → Ordering
 key_cmp one other = ordering_then (nat_cmp one.number_end other.number_end) (nat_cmp one.digest other.digest)
@@ -62,16 +66,14 @@ key_cmp one other = ordering_then (nat_cmp one.number_end other.number_end) (nat
 abbrev pub turn_cmp : Key × ℕ → Key × ℕ → Ordering
 turn_cmp one other = ordering_then (key_cmp one.0 other.0) (nat_cmp one.1 other.1)
 
--- each file whose next transaction has a key waits under it
+-- the file waits under this key, where there is one, and under no other
+abbrev pub WaitsUnder : Option Key → ℕ → BTreeSet (Key × ℕ) → Type 0
+WaitsUnder next file waiting = (key : Key) → (contains turn_cmp waiting (key, file) ≡ true) ↔ (next ≡ Some key)
+
+-- each file whose next transaction has a key waits under it, and nobody else waits
 abbrev pub AreWaiting : List Wanting → BTreeSet (Key × ℕ) → Type 0
-AreWaiting all waiting = (file : ℕ) (d : Wanting) (key : Key) → file < length all
-    → next_key (slice_index_or all file d) ≡ Some key → contains turn_cmp waiting (key, file) ≡ true
+AreWaiting all waiting = (file : ℕ) → WaitsUnder (next_of all file) file waiting
 
--- there is the file, and its next transaction is looked up by the key
-pub record IsTurnOf (all : List Wanting) (key : Key) (file : ℕ) : Type 0 where
-  pub known : file < length all
-  pub wants : (d : Wanting) → next_key (slice_index_or all file d) ≡ Some key
-
--- no file waits under another key than that of its next transaction, and none that has no such key
-abbrev pub NoOthersWait : List Wanting → BTreeSet (Key × ℕ) → Type 0
-NoOthersWait all waiting = (key : Key) (file : ℕ) → contains turn_cmp waiting (key, file) ≡ true → IsTurnOf all key file
+-- none of the files from this one on, before the end, waits under the key
+abbrev pub NoneWaits : Key → ℕ → ℕ → BTreeSet (Key × ℕ) → Type 0
+NoneWaits key from end waiting = (file : ℕ) → from ≤ file → file < end → contains turn_cmp waiting (key, file) ≡ false

@@ -3,26 +3,27 @@ ghost use Rattle.std.specs.Io.KnownBytes.{Appends};
 ghost use Rattle.std.specs.List.{AllByRecursion};
 ghost use Rattle.work_registry.specs.EntryValue.{EntryValue};
 ghost use Rattle.work_registry.specs.Numbers.{IsNumbered};
-ghost use Rattle.cwr_acknowledgement.specs.Acknowledgement.{FitsItem, ack_text, most_told, told_count};
+ghost use Rattle.cwr_acknowledgement.specs.Acknowledgement.{ack_text, most_told, told_count};
 ghost use Rattle.cwr_engine.specs.Account.{WriteEnds, most, write_ends};
-ghost use Rattle.cwr_engine.specs.Judged.{WasJudged, judged_of};
+ghost use Rattle.cwr_engine.specs.Judged.{WasJudged};
 ghost use Rattle.cwr_engine.specs.Told.{told_all};
-ghost use Rattle.cwr_grammar.specs.RawParts.{RawParts, IsPlaced};
 ghost use Rattle.cwr_record.specs.Stamp.{StampParts};
 ghost use Rattle.cwr_verify.specs.Again.{IsAnsweredAgain, IsJudgedFile, IsSentInPart, IsWhyNot, is_cut};
 ghost use Rattle.cwr_verify.specs.Reading.{asked_in};
+ghost use Rattle.cwr_verify.specs.Replied.{AreOfFile};
 ghost use Rattle.cwr_verify.specs.Run.{IsRunFrom};
 
 use crate::no_answer::NoAnswer;
+use crate::reading::{Reading, reading_of};
 use crate::replied::Replied;
 use crate::run::{place_of, replies_of};
 use byte_streams::Sink;
 use cwr_acknowledgement::{AckStopped, send_answers};
-use cwr_engine::{Judged, JudgedFile, MOST_BYTES, judge_file};
-use cwr_grammar::FileRefusal;
-use cwr_record::Stamp;
+use cwr_engine::{Judged, JudgedFile};
+use cwr_field::Memory;
+use cwr_record::{Header, Stamp};
 use std::alloc::Allocator;
-use work_registry::{Book, Entry, Reply};
+use work_registry::{Book, Entry};
 
 /// Writes the acknowledgement of a file again, from a book in which its transactions have entries.
 ///
@@ -45,8 +46,8 @@ pub fn answer<W: Sink, A: Allocator + Copy + Drop>(
     ensures unwritten { IfErr result (λ why. is_cut why ≡ false → writer.new ≡ writer.old) }
 {
     let file = judged(alloc, text)?;
-    let replies = run_of(alloc, book.history(), &file.transactions, entry)?;
-    send(alloc, &file, &replies, stamp, writer)
+    let replied = run_of(alloc, book.history(), &file.transactions, entry)?;
+    send(alloc, &file.header, &replied, stamp, writer)
 }
 
 /// The file of a text, judged.
@@ -56,65 +57,58 @@ fn judged<A: Allocator + Copy>(alloc: A, text: &[u8]) -> Result<JudgedFile<A>, N
     ensures why_not { IfErr result (λ why. (stamp : StampParts) (entry : Option ℕ) (history : List EntryValue) (ends : WriteEnds)
         → IsWhyNot stamp text.now entry history ends why) }
 {
-    if text.len() > MOST_BYTES {
-        return Err(NoAnswer::TooLong);
-    }
-    match judge_file(alloc, text) {
-        Ok(file) => Ok(file),
-        Err(FileRefusal::Fault { number, line }) => Err(NoAnswer::Refused { number, line }),
-        Err(FileRefusal::Memory) => Err(NoAnswer::Memory),
+    match reading_of(alloc, text) {
+        Ok(Reading::File(file)) => Ok(file),
+        Ok(Reading::TooLong) => Err(NoAnswer::TooLong),
+        Ok(Reading::Refused { number, line }) => Err(NoAnswer::Refused { number, line }),
+        Err(Memory) => Err(NoAnswer::Memory),
     }
 }
 
-/// The replies of the entries of the run of these transactions.
-fn run_of<A: Allocator + Copy>(
+/// These transactions with the replies of the entries of their run.
+fn run_of<'t, A: Allocator + Copy>(
     alloc: A,
     history: &[Entry<A>],
-    transactions: &[Judged<A>],
+    transactions: &'t [Judged<A>],
     entry: Option<u32>,
-) -> Result<Vec<Reply, A>, NoAnswer>
-    requires placed { (submitter : List ℕ) × (ts : List RawParts) × (transactions.now ≡ map (judged_of submitter) ts) × AllByRecursion IsPlaced ts }
+) -> Result<Replied<'t, A>, NoAnswer>
+    requires of_file { AreOfFile transactions.now }
     requires numbered { AllByRecursion (λ e. IsNumbered e.reply) history.now }
-    ensures run { IfOk result (λ replies. (run : List EntryValue) × IsRunFrom entry (asked_in transactions.now) history.now run × (replies.items ≡ map (λ e. e.reply) run)) }
-    ensures fit { IfOk result (λ replies. AllByRecursion FitsItem (told_all transactions.now replies.items)) }
+    ensures its { IfOk result (λ replied. replied.transactions ≡ transactions.now) }
+    ensures run { IfOk result (λ replied. (run : List EntryValue) × IsRunFrom entry (asked_in transactions.now) history.now run × (replied.replies ≡ map (λ e. e.reply) run)) }
     ensures why_not { IfErr result (λ why. (stamp : StampParts) (input : List ℕ) (ends : WriteEnds) → IsJudgedFile input transactions.now
         → IsWhyNot stamp input entry history.now ends why) }
 {
     let Some(place) = place_of(history, transactions, entry) else {
         return Err(NoAnswer::OtherEntry);
     };
-    let Ok(replies) = replies_of(alloc, &history[place..], transactions) else {
+    let Ok(replied) = replies_of(alloc, &history[place..], transactions) else {
         return Err(NoAnswer::Memory);
     };
-    match transactions.get(replies.len()) {
-        Some(first) => Err(NoAnswer::Transaction {
+    if let Some(first) = replied.next() {
+        return Err(NoAnswer::Transaction {
             group: first.group,
             sequence: first.sequence,
-        }),
-        None => Ok(replies),
+        });
     }
+    Ok(replied)
 }
 
 /// Writes the acknowledgement of a file whose transactions got these replies.
 fn send<W: Sink, A: Allocator + Copy>(
     alloc: A,
-    file: &JudgedFile<A>,
-    replies: &[Reply],
+    header: &Header,
+    replied: &Replied<A>,
     stamp: &Stamp,
     writer: &mut W,
 ) -> Result<(), NoAnswer>
     requires works { W.has_failed writer.old ≡ false }
-    requires few { length (told_all file.now.transactions.items replies.now) + told_count (told_all file.now.transactions.items replies.now) ≤ most_told }
-    requires fit { AllByRecursion FitsItem (told_all file.now.transactions.items replies.now) }
-    ensures all { OnOk result (Appends (W.taken writer.old) (W.taken writer.new) (ack_text stamp.now file.now.header (told_all file.now.transactions.items replies.now))) }
-    ensures part { IfErr result (IsSentInPart (write_ends W.Sink writer.old writer.new) (ack_text stamp.now file.now.header (told_all file.now.transactions.items replies.now))) }
+    requires few { length (told_all replied.now.transactions replied.now.replies) + told_count (told_all replied.now.transactions replied.now.replies) ≤ most_told }
+    ensures all { OnOk result (Appends (W.taken writer.old) (W.taken writer.new) (ack_text stamp.now header.now (told_all replied.now.transactions replied.now.replies))) }
+    ensures part { IfErr result (IsSentInPart (write_ends W.Sink writer.old writer.new) (ack_text stamp.now header.now (told_all replied.now.transactions replied.now.replies))) }
     ensures unwritten { IfErr result (λ why. is_cut why ≡ false → writer.new ≡ writer.old) }
 {
-    let replied = Replied {
-        transactions: &file.transactions,
-        replies,
-    };
-    match send_answers(alloc, writer, stamp, &file.header, &replied) {
+    match send_answers(alloc, writer, stamp, header, &replied.answered()) {
         Ok(()) => Ok(()),
         Err(AckStopped::Memory) => Err(NoAnswer::Memory),
         Err(AckStopped::Write { sent }) => Err(NoAnswer::Write { sent }),

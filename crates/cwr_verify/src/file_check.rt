@@ -1,43 +1,38 @@
-//! One file against the entries that it is said to own.
-ghost use Rattle.std.specs.Prelude.{◌≡◌, ◌<◌, ℕ, [], false, length, take, IfErr, IsTrue, OnOk};
-ghost use Rattle.cwr_verify.specs.Chained.{AreChained};
-ghost use Rattle.cwr_verify.specs.Owned.{owned};
-ghost use Rattle.cwr_verify.specs.Reading.{IsReadingOf};
-ghost use Rattle.cwr_verify.specs.Told.{IsSo, IsToldOf};
+//! One file against the entries that it owns.
+ghost use Rattle.std.specs.Prelude.{◌≡◌, ◌≤◌, ◌+◌, ℕ, List, length, IfErr, OnOk};
+ghost use Rattle.cwr_acknowledgement.specs.Acknowledgement.{ack_text, most_told, told_count};
+ghost use Rattle.cwr_engine.specs.Told.{told_all};
+ghost use Rattle.work_registry.specs.EntryValue.{EntryValue};
+ghost use Rattle.cwr_verify.specs.Reading.{IsReadingOf, transactions_in};
+ghost use Rattle.cwr_verify.specs.Replied.{AreRepliedBy};
+ghost use Rattle.cwr_verify.specs.Told.{IsToldOf};
 ghost use Rattle.cwr_verify.specs.Verified.{IsAnsweredBy};
 
-use crate::chains::Chains;
-use crate::past::Past;
+use crate::compared::Compared;
 use crate::reading::Reading;
-use crate::same_call::are_same_bytes;
+use crate::replied::Replied;
 use crate::sent::SentFile;
 use crate::told::stamp_in;
 use crate::unverified::Unverified;
-use byte_streams::Room;
-use cwr_engine::{FileOutcome, JudgedFile, MOST_BYTES, OpenGate, Why, work_judged};
-use cwr_grammar::{FileRefusal, parse_file};
-use cwr_record::Stamp;
+use cwr_acknowledgement::{AckStopped, send_answers};
+use cwr_record::{Header, Stamp};
 use std::alloc::Allocator;
-use work_registry::Book;
 
-/// Checks a file, so judged, against the entries that it owns.
+/// Checks a file, so judged, whose first transactions got these replies from the entries that it owns.
 ///
-/// It is worked once more, where each call gets the reply of the next of these entries. What that writes is compared with
-/// the acknowledgement.
-pub(crate) fn check_file<A: Allocator + Copy + Drop>(
+/// Each of its transactions is to have one, and the acknowledgement that they make is compared with that of the file.
+pub(crate) fn check_file<A: Allocator + Copy>(
     alloc: A,
-    book: &Book<A>,
-    owners: &[usize],
-    chains: &Chains<A>,
     number: usize,
     file: &SentFile,
-    reading: Reading<A>,
+    reading: &Reading<A>,
+    replied: &Replied<A>,
 ) -> Result<(), Unverified>
-    requires judged { IsReadingOf file.now.text reading }
-    requires same { length owners.now ≡ length book.now.history }
-    requires chained { AreChained owners.now chains.now.firsts.items chains.now.nexts.items }
-    requires known { number < length chains.now.firsts.items }
-    ensures answered { OnOk result (IsAnsweredBy file.now (owned number owners.now book.now.history)) }
+    requires judged { IsReadingOf file.now.text reading.now }
+    requires its { replied.now.transactions ≡ transactions_in reading.now }
+    requires made { length replied.now.replies ≡ length replied.now.transactions → (entries : List EntryValue) × AreRepliedBy replied.now entries }
+    ensures answered { OnOk result (length replied.now.replies ≡ length replied.now.transactions) }
+    ensures by_each { OnOk result ((entries : List EntryValue) → AreRepliedBy replied.now entries → IsAnsweredBy file.now entries) }
     ensures told { IfErr result (λ told. IsToldOf number file.now told) }
 {
     let Some(stamp) = stamp_in(file.acknowledgement) else {
@@ -46,143 +41,54 @@ pub(crate) fn check_file<A: Allocator + Copy + Drop>(
             line: 1,
         });
     };
-    let Ok(mut writer) = Room::new(alloc, file.acknowledgement.len(), true) else {
-        return Err(Unverified::Memory);
-    };
-    let past = Past::of(book, owners, chains, number);
-    let (outcome, is_over) = work_again(alloc, past, file.text, reading, &mut writer, &stamp);
-    if let FileOutcome::Acked { transactions: _ } = outcome {
-        if is_over && are_same_bytes(writer.bytes(), file.acknowledgement) {
-            return Ok(());
+    match reading {
+        Reading::File(judged) => {
+            if let Some(first) = replied.next() {
+                return Err(Unverified::Transaction {
+                    file: number,
+                    group: first.group,
+                    sequence: first.sequence,
+                });
+            }
+            compare(alloc, number, file, &judged.header, replied, &stamp)
         }
+        Reading::TooLong => Err(Unverified::TooLong { file: number }),
+        Reading::Refused {
+            number: fault,
+            line,
+        } => Err(Unverified::Refused {
+            file: number,
+            number: *fault,
+            line: *line,
+        }),
     }
-    Err(unanswered(alloc, number, file, outcome, writer.bytes()))
 }
 
-/// Why a file is not verified whose work ended so, having written these bytes.
-fn unanswered<A: Allocator + Copy>(
+/// Makes the acknowledgement of a file whose transactions got these replies, and compares it with that of the file.
+fn compare<A: Allocator + Copy>(
     alloc: A,
     number: usize,
     file: &SentFile,
-    outcome: FileOutcome,
-    written: &[u8],
-) -> Unverified
-    requires { IsSo file.now.text outcome }
-    ensures { IsToldOf number file.now result }
-{
-    match outcome {
-        FileOutcome::Acked { transactions: _ } => other_line(number, file, written),
-        FileOutcome::Refused {
-            number: fault,
-            line,
-        } => Unverified::Refused {
-            file: number,
-            number: fault,
-            line,
-        },
-        FileOutcome::Stopped { handed, why } => stopped(alloc, number, file, handed, why, written),
-    }
-}
-
-/// Works a file, so judged, at the past, and answers how that ended, and whether all the entries of the past are seen.
-fn work_again<A: Allocator + Copy + Drop>(
-    alloc: A,
-    past: Past<A>,
-    text: &[u8],
-    reading: Reading<A>,
-    writer: &mut Room<A>,
+    header: &Header,
+    replied: &Replied<A>,
     stamp: &Stamp,
-) -> (FileOutcome, bool)
-    requires judged { IsReadingOf text.now reading }
-    requires begins { owned past.file (take past.at past.owners.now) (take past.at past.book.now.history) ≡ [] }
-    requires empty { writer.old.taken ≡ [] }
-    requires works { writer.old.has_failed ≡ false }
-    ensures so { IsSo text.now result.0 }
-    ensures answered { (count : ℕ) → result.0 ≡ FileOutcome.Acked count → IsTrue result.1
-        → IsAnsweredBy (record { text = text.now; acknowledgement = writer.new.taken }) (owned past.entry.file past.entry.owners.now past.entry.book.now.history) }
+) -> Result<(), Unverified>
+    requires few { length (told_all replied.now.transactions replied.now.replies) + told_count (told_all replied.now.transactions replied.now.replies) ≤ most_told }
+    ensures same { OnOk result (file.now.acknowledgement ≡ ack_text stamp.now header.now (told_all replied.now.transactions replied.now.replies)) }
+    ensures told { IfErr result (λ told. IsToldOf number file.now told) }
 {
-    if text.len() > MOST_BYTES {
-        return (not_worked(Why::TooLong), false);
-    }
-    let Reading {
-        header,
-        transactions,
-    } = reading;
-    match header {
-        Ok(header) => {
-            let file = JudgedFile {
-                header,
-                transactions,
-            };
-            let (past, outcome) = work_judged(alloc, past, &OpenGate, 1, file, writer, stamp);
-            (outcome, past.is_over())
+    let mut compared = Compared::with(file.acknowledgement);
+    match send_answers(alloc, &mut compared, stamp, header, &replied.answered()) {
+        Ok(()) => {
+            if compared.is_whole(file.acknowledgement) {
+                return Ok(());
+            }
         }
-        Err(FileRefusal::Fault { number, line }) => (FileOutcome::Refused { number, line }, false),
-        // No file was judged that was refused so.
-        Err(FileRefusal::Memory) => (not_worked(Why::Memory), false),
+        Err(AckStopped::Write { sent: _ }) => {}
+        Err(AckStopped::Memory) => return Err(Unverified::Memory),
     }
-}
-
-/// How a file's work ends that has not begun.
-fn not_worked(why: Why) -> FileOutcome
-    ensures { result ≡ FileOutcome.Stopped 0 why }
-{
-    FileOutcome::Stopped { handed: 0, why }
-}
-
-/// Why a file is not verified whose work stopped after so many transactions.
-fn stopped<A: Allocator + Copy>(
-    alloc: A,
-    number: usize,
-    file: &SentFile,
-    handed: u32,
-    why: Why,
-    written: &[u8],
-) -> Unverified
-    requires { IsSo file.now.text (FileOutcome.Stopped handed why) }
-    ensures { IsToldOf number file.now result }
-{
-    match why {
-        Why::TooLong => Unverified::TooLong { file: number },
-        Why::Full => missing(alloc, number, file, handed),
-        Why::Write { sent: _ } => other_line(number, file, written),
-        Why::Memory | Why::Read | Why::Gate => Unverified::Memory,
-    }
-}
-
-/// The transaction that no entry answers, so many having come before it.
-fn missing<A: Allocator + Copy>(alloc: A, number: usize, file: &SentFile, before: u32) -> Unverified
-    ensures { IsToldOf number file.now result }
-{
-    let Ok(submission) = parse_file(alloc, file.text) else {
-        return Unverified::Memory;
-    };
-    match submission.transactions.get(before as usize) {
-        Some(transaction) => Unverified::Transaction {
-            file: number,
-            group: transaction.group(),
-            sequence: transaction.sequence(),
-        },
-        None => Unverified::Memory,
-    }
-}
-
-/// The first line of a file's acknowledgement that is not as it was written anew.
-fn other_line(number: usize, file: &SentFile, written: &[u8]) -> Unverified
-    ensures { IsToldOf number file.now result }
-{
-    let acknowledgement = file.acknowledgement;
-    let same = written
-        .iter()
-        .zip(acknowledgement)
-        .take_while(|(one, other)| one == other)
-        .count();
-    let ends = acknowledgement[..same]
-        .iter()
-        .filter(|byte| **byte == b'\n')
-        .count();
-    Unverified::Acknowledgement {
+    Err(Unverified::Acknowledgement {
         file: number,
-        line: ends.saturating_add(1),
-    }
+        line: compared.line(),
+    })
 }

@@ -6,11 +6,10 @@
 #![tactic(auto)]
 
 mod answering;
-mod chains;
+mod compared;
 mod digest;
 mod file_check;
 mod no_answer;
-mod past;
 mod proposal;
 mod reading;
 mod replied;

@@ -1,38 +1,52 @@
 //! What files are, each of them judged once.
-ghost use Rattle.std.specs.Prelude.{◌≡◌, IfOk, Ok};
-ghost use Rattle.cwr_verify.specs.Reading.{AreReadingsOf, IsReadingOf};
+ghost use Rattle.std.specs.Prelude.{◌≡◌, IfOk};
+ghost use Rattle.cwr_verify.specs.Reading.{AreReadingsOf, IsReadingOf, transactions_in};
 
 use crate::sent::SentFile;
-use cwr_engine::{Judged, JudgedFile, judge_file};
+use cwr_engine::{Judged, JudgedFile, MOST_BYTES, judge_file};
 use cwr_field::Memory;
 use cwr_grammar::FileRefusal;
-use cwr_record::Header;
 use std::alloc::Allocator;
-use std::marker::Model;
 
-/// A file as it was judged: its header and its transactions, or its first fault.
+/// What a file was judged to.
 #[derive(Drop)]
-pub(crate) struct Reading<A: Allocator> {
-    /// The header, or the first fault.
-    pub(crate) header: Result<Header, FileRefusal>,
-    /// The transactions in file order, none of a file that has a fault.
-    pub(crate) transactions: Vec<Judged<A>, A>,
-}
-
-impl<A: Allocator> Model for Reading<A> {
-    ghost use Rattle.cwr_verify.specs.Reading.{Reading};
-
-    ghost Value = { Reading };
-
-    ghost view = { λ r. record { header = r.header; transactions = r.transactions.items } };
+pub(crate) enum Reading<A: Allocator> {
+    /// A well-formed file, with its calls.
+    File(JudgedFile<A>),
+    /// It has more bytes than a file may have.
+    TooLong,
+    /// Its first fault.
+    Refused {
+        /// The fault, 1 to 12 for F1 to F12.
+        number: u8,
+        /// The line that has it, from 1.
+        line: u64,
+    },
 }
 
 impl<A: Allocator> Reading<A> {
-    /// The transactions.
+    /// The transactions of a well-formed file; of any other none.
     pub(crate) fn transactions(&self) -> &[Judged<A>]
-        ensures { result.now ≡ self.now.transactions }
+        ensures { result.now ≡ transactions_in self.now }
     {
-        self.transactions.as_slice()
+        match self {
+            Reading::File(file) => file.transactions.as_slice(),
+            Reading::TooLong | Reading::Refused { .. } => &[],
+        }
+    }
+}
+
+/// A text, judged.
+pub(crate) fn reading_of<A: Allocator + Copy>(alloc: A, text: &[u8]) -> Result<Reading<A>, Memory>
+    ensures { IfOk result (IsReadingOf text.now) }
+{
+    if text.len() > MOST_BYTES {
+        return Ok(Reading::TooLong);
+    }
+    match judge_file(alloc, text) {
+        Ok(file) => Ok(Reading::File(file)),
+        Err(FileRefusal::Fault { number, line }) => Ok(Reading::Refused { number, line }),
+        Err(FileRefusal::Memory) => Err(Memory),
     }
 }
 
@@ -48,32 +62,4 @@ pub(crate) fn readings_of<A: Allocator + Copy>(
         readings.push(reading_of(alloc, file.text)?)?;
     }
     Ok(readings)
-}
-
-/// A text, judged.
-fn reading_of<A: Allocator + Copy>(alloc: A, text: &[u8]) -> Result<Reading<A>, Memory>
-    ensures { IfOk result (IsReadingOf text.now) }
-{
-    match judge_file(alloc, text) {
-        Ok(file) => Ok(judged(file)),
-        Err(FileRefusal::Memory) => Err(Memory),
-        Err(refusal) => Ok(Reading {
-            header: Err(refusal),
-            transactions: Vec::new(alloc),
-        }),
-    }
-}
-
-/// A well-formed file, judged.
-fn judged<A: Allocator>(file: JudgedFile<A>) -> Reading<A>
-    ensures { result ≡ record { header = Ok file.header; transactions = file.transactions.items } }
-{
-    let JudgedFile {
-        header,
-        transactions,
-    } = file;
-    Reading {
-        header: Ok(header),
-        transactions,
-    }
 }

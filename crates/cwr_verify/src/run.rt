@@ -1,29 +1,17 @@
 //! The entries of a history that answer a file anew: its run.
-ghost use Rattle.std.specs.Prelude.{◌≡◌, ◌↔◌, ◌<◌, ◌≤◌, ◌+◌, ℕ, List, Some, None, [], length, drop, take, map, slice_get, IfNone, IfOk, IfSome, IsTrue, MatchOption};
+ghost use Rattle.std.specs.Prelude.{◌≡◌, ◌<◌, ◌≤◌, ◌+◌, ℕ, List, Some, None, length, drop, take, map, IfNone, IfOk, IfSome, MatchOption};
 ghost use Rattle.std.specs.List.{AllByRecursion};
-ghost use Rattle.cwr_acknowledgement.specs.Acknowledgement.{FitsItem};
-ghost use Rattle.cwr_engine.specs.Judged.{judged_of};
-ghost use Rattle.cwr_engine.specs.Told.{told_all};
-ghost use Rattle.cwr_grammar.specs.RawParts.{RawParts, IsPlaced};
 ghost use Rattle.work_registry.specs.EntryValue.{EntryValue};
 ghost use Rattle.work_registry.specs.Numbers.{IsNumbered};
 ghost use Rattle.cwr_verify.specs.Reading.{asked_in};
+ghost use Rattle.cwr_verify.specs.Replied.{AreOfFile};
 ghost use Rattle.cwr_verify.specs.Run.{HasRun, IsFront, IsNamed, IsPlace, IsRun};
 
-use crate::same_call::is_same_call;
+use crate::replied::Replied;
+use crate::same_call::has_call;
 use cwr_engine::Judged;
 use std::alloc::{AllocError, Allocator};
-use work_registry::{Entry, Reply};
-
-/// Whether the transaction at this place has the call of an entry.
-fn has_call<A: Allocator>(transactions: &[Judged<A>], place: usize, entry: &Entry<A>) -> bool
-    ensures { IsTrue result ↔ (slice_get (asked_in transactions.now) place ≡ Some entry.now.call) }
-{
-    match transactions.get(place) {
-        Some(transaction) => is_same_call(&transaction.call, entry.call()),
-        None => false,
-    }
-}
+use work_registry::Entry;
 
 /// The last place from which entries have the calls of the transactions; 0 where there is none.
 ///
@@ -80,26 +68,23 @@ pub(crate) fn place_of<A: Allocator>(
 
 /// The replies of the entries of the run of these transactions, from the front of these entries; those of its first
 /// entries, where the others are none.
-pub(crate) fn replies_of<A: Allocator + Copy>(
+pub(crate) fn replies_of<'t, A: Allocator + Copy>(
     alloc: A,
     history: &[Entry<A>],
-    transactions: &[Judged<A>],
-) -> Result<Vec<Reply, A>, AllocError>
-    requires placed { (submitter : List ℕ) × (ts : List RawParts) × (transactions.now ≡ map (judged_of submitter) ts) × AllByRecursion IsPlaced ts }
+    transactions: &'t [Judged<A>],
+) -> Result<Replied<'t, A>, AllocError>
+    requires of_file { AreOfFile transactions.now }
     requires numbered { AllByRecursion (λ e. IsNumbered e.reply) history.now }
-    ensures run { IfOk result (λ replies. length replies.items ≡ length transactions.now → (run : List EntryValue) × IsRun (asked_in transactions.now) history.now run × (replies.items ≡ map (λ e. e.reply) run)) }
-    ensures few { IfOk result (λ replies. length replies.items ≤ length transactions.now) }
-    ensures some { IfOk result (λ replies. HasRun (take (length replies.items) (asked_in transactions.now)) history.now) }
-    ensures no_more { IfOk result (λ replies. length replies.items < length transactions.now → HasRun (take (length replies.items + 1) (asked_in transactions.now)) history.now → ⊥) }
-    ensures fit { IfOk result (λ replies. AllByRecursion FitsItem (told_all transactions.now replies.items)) }
+    ensures its { IfOk result (λ replied. replied.transactions ≡ transactions.now) }
+    ensures run { IfOk result (λ replied. length replied.replies ≡ length transactions.now → (run : List EntryValue) × IsRun (asked_in transactions.now) history.now run × (replied.replies ≡ map (λ e. e.reply) run)) }
+    ensures some { IfOk result (λ replied. HasRun (take (length replied.replies) (asked_in transactions.now)) history.now) }
+    ensures no_more { IfOk result (λ replied. length replied.replies < length transactions.now → HasRun (take (length replied.replies + 1) (asked_in transactions.now)) history.now → ⊥) }
 {
-    let mut replies = Vec::new(alloc);
+    let mut replied = Replied::of(alloc, transactions)?;
     for entry in history {
-        if has_call(transactions, replies.len(), entry) {
-            // Looking at them tells the check what holds of the faults of every call.
-            let _faults = entry.call().faults().len();
-            replies.push(entry.reply())?;
+        if replied.is_next(entry) {
+            replied.push(entry)?;
         }
     }
-    Ok(replies)
+    Ok(replied)
 }

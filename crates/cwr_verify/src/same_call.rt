@@ -1,11 +1,27 @@
-ghost use Rattle.std.specs.Prelude.{◌≡◌, ◌↔◌, IsTrue};
+ghost use Rattle.std.specs.Prelude.{◌≡◌, ◌↔◌, Some, slice_get, IsTrue};
+ghost use Rattle.cwr_verify.specs.Reading.{asked_in};
 
+use cwr_engine::Judged;
 use cwr_record::WorkKind;
 use std::alloc::Allocator;
-use work_registry::{Call, Fault};
+use work_registry::{Call, Entry, Fault};
+
+/// Whether the transaction at this place has the call of an entry.
+pub(crate) fn has_call<A: Allocator>(
+    transactions: &[Judged<A>],
+    place: usize,
+    entry: &Entry<A>,
+) -> bool
+    ensures { IsTrue result ↔ (slice_get (asked_in transactions.now) place ≡ Some entry.now.call) }
+{
+    match transactions.get(place) {
+        Some(transaction) => is_same_call(&transaction.call, entry.call()),
+        None => false,
+    }
+}
 
 /// Whether two calls ask the same.
-pub(crate) fn is_same_call<A: Allocator>(one: &Call<A>, other: &Call<A>) -> bool
+fn is_same_call<A: Allocator>(one: &Call<A>, other: &Call<A>) -> bool
     ensures { IsTrue result ↔ (one.now ≡ other.now) }
 {
     are_same_texts(one.number(), other.number())
@@ -21,13 +37,6 @@ pub(crate) fn is_same_call<A: Allocator>(one: &Call<A>, other: &Call<A>) -> bool
 #[inline(always)]
 fn are_same_texts<const N: usize>(one: [u8; N], other: [u8; N]) -> bool
     ensures { IsTrue result ↔ (one ≡ other) }
-{
-    one == other
-}
-
-/// Whether two texts are the same.
-pub(crate) fn are_same_bytes(one: &[u8], other: &[u8]) -> bool
-    ensures { IsTrue result ↔ (one.now ≡ other.now) }
 {
     one == other
 }

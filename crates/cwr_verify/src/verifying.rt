@@ -2,9 +2,8 @@ ghost use Rattle.std.specs.Prelude.{IfErr, IfOk};
 ghost use Rattle.cwr_verify.specs.Told.{IsTold};
 ghost use Rattle.cwr_verify.specs.Verified.{AreAnswered};
 
-use crate::chains::Chains;
 use crate::file_check::check_file;
-use crate::proposal::proposed;
+use crate::proposal::{owners_of, wanted_of};
 use crate::reading::readings_of;
 use crate::sent::SentFile;
 use crate::unverified::Unverified;
@@ -16,8 +15,7 @@ use work_registry::Book;
 /// An entry of the result is the number of a file, from 0, or another number where the entry answers none of these
 /// files. The entries of a file have the calls of all its transactions, judged anew, in file order, and its
 /// acknowledgement is, byte for byte, the text for their replies, with the society, the name, the date and the time of
-/// its own first line. No entry answers two transactions. An error names the first file that is not answered so. Entries
-/// of the book are to be of the opening, as those of a register are.
+/// its own first line. No entry answers two transactions. An error names the first file that is not answered so.
 ///
 /// Where two files have the same call with the same reply, the one that is given first is tried first, and no other
 /// order is tried: files are to be given in the order in which they were run.
@@ -32,15 +30,16 @@ pub fn verify<A: Allocator + Copy + Drop>(
     let Ok(readings) = readings_of(alloc, files) else {
         return Err(Unverified::Memory);
     };
-    let Ok(owners) = proposed(alloc, book.history(), files, &readings) else {
+    let Ok(mut wanted) = wanted_of(alloc, files, &readings) else {
         return Err(Unverified::Memory);
     };
-    let each = owners.as_slice();
-    let Ok(chains) = Chains::of(alloc, each, files.len()) else {
+    let Ok(owners) = owners_of(alloc, wanted.as_mut_slice(), book.history()) else {
         return Err(Unverified::Memory);
     };
-    for (number, reading) in readings.into_iter().enumerate() {
-        check_file(alloc, book, each, &chains, number, &files[number], reading)?;
+    let (read, sought) = (readings.as_slice(), wanted.as_slice());
+    for number in 0..files.len() {
+        let replied = sought[number].replied();
+        check_file(alloc, number, &files[number], &read[number], replied)?;
     }
     Ok(owners)
 }

@@ -1,64 +1,62 @@
 //! What files want of a history.
-ghost use Rattle.std.specs.Prelude.{◌≡◌, ◌↔◌, ◌<◌, IsTrue, IfOk, OnOk, length, slice_get, MatchOption};
-ghost use Rattle.cwr_verify.specs.Reading.{asked_in};
-ghost use Rattle.cwr_verify.specs.Wanting.{CanHaveMade, IsFirst, HasMovedOn, AreWaiting, NoOthersWait, found_next, key_of_entry, next_key};
+ghost use Rattle.std.specs.Prelude.{◌≡◌, ◌↔◌, ◌<◌, ◌≤◌, [], IsTrue, IfNone, IfOk, IfSome, OnOk, Some, length, MatchOption};
+ghost use Rattle.work_registry.specs.Numbers.{IsNumbered};
+ghost use Rattle.cwr_verify.specs.Replied.{AreOfFile, next_call};
+ghost use Rattle.cwr_verify.specs.Wanting.{CanHaveMade, IsFirst, HasMovedOn, AreWaiting, NoneWaits, found_by, key_of_entry, next_key};
 
-use crate::same_call::is_same_call;
+use crate::replied::Replied;
 use crate::told::Told;
 use crate::waiting::{Key, Waiting};
 use cwr_engine::Judged;
 use std::alloc::{AllocError, Allocator};
 use std::collections::BTreeSet;
 use std::marker::Model;
-use work_registry::{Call, Entry};
+use work_registry::Entry;
 
-/// The transactions of a file whose calls are to be found, with what its acknowledgement tells of them.
+/// The transactions of a file whose calls are to be found, with what its acknowledgement tells of them. Those that are
+/// found have the replies of their entries.
 #[derive(Drop)]
 pub(crate) struct Wanted<'r, A: Allocator> {
-    transactions: &'r [Judged<A>],
+    replied: Replied<'r, A>,
     told: Vec<Told, A>,
-    /// So many of them are found.
-    found: usize,
 }
 
 impl<'r, A: Allocator> Model for Wanted<'r, A> {
-    ghost use Rattle.cwr_verify.specs.Reading.{asked_in};
     ghost use Rattle.cwr_verify.specs.Wanting.{Wanting};
 
     ghost Value = { Wanting };
 
-    ghost view = { λ w. record { calls = asked_in w.transactions.now; told = w.told.items; found = w.found } };
+    ghost view = { λ w. record { replied = w.replied; told = w.told.items } };
 }
 
 impl<'r, A: Allocator> Wanted<'r, A> {
     /// The calls of these transactions, none of which is found, with what is told of them.
-    pub(crate) fn of(transactions: &'r [Judged<A>], told: Vec<Told, A>) -> Wanted<'r, A>
-        ensures { result ≡ record { calls = asked_in transactions.now; told = told.items; found = 0 } }
+    pub(crate) fn of(
+        alloc: A,
+        transactions: &'r [Judged<A>],
+        told: Vec<Told, A>,
+    ) -> Result<Wanted<'r, A>, AllocError>
+        requires { AreOfFile transactions.now }
+        ensures { IfOk result (λ wanted. wanted ≡ record { replied = record { transactions = transactions.now; replies = [] }; told = told.items }) }
     {
-        Wanted {
-            transactions,
-            told,
-            found: 0,
-        }
+        let replied = Replied::of(alloc, transactions)?;
+        Ok(Wanted { replied, told })
+    }
+
+    /// The transactions, and the replies to those that are found.
+    pub(crate) fn replied(&self) -> &Replied<'r, A>
+        ensures { result.now ≡ self.now.replied }
+    {
+        &self.replied
     }
 
     /// Whether the next transaction can have made an entry.
     fn can_have_made(&self, entry: &Entry<A>) -> bool
         ensures { IsTrue result ↔ CanHaveMade self.now entry.now }
     {
-        let (Some(call), Some(told)) = (self.next_call(), self.told.get(self.found)) else {
-            return false;
-        };
-        *told == Told::of(entry.reply()) && is_same_call(call, entry.call())
-    }
-
-    /// The next transaction's call, where there is one.
-    fn next_call(&self) -> Option<&Call<A>>
-        ensures { MatchOption result (slice_get self.now.calls self.now.found ≡ None) (λ call. slice_get self.now.calls self.now.found ≡ Some call.now) }
-    {
-        match self.transactions.get(self.found) {
-            Some(transaction) => Some(&transaction.call),
-            None => None,
+        match self.told.get(self.replied.len()) {
+            Some(told) => *told == Told::of(entry.reply()) && self.replied.is_next(entry),
+            None => false,
         }
     }
 
@@ -68,18 +66,20 @@ impl<'r, A: Allocator> Wanted<'r, A> {
     fn next_key(&self) -> Option<Key>
         ensures { result ≡ next_key self.now }
     {
-        let (Some(call), Some(told)) = (self.next_call(), self.told.get(self.found)) else {
+        let (Some(next), Some(told)) = (self.replied.next(), self.told.get(self.replied.len()))
+        else {
             return None;
         };
-        Some(Key::of(*told, call))
+        Some(Key::of(*told, &next.call))
     }
 
-    /// The next transaction is found.
-    fn pass(&mut self)
-        requires { self.old.found < length self.old.calls }
-        ensures { self.new ≡ found_next self.old }
+    /// The next transaction is found: this entry has its call.
+    fn pass(&mut self, entry: &Entry<A>) -> Result<(), AllocError>
+        requires call { next_call self.old.replied ≡ Some entry.now.call }
+        requires numbered { IsNumbered entry.now.reply }
+        ensures { OnOk result (self.new ≡ found_by entry.now self.old) }
     {
-        self.found += 1;
+        self.replied.push(entry)
     }
 }
 
@@ -88,8 +88,7 @@ pub(crate) fn waiting_of<A: Allocator + Copy>(
     alloc: A,
     wanted: &[Wanted<A>],
 ) -> Result<Waiting<A>, AllocError>
-    ensures waiting { IfOk result (AreWaiting wanted.now) }
-    ensures no_others { IfOk result (NoOthersWait wanted.now) }
+    ensures { IfOk result (AreWaiting wanted.now) }
 {
     let mut waiting = BTreeSet::new(alloc);
     for (file, wanted) in wanted.iter().enumerate() {
@@ -111,13 +110,31 @@ fn first_of<A: Allocator>(
     requires key { key ≡ key_of_entry entry.now }
     ensures { MatchOption result (IsFirst wanted.now entry.now (length wanted.now)) (λ file. IsFirst wanted.now entry.now file × (file < length wanted.now)) }
 {
-    for turn in waiting.range((key, 0)..(key, wanted.len())) {
-        let file = turn.1;
-        if file < wanted.len() && wanted[file].can_have_made(entry) {
+    let mut from = 0;
+    while let Some(file) = first_from(waiting, key, from, wanted.len()) {
+        if wanted[file].can_have_made(entry) {
             return Some(file);
         }
+        from = file + 1;
     }
     None
+}
+
+/// The first file that waits under this key, from one on and before an end.
+fn first_from<A: Allocator>(
+    waiting: &Waiting<A>,
+    key: Key,
+    from: usize,
+    end: usize,
+) -> Option<usize>
+    requires { from ≤ end }
+    ensures none { IfNone result (NoneWaits key from end waiting.now) }
+    ensures first { IfSome result (λ file. (from ≤ file) × (file < end) × NoneWaits key from file waiting.now) }
+{
+    match waiting.range((key, from)..(key, end)).next() {
+        Some(turn) => Some(turn.1),
+        None => None,
+    }
 }
 
 /// The first file whose next transaction can have made an entry, else the number of the files. The transaction is then
@@ -128,18 +145,17 @@ pub(crate) fn owner_of<A: Allocator + Copy>(
     entry: &Entry<A>,
 ) -> Result<usize, AllocError>
     requires waiting { AreWaiting wanted.old waiting.old }
-    requires no_others { NoOthersWait wanted.old waiting.old }
+    requires numbered { IsNumbered entry.now.reply }
     ensures first { IfOk result (IsFirst wanted.old entry.now) }
-    ensures moved { IfOk result (HasMovedOn wanted.old wanted.new) }
+    ensures moved { IfOk result (HasMovedOn entry.now wanted.old wanted.new) }
     ensures waiting { OnOk result (AreWaiting wanted.new waiting.new) }
-    ensures no_others { OnOk result (NoOthersWait wanted.new waiting.new) }
 {
     let key = Key::of(Told::of(entry.reply()), entry.call());
     let Some(file) = first_of(wanted, waiting, key, entry) else {
         return Ok(wanted.len());
     };
     let _ = waiting.remove(&(key, file));
-    wanted[file].pass();
+    wanted[file].pass(entry)?;
     if let Some(key) = wanted[file].next_key() {
         waiting.insert((key, file))?;
     }

@@ -1,13 +1,13 @@
-ghost use Rattle.std.specs.Prelude.{◌≡◌, ◌+◌, ◌≤◌, true, false, length, IfOk, IfErr, IfSome, OnOk};
-ghost use Rattle.std.specs.Io.KnownBytes.{IsAtEnd};
+ghost use Rattle.std.specs.Prelude.{◌≡◌, ◌+◌, ◌≤◌, false, length, IfOk, IfErr, IfSome, OnOk};
 ghost use Rattle.byte_streams.specs.GivenBytes.{HasGiven};
 ghost use Rattle.work_registry.specs.Register.{IsAudited};
-ghost use Rattle.kept_register.specs.Auditing.{IsAnswerTo, IsUnaudited};
+ghost use Rattle.kept_register.specs.Auditing.{IsUnaudited};
 
-use crate::reading::{NoBook, unread};
-use byte_streams::{Source, Window};
+use crate::reading::NoBook;
+use crate::taking::{Audit, no_book};
+use byte_streams::{Source, consume};
 use std::alloc::Allocator;
-use work_registry::{Auditor, RegisterRefusal};
+use work_registry::Auditor;
 
 /// How many bytes of a register the program holds while it is read or audited, unless a line is longer.
 pub const REGISTER_WINDOW: usize = 65_536;
@@ -33,46 +33,11 @@ pub fn audit_source<S: Source, A: Allocator + Copy + Drop>(
     ensures read_on { HasGiven (S.left reader.old) (S.left reader.new) }
     ensures few_reads { S.reads reader.new ≤ S.reads reader.old + limit + 1 }
 {
-    let Ok(mut window) = Window::new(alloc, limit, room) else {
-        return Err(NoBook::Memory);
+    let lines = Audit {
+        auditor: Auditor::new(alloc),
     };
-    let mut auditor = Auditor::new(alloc);
-    while !window.is_ended() {
-        match auditor.take_lines(window.held()) {
-            Ok(count) => window.pass(count),
-            Err(refusal) => return Err(refused(&mut window, reader, refusal)),
-        }
-        match window.fill_line(reader) {
-            Ok(()) => {}
-            Err(stopped) => return Err(unread(stopped)),
-        }
-    }
-    match auditor.finish(window.held()) {
+    match consume(alloc, reader, limit, room, lines) {
         Ok(count) => Ok(count),
-        Err(refusal) => Err(refused(&mut window, reader, refusal)),
-    }
-}
-
-/// What is answered of a register with this refusal: for want of memory at once, and for a fault once the register was
-/// read to its end.
-pub(crate) fn refused<S: Source, A: Allocator>(
-    window: &mut Window<A>,
-    reader: &mut S,
-    refusal: RegisterRefusal,
-) -> NoBook
-    requires going { S.has_failed reader.old ≡ false }
-    requires at_end { window.old.is_ended ≡ true → IsAtEnd (S.left reader.old) }
-    requires within { window.old.read ≤ window.old.limit }
-    ensures answer { IsAnswerTo window.old (S.left reader.old) (S.left reader.new) (S.has_failed reader.new) refusal result }
-    ensures read_on { HasGiven (S.left reader.old) (S.left reader.new) }
-    ensures few_reads { S.reads reader.new + window.old.read ≤ S.reads reader.old + window.old.limit + 1 }
-    ensures none { window.old.is_ended ≡ true → S.reads reader.new ≡ S.reads reader.old }
-{
-    if let RegisterRefusal::Memory = refusal {
-        return NoBook::Memory;
-    }
-    match window.drain(reader) {
-        Ok(()) => NoBook::Refused(refusal),
-        Err(stopped) => unread(stopped),
+        Err(why) => Err(no_book(why)),
     }
 }

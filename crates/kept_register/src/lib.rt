@@ -5,6 +5,7 @@
 mod auditing;
 mod keeping;
 mod reading;
+mod taking;
 
 pub use auditing::{REGISTER_WINDOW, audit_source};
 pub use cwr_field::Memory;

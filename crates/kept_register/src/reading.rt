@@ -8,10 +8,10 @@ ghost use Rattle.work_registry.specs.Replay.{is_opening};
 ghost use Rattle.work_registry.specs.declared.register.refusal.RegisterRefusal.{RegisterRefusal};
 ghost use Rattle.work_registry.specs.declared.register.refusal.RegisterRefusal.TheVariants.{Memory as refused};
 ghost use Rattle.kept_register.specs.declared.reading.NoBook.{NoBook};
-ghost use Rattle.kept_register.specs.Auditing.{IsUnaudited, answer_for};
 
-use crate::auditing::{REGISTER_WINDOW, refused};
-use byte_streams::{ReadRefused, Source, Window};
+use crate::auditing::REGISTER_WINDOW;
+use crate::taking::{Read, no_book};
+use byte_streams::{Source, consume};
 use cwr_field::MOST_COUNT;
 use std::alloc::Allocator;
 use thiserror::Error;
@@ -68,56 +68,11 @@ pub fn read_book<S: Source, A: Allocator + Copy + Drop>(
     ensures read_on { HasGiven (S.left reader.old) (S.left reader.new) }
     ensures few_reads { S.reads reader.new ≤ S.reads reader.old + 68719476738 }
 {
-    book_of_source(alloc, reader, MOST_REGISTER_BYTES, REGISTER_WINDOW)
-}
-
-/// The book of the register that a reader gives, of at most `limit` bytes.
-///
-/// It is read as it comes, through a window of `room` bytes. A text that is no register gives its first fault, once it
-/// was read to its end.
-fn book_of_source<S: Source, A: Allocator + Copy + Drop>(
-    alloc: A,
-    reader: &mut S,
-    limit: usize,
-    room: usize,
-) -> Result<Book<A>, NoBook>
-    requires { S.has_failed reader.old ≡ false }
-    ensures text { IfOk result (λ book. IfSome (S.left reader.old) (λ bytes. bytes ≡ register_text book.history)) }
-    ensures lawful { IfOk result (λ book. IsHistory book.history) }
-    ensures opening { IfOk result (λ book. IsTrue (is_opening book.history)) }
-    ensures limit { IfOk result (λ book. book.limit ≡ most_entries) }
-    ensures going { OnOk result (S.has_failed reader.new ≡ false) }
-    ensures unread { IfErr result (IsUnaudited limit (S.left reader.old) (S.has_failed reader.new)) }
-    ensures read_on { HasGiven (S.left reader.old) (S.left reader.new) }
-    ensures few_reads { S.reads reader.new ≤ S.reads reader.old + limit + 1 }
-{
-    let Ok(mut window) = Window::new(alloc, limit, room) else {
-        return Err(NoBook::Memory);
+    let lines = Read {
+        reader: RegisterReader::new(alloc, MOST_COUNT),
     };
-    let mut lines = RegisterReader::new(alloc, MOST_COUNT);
-    while !window.is_ended() {
-        match lines.take_lines(window.held()) {
-            Ok(count) => window.pass(count),
-            Err(refusal) => return Err(refused(&mut window, reader, refusal)),
-        }
-        match window.fill_line(reader) {
-            Ok(()) => {}
-            Err(stopped) => return Err(unread(stopped)),
-        }
-    }
-    match lines.finish(window.held()) {
+    match consume(alloc, reader, MOST_REGISTER_BYTES, REGISTER_WINDOW, lines) {
         Ok(book) => Ok(book),
-        Err(refusal) => Err(refused(&mut window, reader, refusal)),
-    }
-}
-
-/// What is answered where a register was not read.
-pub(crate) fn unread(stopped: ReadRefused) -> NoBook
-    ensures { result ≡ answer_for stopped }
-{
-    match stopped {
-        ReadRefused::Memory => NoBook::Memory,
-        ReadRefused::Read => NoBook::Read,
-        ReadRefused::TooLong => NoBook::TooLong,
+        Err(why) => Err(no_book(why)),
     }
 }

@@ -1,6 +1,10 @@
-//! Words that are to name files.
+//! Words that are to name files, and the name of a file's acknowledgement.
+
+ghost use Rattle.std.specs.Prelude.{IfOk, IsTrue, string_bytes};
+ghost use Rattle.run_words.specs.RunFault.{is_acknowledgement};
 
 use clap::ArgMatches;
+use std::alloc::AllocError;
 
 /// The words that name files, each with what is told of one that is empty.
 const NAMES: [(&str, &str); 5] = [
@@ -30,4 +34,11 @@ fn has_empty(words: &[&str]) -> bool {
         }
     }
     false
+}
+
+/// The name of the acknowledgement of a file of this name.
+pub(crate) fn ack_name<R: AllocGlobal>(rt: &R, file: &str) -> Result<String, AllocError>
+    ensures { IfOk result (λ name. IsTrue (is_acknowledgement file.now (string_bytes name))) }
+{
+    format!(in rt.alloc(); "{file}.ack")
 }

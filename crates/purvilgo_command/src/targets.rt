@@ -1,5 +1,6 @@
 //! The files that a run writes.
 
+use crate::file_names::ack_name;
 use crate::run_command::RunWords;
 use crate::same_files::is_one_file;
 use cwr_field::Memory;
@@ -44,7 +45,7 @@ impl Targets {
 fn answers_to<R: AllocGlobal + Files>(rt: &R, files: &[&str]) -> Result<Vec<FileNames>, Memory> {
     let mut words = Vec::with_capacity(rt.alloc(), files.len())?;
     for file in files {
-        words.push(format!(in rt.alloc(); "{file}.ack")?)?;
+        words.push(ack_name(rt, file)?)?;
     }
     FileNames::of_words(rt, &words)
 }

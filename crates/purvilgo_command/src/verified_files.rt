@@ -1,6 +1,7 @@
 //! Files and their acknowledgements against a register.
 
 use crate::arguments::{Argument, CommandWords};
+use crate::file_names::ack_name;
 use crate::files::InputFile;
 use crate::help::VERIFY_HELP;
 use crate::printing::StandardOutput;
@@ -114,7 +115,7 @@ fn answer_to<R: AllocGlobal + Eprint>(
 ) -> Result<String, ExitCode> {
     let answer = match ack {
         Some(ack) => format!(in rt.alloc(); "{ack}"),
-        None => format!(in rt.alloc(); "{name}.ack"),
+        None => ack_name(rt, name),
     };
     match answer {
         Ok(answer) => Ok(answer),

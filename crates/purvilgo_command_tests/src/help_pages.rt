@@ -144,3 +144,18 @@ fn tells_more_in_long_help(rt: HostRuntime) -> Result<(), Fail> {
     }
     expect_page(&rt, &["purvilgo", "help"], &parts)
 }
+
+/// Long help tells what a command reads, and where that may be standard input.
+#[test]
+fn tells_what_is_read(rt: HostRuntime) -> Result<(), Fail> {
+    let names = ["Reads: ", "standard input where REGISTER is -"];
+    for command in [
+        "audit", "claims", "works", "history", "summary", "verify", "answer",
+    ] {
+        expect_page(&rt, &["purvilgo", "help", command], &names)?;
+    }
+    let names = ["Reads: ", "standard input where FILE is -"];
+    expect_page(&rt, &["purvilgo", "help", "check"], &names)?;
+    expect_page(&rt, &["purvilgo", "help", "run"], &["Reads: "])?;
+    expect_page(&rt, &["purvilgo", "help"], &["Reads: standard input."])
+}

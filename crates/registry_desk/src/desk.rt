@@ -60,8 +60,7 @@ impl<A: Allocator + Copy + Drop> Desk<A> {
         ensures opened { IfOk result (λ r. r.1 ≡ record { desk = r.0; view = opening_view book seats }) }
         ensures refused { IfErr result (λ e. e.book ≡ book) }
     {
-        // Looking at it tells the check what holds in every book.
-        let _entries = book.history().len();
+        book.recall();
         let opening = Opening {
             book: Snapshot::of(&book),
             seats,

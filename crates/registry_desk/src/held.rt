@@ -62,12 +62,11 @@ impl<A: Allocator + Copy + Drop> HeldBook<A> {
         self.book.apply(session, call)
     }
 
-    /// How many entries there are.
-    pub(crate) fn len(&self) -> usize
-        ensures value { result ≡ length self.now.history }
+    /// Does nothing: a proof has from it what holds in every book.
+    pub(crate) fn recall(&self)
         ensures lawful { IsHistory self.now.history }
         ensures fits { length self.now.history ≤ self.now.limit }
     {
-        self.book.history().len()
+        self.book.recall();
     }
 }

@@ -41,8 +41,7 @@ impl<A: Allocator + Copy + Drop> Inside<A> {
     {
         match self.book.apply(self.counts.session, call) {
             Ok(reply) => {
-                // Looking at it tells the check what holds in every book.
-                let _entries = self.book.len();
+                self.book.recall();
                 self.unused = false;
                 Ok(reply)
             }

@@ -1,9 +1,7 @@
 -- A register that is read a line at a time.
-use Rattle.std.proofs.Common.{◌≡◌, ℕ, List, length, Option, Some, None, arith, ap, sym, subst}
+use Rattle.std.proofs.Common.{◌≡◌, ℕ, List, length, Option, Some, None, arith, ap, subst}
 use Rattle.std.specs.Prelude.{◌≤◌}
 use Rattle.work_registry.specs.EntryValue.{EntryValue}
-use Rattle.work_registry.specs.Auditing.{IsLeftAfter}
-use Rattle.work_registry.specs.Numbers.{most_entries}
 use Rattle.work_registry.specs.RegisterReader.{ReaderState, HasCounted, IsRest, IsRestAfter}
 use Rattle.work_registry.specs.RegisterReading.{IsReadTo}
 
@@ -23,13 +21,3 @@ counted_later limit o history count e is = let P : Option ℕ → Type 0 = λ x.
 pub counted_within : (limit : ℕ) (o : Option ℕ) (history : List EntryValue) → HasCounted limit o history → length history ≤ limit
 counted_within limit None history is = let none = ap length is in omega (arith, none)
 counted_within limit (Some count) history is = omega (arith, is.0, is.1)
-
--- what is left to an audit is what is left to a reader of as many entries as there can be
-
-pub rest_of_left : (limit : ℕ) (o : Option ℕ) (history : List EntryValue) (text rest : List ℕ) → limit ≡ most_entries → IsLeftAfter o history text rest → IsRestAfter limit o history text rest
-rest_of_left limit None history text rest e left = left
-rest_of_left limit (Some count) history text rest e left = let P : ℕ → Type 0 = λ n. IsReadTo n text count history rest in subst P (sym e) left
-
-pub left_of_rest : (limit : ℕ) (o : Option ℕ) (history : List EntryValue) (text rest : List ℕ) → limit ≡ most_entries → IsRestAfter limit o history text rest → IsLeftAfter o history text rest
-left_of_rest limit None history text rest e left = left
-left_of_rest limit (Some count) history text rest e left = let P : ℕ → Type 0 = λ n. IsReadTo n text count history rest in subst P e left

@@ -8,10 +8,7 @@ pub mod LaterHistories
 pub mod Decided
 pub mod GrowingBooks
 pub mod ReopenedBooks
-pub mod EightDigits
-pub mod ZeroDigits
 pub mod WrittenDigits
-pub mod CodeDigits
 pub mod CleanBytes
 pub mod CleanCalls
 pub mod RegisterFields

@@ -1,5 +1,5 @@
 -- Digits that are written: zeros in front of a number, and the digits of a work's code.
-use Rattle.std.proofs.Common.{◌≡◌, ◌∙◌, ℕ, zero, suc, ◌+◌, ◌-◌, ◌*◌, ◌/◌, ◌%◌, ◌<◌, ◌≤◌, ◌^◌, List, [], ◌∷◌, ◌++◌, length, arith, ap, sym, append_assoc}
+use Rattle.std.proofs.Common.{◌≡◌, ◌∙◌, ℕ, zero, suc, ◌+◌, ◌-◌, ◌/◌, ◌%◌, ◌<◌, ◌≤◌, ◌^◌, List, [], ◌∷◌, ◌++◌, length, arith, ap, sym, append_assoc}
 use Rattle.std.specs.Prelude.{replicate}
 use Rattle.std.proofs.lemmas.List.{append-nil}
 use Rattle.std.proofs.Math.Nat.{pow-suc}
@@ -38,7 +38,3 @@ pub two_parts : (line first second front back text behind : List ℕ) → second
     → second ++ behind ≡ line ++ (text ++ behind)
 two_parts line first second front back text behind p q is =
     p ∙ q ∙ ap (λ (xs : List ℕ). line ++ xs) (sym (append_assoc front back behind) ∙ ap (λ (xs : List ℕ). xs ++ behind) is)
-
--- the sum of a check digit, from the digits
-pub check_sum : (a b c d e f g h i : ℕ) → 1 + (a + 2 * b + 3 * c + 4 * d + 5 * e) + 6 * f + 7 * g + 8 * h + 9 * i ≡ 1 + (0 + 1 * a + 2 * b + 3 * c + 4 * d + 5 * e + 6 * f + 7 * g + 8 * h + 9 * i)
-check_sum a b c d e f g h i = omega arith

@@ -19,5 +19,4 @@ pub mod Register
 pub mod RegisterInPieces
 pub mod RegisterFaults
 pub mod RegisterReading
-pub mod Auditing
 pub mod RegisterReader

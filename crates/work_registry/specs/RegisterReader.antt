@@ -1,5 +1,5 @@
 -- A register that is read as it comes: how far it was read.
-use Rattle.std.specs.Prelude.{◌≡◌, ◌≤◌, ℕ, List, [], length, Option, Some, None, true}
+use Rattle.std.specs.Prelude.{◌≡◌, ◌≤◌, ℕ, List, [], length, Option, Some, None, Bool, true}
 use Rattle.work_registry.specs.EntryValue.{EntryValue}
 use Rattle.work_registry.specs.Numbers.{most_entries}
 use Rattle.work_registry.specs.RegisterReading.{IsReadTo}
@@ -13,6 +13,11 @@ pub record ReaderState : Type 0 where
   -- the entries so far
   pub history : List EntryValue
 
+-- the same of one that keeps its entries, or none
+pub record LinesState : Type 0 where
+  pub keeps : Bool
+  pub read : ReaderState
+
 abbrev pub HasCounted : ℕ → Option ℕ → List EntryValue → Type 0
 HasCounted limit None history = history ≡ []
 HasCounted limit (Some count) history = (length history ≤ count) × (count ≤ limit)
@@ -21,6 +26,7 @@ HasCounted limit (Some count) history = (length history ≤ count) × (count ≤
 -- it, and all are of the opening
 pub record IsReader (limit : ℕ) (count : Option ℕ) (history : List EntryValue) : Type 0 where
   pub counted : HasCounted limit count history
+  pub least : 1 ≤ limit
   pub most : limit ≤ most_entries
   pub opening : is_opening history ≡ true
 

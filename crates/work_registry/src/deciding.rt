@@ -1,5 +1,6 @@
-ghost use Rattle.std.specs.Prelude.{◌≡◌, ◌≤◌, ◌||◌, ◌+◌, slice_index, nat_lt, IsTrue};
+ghost use Rattle.std.specs.Prelude.{◌≡◌, ◌≤◌, ◌||◌, ◌+◌, length, slice_index, nat_lt, IsTrue};
 ghost use Rattle.cwr_call.specs.Lawful.{is_iswc};
+ghost use Rattle.work_registry.specs.History.{IsHistory};
 ghost use Rattle.work_registry.specs.Rows.{rows_of, key_of};
 ghost use Rattle.work_registry.specs.Works.{others_of, work_count, work_of_iswc};
 ghost use Rattle.work_registry.specs.Reply.{reply_to, reply_for_work, is_over, work_for, clashes, differs, most_control};
@@ -43,6 +44,15 @@ impl<'a, A: Allocator + Copy + Drop> Model for Known<'a, A> {
 }
 
 impl<'a, A: Allocator + Copy + Drop> Known<'a, A> {
+    /// Does nothing: a proof has from it what holds of the history.
+    #[inline(always)]
+    fn recall(&self)
+        ensures lawful { IsHistory self.now }
+        ensures few { length self.now ≤ most_entries }
+    {
+        let _ = &self.past;
+    }
+
     /// What is decided on a call.
     pub(crate) fn decide(&self, call: &Call<A>) -> Decision
         ensures { result ≡ decision_on (rows_of self.now) call.now }
@@ -67,10 +77,9 @@ impl<'a, A: Allocator + Copy + Drop> Known<'a, A> {
     pub(crate) fn work_of_iswc(&self, iswc: u64) -> Option<u32>
         ensures { result ≡ work_of_iswc iswc (rows_of self.now) }
     {
-        // Looking at it tells the check what holds of the history.
-        let _ = &self.past;
+        let iswcs = &self.kept.iswcs;
         let iswc = u32::try_from(iswc).ok()?;
-        self.kept.iswcs.get(&iswc).copied()
+        iswcs.get(&iswc).copied()
     }
 
     /// The reply to a call, from the claim under its key.
@@ -111,8 +120,7 @@ impl<'a, A: Allocator + Copy + Drop> Known<'a, A> {
         requires known { claim ≡ kept_claim (key_of call.now) (rows_of self.now) }
         ensures { result ≡ reply_for_work (rows_of self.now) call.now work }
     {
-        // Looking at it tells the check what holds of the history.
-        let _ = &self.past;
+        self.recall();
         if self.is_over(key, claim, work, call.control()) {
             return Reply::Conflict { work };
         }
@@ -131,8 +139,7 @@ impl<'a, A: Allocator + Copy + Drop> Known<'a, A> {
         requires { claim ≡ kept_claim key.now (rows_of self.now) }
         ensures { result ≡ is_over work key.now control (rows_of self.now) }
     {
-        // Looking at it tells the check what holds of the history.
-        let _ = &self.past;
+        self.recall();
         are_over_whole(self.others(key, claim, work), control)
     }
 
@@ -172,8 +179,7 @@ impl<'a, A: Allocator + Copy + Drop> Known<'a, A> {
     pub(crate) fn work(&self, work: u32) -> KeptWork
         ensures { result ≡ kept_work work (rows_of self.now) }
     {
-        // Looking at it tells the check what holds of the history.
-        let _ = &self.past;
+        self.recall();
         if work == 0 {
             return KeptWork {
                 iswc: None,
@@ -231,8 +237,7 @@ impl<'a, A: Allocator + Copy + Drop> Known<'a, A> {
         requires decided { reply ≡ reply_to (rows_of self.now) call.now }
         ensures { result ≡ change_of (rows_of self.now) call.now reply }
     {
-        // Looking at it tells the check what holds of the history.
-        let _ = &self.past;
+        self.recall();
         let Reply::Accepted { work, version } = reply else {
             return None;
         };

@@ -16,9 +16,7 @@ ghost use Rattle.work_registry.specs.RegisterFaults.{IsRefusal};
 
 mod auditor;
 mod calls;
-mod clean;
 mod columns;
-mod digits;
 mod entry_line;
 mod faults;
 mod fields;

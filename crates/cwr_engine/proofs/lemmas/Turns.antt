@@ -1,8 +1,8 @@
 -- Jobs that were worked in turn at one book.
-use Rattle.std.proofs.Common.{◌≡◌, ◌≢◌, ◌∙◌, ℕ, zero, suc, ◌+◌, ◌<◌, ◌≤◌, Bool, true, false, cond, nat_le, List, [], ◌∷◌, ◌++◌, All, length, reverse, refl, sym, ap, subst, arith, append-nil, append_assoc, length-append}
+use Rattle.std.proofs.Common.{◌≡◌, ◌≢◌, ◌∙◌, ℕ, zero, suc, ◌+◌, ◌-◌, ◌<◌, ◌≤◌, Bool, true, false, cond, nat_le, List, [], ◌∷◌, ◌++◌, All, length, reverse, refl, sym, ap, subst, arith, append-nil, append_assoc, length-append}
 use Rattle.std.specs.Prelude.{◌==◌, if◌then◌else◌, slice_index_or}
 use Rattle.std.proofs.lemmas.Bool.Decides.{nat_tests}
-use Rattle.std.proofs.lemmas.List.{reverse-reverse, append_cancel_left}
+use Rattle.std.proofs.lemmas.List.{reverse-reverse, append_cancel_left, get_or-reverse, length-reverse}
 use Rattle.std.proofs.lemmas.List.Elements.{filter-append}
 use Rattle.cwr_call.specs.CallValue.{CallValue}
 use Rattle.work_registry.specs.BookValue.{BookValue}
@@ -65,6 +65,12 @@ pub rest_holds : {J : Type 0} (P : J → Type 0) (all rest : List J) (x : J) →
 rest_holds P all rest x h is = λ k d lt.
     (let long = ap length is in let more = length-append rest (x ∷ []) in
     subst P (ap (λ l. slice_index_or l k d) is ∙ at_front rest x d k lt) (h k d (omega (arith, long, more, lt))))
+
+-- and what holds of all holds of them turned round
+pub turned_holds : {J : Type 0} (P : J → Type 0) (all turned : List J) → All P all → turned ≡ reverse all → All P turned
+turned_holds P all turned h e = λ k d lt.
+    let long : k < length all = omega (arith, lt, ap length e, length-reverse all) in
+    subst P (sym (ap (λ xs. slice_index_or xs k d) e ∙ get_or-reverse all k d long)) (h (length all - 1 - k) d (omega (arith, long)))
 
 -- ---- one job, and all jobs
 

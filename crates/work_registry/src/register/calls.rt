@@ -1,15 +1,14 @@
 //! The call in the line of an entry. Of a call without faults it is seen at once that it is lawful.
 
 ghost use Rattle.std.specs.Prelude.{◌≡◌, ◌≤◌, [], length, is_some, IfSome, IsTrue};
-ghost use Rattle.cwr_call.specs.Lawful.{are_at_most, is_clean, is_iswc, is_lawful};
+ghost use Rattle.cwr_call.specs.Lawful.{is_clean, is_lawful};
 ghost use Rattle.cwr_record.specs.Columns.{field_at};
 ghost use Rattle.work_registry.specs.RegisterColumns as column;
 ghost use Rattle.work_registry.specs.RegisterLine.{line_from};
 
-use super::clean::are_most_clean;
 use super::head::HeadInLine;
-use cwr_call::{Call, Faults};
-use cwr_field::{MOST_CODE, MOST_WHOLE};
+use cwr_call::{Call, Faults, are_at_most, is_iswc};
+use cwr_field::{CONTROLS, MOST_WHOLE, has_in_block};
 use std::alloc::Allocator;
 
 /// Whether the texts in the line of an entry have no control byte. They stand in its first hundred bytes.
@@ -18,26 +17,7 @@ pub(super) fn are_texts_clean(line: &[u8]) -> bool
     requires { 100 ≤ length line.now }
     ensures { IsTrue result → IsTrue (is_clean (field_at line.now column.submitter)) × IsTrue (is_clean (field_at line.now column.title)) × IsTrue (is_clean (field_at line.now column.number)) }
 {
-    are_most_clean(line, 0) && are_most_clean(line, 36)
-}
-
-/// Whether the number has no more digits than an ISWC.
-#[inline(always)]
-fn is_iswc(iswc: Option<u64>) -> bool
-    ensures { result ≡ is_iswc iswc }
-{
-    match iswc {
-        None => true,
-        Some(number) => number <= MOST_CODE,
-    }
-}
-
-/// Whether no control is above the limit.
-#[inline(always)]
-fn are_at_most(limit: u64, control: &[u64]) -> bool
-    ensures { result ≡ are_at_most limit control.now }
-{
-    control.iter().all(|right| *right <= limit)
+    !has_in_block(line, 0, CONTROLS) && !has_in_block(line, 36, CONTROLS)
 }
 
 /// Whether these fields, the texts of which are clean, can be those of a call without faults.

@@ -9,10 +9,9 @@ ghost use Rattle.work_registry.specs.RegisterLine.{head};
 ghost use Rattle.work_registry.specs.declared.register.head.Head.{Head};
 
 use super::columns;
-use super::digits::digits_at;
 use super::entry_line::Told;
 use super::fields::code_at;
-use cwr_record::{Status, WorkKind, field_at};
+use cwr_record::{Status, WorkKind, digits_at, field_at};
 use std::marker::Model;
 
 /// What the fields of fixed place spell.

@@ -1,6 +1,6 @@
-//! The lines of a register, one after another: the step that its audit and its reading share.
+//! The lines of a register, one after another: its audit and its reading differ in keeping the entries alone.
 
-ghost use Rattle.std.specs.Prelude.{◌≡◌, ◌≤◌, ◌<◌, ◌++◌, ◌∷◌, [], ℕ, List, None, Some, true, false, length, vec_len, vec_capacity, IfSome, OnOk, OnErr, IfOk, IfErr};
+ghost use Rattle.std.specs.Prelude.{◌≡◌, ◌≤◌, ◌<◌, ◌++◌, ◌∷◌, [], ℕ, List, None, Some, true, false, drop, length, IfSome, OnOk, OnErr, IfOk, IfErr};
 ghost use Rattle.std.specs.List.{AllByRecursion};
 ghost use Rattle.work_registry.specs.History.{IsHistory};
 ghost use Rattle.work_registry.specs.Numbers.{most_entries};
@@ -9,14 +9,16 @@ ghost use Rattle.work_registry.specs.RegisterFaults.{has_end, IsRefusal};
 ghost use Rattle.work_registry.specs.RegisterReader.{IsRest};
 ghost use Rattle.work_registry.specs.Replay.{is_opening};
 
-use super::reading::{audit_line, fault, first_count, next_number, no_line, read_line};
+use super::lines::cut_line;
+use super::reading::{fault, first_count, next_number, no_line, read_line};
 use super::refusal::RegisterRefusal;
+use crate::book::Book;
 use crate::entry::Entry;
 use crate::ledger::Ledger;
 use std::alloc::Allocator;
 use std::marker::Model;
 
-/// Reads a register line by line, and decides anew on each call. It keeps no entry itself.
+/// Reads a register that comes a piece at a time, and decides anew on each call.
 ///
 /// A contract sees how many entries there may be, how many the first line tells, once it was read, and the entries so
 /// far.
@@ -28,30 +30,78 @@ pub(super) struct LineReader<A: Allocator + Copy + Drop> {
     count: Option<u32>,
     /// How many entries there may be.
     limit: u32,
+    /// Whether entries are kept.
+    keeps: bool,
+    /// The entries so far, where they are kept.
+    history: Vec<Entry<A>, A>,
 }
 
 impl<A: Allocator + Copy + Drop> Model for LineReader<A> {
-    ghost use Rattle.work_registry.specs.RegisterReader.{IsReader, ReaderState};
+    ghost use Rattle.std.specs.Prelude.{◌≡◌, true};
+    ghost use Rattle.work_registry.specs.RegisterReader.{IsReader, LinesState};
 
-    ghost Value = { ReaderState };
+    ghost Value = { LinesState };
 
-    ghost view = { λ r. record { limit = r.limit; count = r.count; history = r.ledger } };
+    ghost view = { λ r. record { keeps = r.keeps; read = record { limit = r.limit; count = r.count; history = r.ledger } } };
 
-    ghost invariant = { λ r. IsReader r.limit r.count r.ledger };
+    ghost invariant = { λ r. IsReader r.limit r.count r.ledger × (r.keeps ≡ true → r.history.items ≡ r.ledger) };
 }
 
 impl<A: Allocator + Copy + Drop> LineReader<A> {
     /// Begins before the first line. No memory is asked for.
-    pub(super) fn new(alloc: A, limit: u32) -> LineReader<A>
-        requires { limit ≤ most_entries }
-        ensures { result ≡ record { limit = limit; count = None; history = [] } }
+    pub(super) fn new(alloc: A, limit: u32, keeps: bool) -> LineReader<A>
+        requires least { 1 ≤ limit }
+        requires most { limit ≤ most_entries }
+        ensures { result ≡ record { keeps = keeps; read = record { limit = limit; count = None; history = [] } } }
     {
         LineReader {
             alloc,
             ledger: Ledger::new(alloc),
             count: None,
             limit,
+            keeps,
+            history: Vec::new(alloc),
         }
+    }
+
+    /// Reads the whole lines of a piece, and answers how many bytes they are.
+    pub(super) fn take_lines(&mut self, piece: &[u8]) -> Result<usize, RegisterRefusal>
+        ensures within { IfOk result (λ count. count ≤ length piece.now) }
+        ensures whole { IfOk result (λ count. has_end (drop count piece.now) ≡ false) }
+        ensures read { IfOk result (λ count. (text later : List ℕ) → IsRest self.old.read text (piece.now ++ later) → IsRest self.new.read text (drop count piece.now ++ later)) }
+        ensures limit { self.new.read.limit ≡ self.old.read.limit }
+        ensures keeps { self.new.keeps ≡ self.old.keeps }
+        ensures fault { IfErr result (λ refusal. (text later : List ℕ) → IsRest self.old.read text (piece.now ++ later) → IsRefusal self.old.read.limit text refusal) }
+    {
+        let mut rest = piece;
+        while let Some((line, more)) = cut_line(rest) {
+            self.take_line(line)?;
+            rest = more;
+        }
+        Ok(piece.len() - rest.len())
+    }
+
+    /// Reads the rest of a register, to its end.
+    pub(super) fn finish(mut self, rest: &[u8]) -> Result<LineReader<A>, RegisterRefusal>
+        ensures text { IfOk result (λ lines. (text : List ℕ) → IsRest self.read text rest.now → text ≡ register_text lines.read.history) }
+        ensures whole { IfOk result (λ lines. (text : List ℕ) → IsRest self.read text rest.now → AllByRecursion IsWholeEntry lines.read.history) }
+        ensures lawful { IfOk result (λ lines. IsHistory lines.read.history) }
+        ensures limit { IfOk result (λ lines. lines.read.limit ≡ self.read.limit) }
+        ensures keeps { IfOk result (λ lines. lines.keeps ≡ self.keeps) }
+        ensures fault { IfErr result (λ refusal. (text : List ℕ) → IsRest self.read text rest.now → IsRefusal self.read.limit text refusal) }
+    {
+        let taken = self.take_lines(rest)?;
+        self.end(&rest[taken..])?;
+        Ok(self)
+    }
+
+    /// How many entries there are so far.
+    pub(super) fn len(&self) -> u32
+        ensures value { result ≡ length self.now.read.history }
+        ensures opening { is_opening self.now.read.history ≡ true }
+        ensures few { result ≤ most_entries }
+    {
+        self.ledger.len()
     }
 
     /// How many entries the first line told, where a line, which has no LF at its end here, can be that of one more; `None`
@@ -59,15 +109,16 @@ impl<A: Allocator + Copy + Drop> LineReader<A> {
     #[inline(always)]
     fn count_before(&mut self, line: &[u8]) -> Result<Option<u32>, RegisterRefusal>
         requires { has_end line.now ≡ false }
-        ensures first { IfOk result (λ o. o ≡ None → (text more : List ℕ) → IsRest self.old text (line.now ++ 10 ∷ more) → IsRest self.new text more) }
+        ensures first { IfOk result (λ o. o ≡ None → (text more : List ℕ) → IsRest self.old.read text (line.now ++ 10 ∷ more) → IsRest self.new.read text more) }
         ensures same { IfOk result (λ o. IfSome o (λ count. self.new ≡ self.old)) }
-        ensures counted { IfOk result (λ o. IfSome o (λ count. self.old.count ≡ Some count)) }
-        ensures more { IfOk result (λ o. IfSome o (λ count. length self.old.history < count)) }
+        ensures counted { IfOk result (λ o. IfSome o (λ count. self.old.read.count ≡ Some count)) }
+        ensures more { IfOk result (λ o. IfSome o (λ count. length self.old.read.history < count)) }
         ensures few { IfOk result (λ o. IfSome o (λ count. count ≤ most_entries)) }
-        ensures history { self.new.history ≡ self.old.history }
-        ensures limit { self.new.limit ≡ self.old.limit }
+        ensures history { self.new.read.history ≡ self.old.read.history }
+        ensures limit { self.new.read.limit ≡ self.old.read.limit }
+        ensures keeps { self.new.keeps ≡ self.old.keeps }
         ensures unchanged { OnErr result (self.new ≡ self.old) }
-        ensures fault { IfErr result (λ refusal. (text more : List ℕ) → IsRest self.old text (line.now ++ 10 ∷ more) → IsRefusal self.old.limit text refusal) }
+        ensures fault { IfErr result (λ refusal. (text more : List ℕ) → IsRest self.old.read text (line.now ++ 10 ∷ more) → IsRefusal self.old.read.limit text refusal) }
     {
         let Some(count) = self.count else {
             self.count = Some(first_count(line, self.limit)?);
@@ -79,54 +130,35 @@ impl<A: Allocator + Copy + Drop> LineReader<A> {
         Ok(Some(count))
     }
 
-    /// Reads a line, which has no LF at its end here, and keeps its entry, which the first line has not, as the last of the
-    /// history, which has room for one more. With a refusal nothing is changed.
-    pub(super) fn take_line(
-        &mut self,
-        line: &[u8],
-        history: &mut Vec<Entry<A>, A>,
-    ) -> Result<(), RegisterRefusal>
-        requires one { has_end line.now ≡ false }
-        requires spare { vec_len history.old < vec_capacity history.old }
-        ensures read { OnOk result ((text more : List ℕ) → IsRest self.old text (line.now ++ 10 ∷ more) → IsRest self.new text more) }
-        ensures kept { OnOk result (history.old.items ≡ self.old.history → history.new.items ≡ self.new.history) }
-        ensures limit { self.new.limit ≡ self.old.limit }
-        ensures unchanged { OnErr result (self.new ≡ self.old) }
-        ensures unkept { OnErr result (history.new.items ≡ history.old.items) }
-        ensures fault { IfErr result (λ refusal. (text more : List ℕ) → IsRest self.old text (line.now ++ 10 ∷ more) → IsRefusal self.old.limit text refusal) }
-    {
-        let Some(_count) = self.count_before(line)? else {
-            return Ok(());
-        };
-        read_line(self.alloc, &mut self.ledger, line, history)?;
-        Ok(())
-    }
-
-    /// The same, but no entry is kept.
-    pub(super) fn audit_line(&mut self, line: &[u8]) -> Result<(), RegisterRefusal>
+    /// Reads a line, which has no LF at its end here. With a refusal nothing is changed.
+    fn take_line(&mut self, line: &[u8]) -> Result<(), RegisterRefusal>
         requires { has_end line.now ≡ false }
-        ensures read { OnOk result ((text more : List ℕ) → IsRest self.old text (line.now ++ 10 ∷ more) → IsRest self.new text more) }
-        ensures limit { self.new.limit ≡ self.old.limit }
+        ensures read { OnOk result ((text more : List ℕ) → IsRest self.old.read text (line.now ++ 10 ∷ more) → IsRest self.new.read text more) }
+        ensures limit { self.new.read.limit ≡ self.old.read.limit }
+        ensures keeps { self.new.keeps ≡ self.old.keeps }
         ensures unchanged { OnErr result (self.new ≡ self.old) }
-        ensures fault { IfErr result (λ refusal. (text more : List ℕ) → IsRest self.old text (line.now ++ 10 ∷ more) → IsRefusal self.old.limit text refusal) }
+        ensures fault { IfErr result (λ refusal. (text more : List ℕ) → IsRest self.old.read text (line.now ++ 10 ∷ more) → IsRefusal self.old.read.limit text refusal) }
     {
         let Some(_count) = self.count_before(line)? else {
             return Ok(());
         };
-        audit_line(self.alloc, &mut self.ledger, line)?;
+        read_line(
+            self.alloc,
+            &mut self.ledger,
+            line,
+            self.keeps,
+            &mut self.history,
+        )?;
         Ok(())
     }
 
-    /// How many entries there are at the end, before which these bytes stand that no LF ends.
-    pub(super) fn end(&self, left: &[u8]) -> Result<u32, RegisterRefusal>
+    /// Sees the end, before which these bytes stand that no LF ends.
+    fn end(&self, left: &[u8]) -> Result<(), RegisterRefusal>
         requires { has_end left.now ≡ false }
-        ensures entries { IfOk result (λ count. length self.now.history ≡ count) }
-        ensures lawful { IsHistory self.now.history }
-        ensures opening { is_opening self.now.history ≡ true }
-        ensures few { length self.now.history ≤ most_entries }
-        ensures text { OnOk result ((text : List ℕ) → IsRest self.now text left.now → text ≡ register_text self.now.history) }
-        ensures whole { OnOk result ((text : List ℕ) → IsRest self.now text left.now → AllByRecursion IsWholeEntry self.now.history) }
-        ensures fault { IfErr result (λ refusal. (text : List ℕ) → IsRest self.now text left.now → IsRefusal self.now.limit text refusal) }
+        ensures text { OnOk result ((text : List ℕ) → IsRest self.now.read text left.now → text ≡ register_text self.now.read.history) }
+        ensures whole { OnOk result ((text : List ℕ) → IsRest self.now.read text left.now → AllByRecursion IsWholeEntry self.now.read.history) }
+        ensures lawful { OnOk result (IsHistory self.now.read.history) }
+        ensures fault { IfErr result (λ refusal. (text : List ℕ) → IsRest self.now.read text left.now → IsRefusal self.now.read.limit text refusal) }
     {
         let Some(count) = self.count else {
             return Err(no_line(left, 1));
@@ -138,15 +170,15 @@ impl<A: Allocator + Copy + Drop> LineReader<A> {
         if !left.is_empty() {
             return Err(fault(2, number));
         }
-        Ok(count)
+        Ok(())
     }
 
-    /// The ledger of the entries.
-    pub(super) fn into_ledger(self) -> Ledger<A>
-        ensures value { result ≡ self.history }
-        ensures opening { is_opening result ≡ true }
-        ensures fits { length result ≤ self.limit }
+    /// The book of the entries so far, which are kept.
+    pub(super) fn into_book(self) -> Book<A>
+        requires { self.keeps ≡ true }
+        ensures value { result ≡ record { history = self.read.history; limit = self.read.limit } }
+        ensures opening { is_opening self.read.history ≡ true }
     {
-        self.ledger
+        Book::opening_of(self.history, self.ledger, self.limit)
     }
 }

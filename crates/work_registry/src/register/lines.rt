@@ -7,8 +7,8 @@ ghost use Rattle.work_registry.specs.Register.{count_line};
 ghost use Rattle.work_registry.specs.RegisterColumns.{head_width};
 ghost use Rattle.work_registry.specs.RegisterFaults.{lines, has_end};
 
-use super::clean::are_most_clean;
 use super::columns::{self, COUNT_WIDTH, HEAD_WIDTH};
+use cwr_field::{CONTROLS, has_in_block};
 use cwr_record::{digits_at, field_at};
 use memchr::memchr;
 
@@ -24,10 +24,10 @@ fn ends_after_head(text: &[u8]) -> bool
     if text[HEAD_WIDTH] != b'\n' {
         return false;
     }
-    if !are_most_clean(text, 0) {
+    if has_in_block(text, 0, CONTROLS) {
         return false;
     }
-    are_most_clean(text, 64) && are_most_clean(text, 109)
+    !has_in_block(text, 64, CONTROLS) && !has_in_block(text, 109, CONTROLS)
 }
 
 /// The index of the first LF.

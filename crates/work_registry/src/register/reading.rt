@@ -23,6 +23,7 @@ use crate::entry::Entry;
 use crate::ledger::Ledger;
 use crate::reply::Reply;
 use cwr_call::Call;
+use cwr_field::Memory;
 use cwr_record::Status;
 use std::alloc::Allocator;
 
@@ -108,8 +109,23 @@ fn enter_told<A: Allocator + Copy + Drop>(
     Ok(decision.reply)
 }
 
+/// Makes room for one entry more, where entries are kept.
+#[inline(always)]
+fn make_room<A: Allocator + Copy + Drop>(
+    keeps: bool,
+    history: &mut Vec<Entry<A>, A>,
+) -> Result<(), Memory>
+    ensures spare { OnOk result (keeps ≡ true → vec_len history.new < vec_capacity history.new) }
+    ensures same { history.new.items ≡ history.old.items }
+{
+    if keeps {
+        history.reserve(1)?;
+    }
+    Ok(())
+}
+
 /// Reads the next line, without the LF at its end, as an entry, on which the ledger decides anew, and keeps it as the last
-/// of the history, which has room for it.
+/// of the history, where entries are kept.
 ///
 /// With a refusal both are as they were.
 #[inline(always)]
@@ -117,57 +133,39 @@ pub(super) fn read_line<A: Allocator + Copy + Drop>(
     alloc: A,
     ledger: &mut Ledger<A>,
     line: &[u8],
+    keeps: bool,
     history: &mut Vec<Entry<A>, A>,
 ) -> Result<(), RegisterRefusal>
     requires room { length ledger.old < most_entries }
     requires one { has_end line.now ≡ false }
-    requires spare { vec_len history.old < vec_capacity history.old }
     ensures read { OnOk result ((more : List ℕ) → IsStep ledger.old (line.now ++ 10 ∷ more) ledger.new more) }
     ensures longer { OnOk result (length ledger.new ≡ length ledger.old + 1) }
     ensures opening { OnOk result (is_opening ledger.old ≡ true → is_opening ledger.new ≡ true) }
-    ensures kept { OnOk result (history.old.items ≡ ledger.old → history.new.items ≡ ledger.new) }
+    ensures kept { OnOk result (keeps ≡ true → history.old.items ≡ ledger.old → history.new.items ≡ ledger.new) }
     ensures unchanged { OnErr result (ledger.new ≡ ledger.old) }
     ensures unkept { OnErr result (history.new.items ≡ history.old.items) }
     ensures fault { IfErr result (λ refusal. (more : List ℕ) → IsStop ledger.old (line.now ++ 10 ∷ more) refusal) }
 {
+    make_room(keeps, history)?;
     let Some(head) = read_alone(line) else {
-        store_entry(history, read_other_line(alloc, ledger, line)?);
+        let entry = read_other_line(alloc, ledger, line)?;
+        if keeps {
+            store_entry(history, entry);
+        }
         return Ok(());
     };
     let call = call_alone(alloc, &head);
     let reply = enter_told(ledger, line, head.told(), &call)?;
-    store_entry(
-        history,
-        Entry {
-            session: 0,
-            call,
-            reply,
-        },
-    );
-    Ok(())
-}
-
-/// The same, but the entry is not kept.
-#[inline(always)]
-pub(super) fn audit_line<A: Allocator + Copy + Drop>(
-    alloc: A,
-    ledger: &mut Ledger<A>,
-    line: &[u8],
-) -> Result<(), RegisterRefusal>
-    requires room { length ledger.old < most_entries }
-    requires one { has_end line.now ≡ false }
-    ensures read { OnOk result ((more : List ℕ) → IsStep ledger.old (line.now ++ 10 ∷ more) ledger.new more) }
-    ensures longer { OnOk result (length ledger.new ≡ length ledger.old + 1) }
-    ensures opening { OnOk result (is_opening ledger.old ≡ true → is_opening ledger.new ≡ true) }
-    ensures unchanged { OnErr result (ledger.new ≡ ledger.old) }
-    ensures fault { IfErr result (λ refusal. (more : List ℕ) → IsStop ledger.old (line.now ++ 10 ∷ more) refusal) }
-{
-    let Some(head) = read_alone(line) else {
-        let _entry = read_other_line(alloc, ledger, line)?;
-        return Ok(());
-    };
-    let call = call_alone(alloc, &head);
-    let _reply = enter_told(ledger, line, head.told(), &call)?;
+    if keeps {
+        store_entry(
+            history,
+            Entry {
+                session: 0,
+                call,
+                reply,
+            },
+        );
+    }
     Ok(())
 }
 

@@ -10,10 +10,8 @@ ghost use Rattle.work_registry.specs.RegisterReader.{IsRest};
 ghost use Rattle.work_registry.specs.Replay.{is_opening};
 
 use super::line_reader::LineReader;
-use super::lines::cut_line;
 use super::refusal::RegisterRefusal;
 use crate::book::Book;
-use crate::entry::Entry;
 use std::alloc::{Allocator, Global};
 use std::marker::Model;
 
@@ -24,21 +22,17 @@ use std::marker::Model;
 #[derive(Drop)]
 pub struct RegisterReader<A: Allocator + Copy + Drop = Global> {
     lines: LineReader<A>,
-    /// The entries so far.
-    history: Vec<Entry<A>, A>,
-    limit: u32,
 }
 
 impl<A: Allocator + Copy + Drop> Model for RegisterReader<A> {
-    ghost use Rattle.std.specs.Prelude.{◌≡◌, ◌≤◌};
-    ghost use Rattle.work_registry.specs.Numbers.{most_entries};
+    ghost use Rattle.std.specs.Prelude.{◌≡◌, true};
     ghost use Rattle.work_registry.specs.RegisterReader.{ReaderState};
 
     ghost Value = { ReaderState };
 
-    ghost view = { λ r. r.lines };
+    ghost view = { λ r. r.lines.read };
 
-    ghost invariant = { λ r. (r.history.items ≡ r.lines.history) × (r.limit ≡ r.lines.limit) × (1 ≤ r.limit) × (r.limit ≤ most_entries) };
+    ghost invariant = { λ r. r.lines.keeps ≡ true };
 }
 
 impl<A: Allocator + Copy + Drop> RegisterReader<A> {
@@ -49,9 +43,7 @@ impl<A: Allocator + Copy + Drop> RegisterReader<A> {
         ensures { result ≡ record { limit = limit; count = None; history = [] } }
     {
         RegisterReader {
-            lines: LineReader::new(alloc, limit),
-            history: Vec::new(alloc),
-            limit,
+            lines: LineReader::new(alloc, limit, true),
         }
     }
 
@@ -66,16 +58,11 @@ impl<A: Allocator + Copy + Drop> RegisterReader<A> {
         ensures limit { self.new.limit ≡ self.old.limit }
         ensures fault { IfErr result (λ refusal. (text later : List ℕ) → IsRest self.old text (piece.now ++ later) → IsRefusal self.old.limit text refusal) }
     {
-        let mut rest = piece;
-        while let Some((line, more)) = cut_line(rest) {
-            self.take_line(line)?;
-            rest = more;
-        }
-        Ok(piece.len() - rest.len())
+        self.lines.take_lines(piece)
     }
 
     /// The book of the register, of which this is the rest. All its entries are of the opening, session 0.
-    pub fn finish(mut self, rest: &[u8]) -> Result<Book<A>, RegisterRefusal>
+    pub fn finish(self, rest: &[u8]) -> Result<Book<A>, RegisterRefusal>
         ensures text { IfOk result (λ book. (text : List ℕ) → IsRest self text rest.now → text ≡ register_text book.history) }
         ensures whole { IfOk result (λ book. (text : List ℕ) → IsRest self text rest.now → AllByRecursion IsWholeEntry book.history) }
         ensures lawful { IfOk result (λ book. IsHistory book.history) }
@@ -83,31 +70,7 @@ impl<A: Allocator + Copy + Drop> RegisterReader<A> {
         ensures limit { IfOk result (λ book. book.limit ≡ self.limit) }
         ensures fault { IfErr result (λ refusal. (text : List ℕ) → IsRest self text rest.now → IsRefusal self.limit text refusal) }
     {
-        let taken = self.take_lines(rest)?;
-        self.lines.end(&rest[taken..])?;
-        Ok(self.book())
-    }
-
-    /// Reads a line, which has no LF at its end here, and keeps its entry. With a refusal nothing is changed.
-    fn take_line(&mut self, line: &[u8]) -> Result<(), RegisterRefusal>
-        requires { has_end line.now ≡ false }
-        ensures read { OnOk result ((text more : List ℕ) → IsRest self.old text (line.now ++ 10 ∷ more) → IsRest self.new text more) }
-        ensures limit { self.new.limit ≡ self.old.limit }
-        ensures unchanged { OnErr result (self.new ≡ self.old) }
-        ensures fault { IfErr result (λ refusal. (text more : List ℕ) → IsRest self.old text (line.now ++ 10 ∷ more) → IsRefusal self.old.limit text refusal) }
-    {
-        let Ok(()) = self.history.reserve(1) else {
-            return Err(RegisterRefusal::Memory);
-        };
-        self.lines.take_line(line, &mut self.history)?;
-        Ok(())
-    }
-
-    /// The book of the entries so far.
-    fn book(self) -> Book<A>
-        ensures value { result ≡ record { history = self.history; limit = self.limit } }
-        ensures opening { is_opening result.history ≡ true }
-    {
-        Book::opening_of(self.history, self.lines.into_ledger(), self.limit)
+        let lines = self.lines.finish(rest)?;
+        Ok(lines.into_book())
     }
 }

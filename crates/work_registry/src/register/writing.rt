@@ -1,13 +1,10 @@
 //! The text of a history.
 
-ghost use Rattle.std.specs.Prelude.{◌≡◌, ◌++◌, ◌∷◌, ℕ, List, [], ◌<◌, ◌≤◌, ◌^◌, ◌*◌, ◌+◌, ◌-◌, ◌%◌, OnOk, IfOk, IsTrue, length, sum_by, codes};
+ghost use Rattle.std.specs.Prelude.{◌≡◌, ◌++◌, ℕ, List, ◌<◌, ◌≤◌, ◌^◌, ◌*◌, ◌+◌, ◌-◌, OnOk, IfOk, IsTrue, length, sum_by};
 ghost use Rattle.std.specs.List.{flat_map, AllByRecursion};
 ghost use Rattle.cwr_call.specs.Lawful.{is_lawful};
-ghost use Rattle.cwr_field.specs.Iswc.{iswc_text};
 ghost use Rattle.cwr_field.specs.Number.{number_text};
-ghost use Rattle.cwr_record.specs.Lines.{Fits, FitsCode, line_of};
-ghost use Rattle.cwr_record.specs.Pieces.{piece_text};
-ghost use Rattle.cwr_record.specs.declared.pieces.Piece.TheVariants.{Code};
+ghost use Rattle.cwr_record.specs.Lines.{Fits, line_of};
 ghost use Rattle.work_registry.specs.RegisterColumns.{count_width, head_width, fault_width};
 ghost use Rattle.work_registry.specs.RegisterLine.{entry_count, head, fault, head_of, IsTyped};
 ghost use Rattle.work_registry.specs.Register.{line_for, entry_line, entry_lines, count_line, register_text, FitsEntry, IsWholeEntry};
@@ -75,59 +72,6 @@ fn put_number(line: &mut LineRoom<HEAD_WIDTH>, value: u64, column: Column, zeros
     line.put(&Piece::Digits(value, back));
 }
 
-/// The last digit of a number.
-#[inline(always)]
-fn digit(number: u32) -> u8
-    ensures { result ≡ 48 + number % 10 }
-{
-    b'0' + (number % 10) as u8
-}
-
-/// The text of a work's code (ISWC) by the number of its nine digits. The digits that are written make the check digit.
-fn code_text(number: u32) -> [u8; 11]
-    requires { number < 10 ^ 9 }
-    ensures { result ≡ iswc_text number }
-{
-    let eight = number / 10;
-    let seven = eight / 10;
-    let six = seven / 10;
-    let five = six / 10;
-    let four = five / 10;
-    let three = four / 10;
-    let two = three / 10;
-    let one = two / 10;
-    let front = one % 10 + 2 * (two % 10) + 3 * (three % 10) + 4 * (four % 10) + 5 * (five % 10);
-    let sum = 1 + front + 6 * (six % 10) + 7 * (seven % 10) + 8 * (eight % 10) + 9 * (number % 10);
-    [
-        b'T',
-        digit(one),
-        digit(two),
-        digit(three),
-        digit(four),
-        digit(five),
-        digit(six),
-        digit(seven),
-        digit(eight),
-        digit(number),
-        digit(10 - sum % 10),
-    ]
-}
-
-/// Appends a work's code, or blanks.
-#[inline(always)]
-fn put_code(line: &mut LineRoom<HEAD_WIDTH>, iswc: Option<u64>)
-    requires fits { FitsCode iswc }
-    requires room { length line.old + 11 ≤ head_width }
-    ensures text { line.new ≡ line.old ++ piece_text (Code iswc) }
-    // The same, with what is put behind it.
-    ensures before { (behind : List ℕ) → line.new ++ behind ≡ line.old ++ (piece_text (Code iswc) ++ behind) }
-{
-    match iswc {
-        None => line.put(&Piece::Code(None)),
-        Some(number) => line.put(&Piece::Text(&code_text(number as u32), columns::ISWC)),
-    }
-}
-
 /// The fields of fixed place.
 pub(super) fn head_line(x: &Head) -> LineRoom<HEAD_WIDTH>
     requires { Fits head x.now }
@@ -140,7 +84,7 @@ pub(super) fn head_line(x: &Head) -> LineRoom<HEAD_WIDTH>
     line.put(&Piece::Text(x.kind.code(), columns::KIND));
     line.put(&Piece::Text(&x.title, columns::TITLE));
     line.put(&Piece::Text(&x.number, columns::NUMBER));
-    put_code(&mut line, x.iswc);
+    line.put(&Piece::Code(x.iswc));
     put_number(
         &mut line,
         x.control[0],

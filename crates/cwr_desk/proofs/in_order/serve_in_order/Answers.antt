@@ -48,7 +48,7 @@ returns-clause-run g c =
     c.read_group-jobs.ensures c.in-Ok.ensures.worked_jobs.0 c.in-Ok.ensures.outcomes.0 (no_items c.in-Ok.lists.worked_jobs c.in-Ok.ensures.worked_jobs.0)
     c.order_from-run.ensures in
     (whole_turns P (λ j k o a b l h r. account_full _ _ _ _ _ _ _ _ _ a b _ o l h r) (λ j k o a l f r. account_found _ _ o l f r) c.args.book c.order_from-run.result.book _ _ _
-    c.requires.opening c.history-entries.ensures.lawful c.history-entries.ensures.fits took).0
+    c.requires.opening c.recall.ensures.lawful c.recall.ensures.fits took).0
 
 pub returns-clause-in_turn : goal.returns-clause-in_turn
 returns-clause-in_turn g c =
@@ -58,4 +58,4 @@ returns-clause-in_turn g c =
     c.read_group-jobs.ensures c.in-Ok.ensures.worked_jobs.0 c.in-Ok.ensures.outcomes.0 (no_items c.in-Ok.lists.worked_jobs c.in-Ok.ensures.worked_jobs.0)
     c.order_from-run.ensures in
     (whole_turns P (λ j k o a b l h r. account_full _ _ _ _ _ _ _ _ _ a b _ o l h r) (λ j k o a l f r. account_found _ _ o l f r) c.args.book c.order_from-run.result.book _ _ _
-    c.requires.opening c.history-entries.ensures.lawful c.history-entries.ensures.fits took).1
+    c.requires.opening c.recall.ensures.lawful c.recall.ensures.fits took).1

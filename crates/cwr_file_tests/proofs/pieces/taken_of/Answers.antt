@@ -7,4 +7,4 @@ use Rattle.cwr_file_tests.proofs.pieces.taken_of.Goals as goal
 
 pub take_lines-requires : goal.take_lines-requires
 take_lines-requires c =
-    (c.args.visitor.now, c.args.first.now, 0, rw c.new.ensures (starts (λ _ _. ⊤) c.args.first.now tt), record { after = []; here = sym (append-nil c.args.first.now) }, omega arith)
+    (c.args.visitor.now, c.args.first.now, 0, rw c.new.ensures (starts (λ _ _ _. ⊤) c.args.first.now tt), record { after = []; here = sym (append-nil c.args.first.now) }, omega arith)

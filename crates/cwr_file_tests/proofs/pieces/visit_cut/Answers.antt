@@ -12,7 +12,7 @@ take_lines-requires c =
       c.args.visitor.now,
       text,
       0,
-      rw c.new-reader.ensures (starts (λ _ _. ⊤) text tt),
+      rw c.new-reader.ensures (starts (λ _ _ _. ⊤) text tt),
       record { after = drop c.args.cut text; here = sym (take-append-drop c.args.cut text) },
       omega (arith, long, c.requires),
     )
@@ -30,7 +30,7 @@ finish-requires c =
       0 + taken,
       c.in_ok-taken.ensures.taken c.args.visitor.now text 0
           (record { after = drop c.args.cut text; here = sym (take-append-drop c.args.cut text) })
-          (rw c.new-reader.ensures (starts (λ _ _. ⊤) text tt)),
+          (rw c.new-reader.ensures (starts (λ _ _ _. ⊤) text tt)),
       ap (λ (k : ℕ). drop k text) at ∙ sym rest,
       omega (arith, long, size, c.in_ok-taken.ensures.inside, length-take c.args.cut text, c.requires),
     )

@@ -10,7 +10,7 @@ use Rattle.cwr_grammar.proofs.submission.parse_file.Goals as goal
 pub loop-line-init : goal.loop-line-init
 loop-line-init g c = record {
   inside = omega arith;
-  read = rw c.new-reader.ensures (starts (Placed c.args.bytes.now c.new-spans.result.items None 0) c.args.bytes.now (rw c.new-spans.ensures.items (record { inside = tt; goes = tt; whole_is = refl; opened_is = refl })));
+  read = rw c.new-reader.ensures (starts (λ _. Placed c.args.bytes.now c.new-spans.result.items None 0) c.args.bytes.now (rw c.new-spans.ensures.items (record { inside = tt; goes = tt; whole_is = refl; opened_is = refl })));
 }
 
 pub place_line-requires-clause-next : goal.place_line-requires-clause-next

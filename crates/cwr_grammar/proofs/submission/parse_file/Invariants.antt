@@ -6,7 +6,7 @@ use Rattle.cwr_grammar.proofs.submission.parse_file.Given as goal
 abbrev pub invariant-loop-line : goal.invariant-loop-line
 invariant-loop-line g l = record {
   inside : l.at ≤ length l.bytes;
-  read : IsReadUpTo (Placed l.bytes l.spans.items l.current l.at) l.reader l.bytes l.at;
+  read : IsReadUpTo (λ _. Placed l.bytes l.spans.items l.current l.at) l.reader l.bytes l.at;
 }
 
 abbrev pub decreases-loop-line : goal.decreases-loop-line

@@ -1,4 +1,4 @@
-use Rattle.cwr_report.proofs.Written.{four}
+use Rattle.cwr_report.proofs.lemmas.Written.{four}
 use Rattle.cwr_report.proofs.file_lines.put_detail.Goals as goal
 
 pub returns : goal.returns

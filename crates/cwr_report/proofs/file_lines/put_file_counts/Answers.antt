@@ -1,4 +1,4 @@
-use Rattle.cwr_report.proofs.Written.{three}
+use Rattle.cwr_report.proofs.lemmas.Written.{three}
 use Rattle.cwr_report.proofs.file_lines.put_file_counts.Goals as goal
 
 pub returns : goal.returns

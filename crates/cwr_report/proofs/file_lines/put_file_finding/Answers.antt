@@ -1,4 +1,4 @@
-use Rattle.cwr_report.proofs.Written.{five}
+use Rattle.cwr_report.proofs.lemmas.Written.{five}
 use Rattle.cwr_report.proofs.file_lines.put_file_finding.Goals as goal
 
 pub returns : goal.returns

@@ -3,7 +3,7 @@ use Rattle.std.specs.Str.Lines.{lines}
 use Rattle.serde_json.specs.View.{items_of}
 use Rattle.serde_json.specs.Written.{items_text}
 use Rattle.cwr_report.specs.Json.{finding_data}
-use Rattle.cwr_report.specs.Walks.{IsLineWalk}
+use Rattle.cwr_report.specs.Walks.{IsWalk}
 use Rattle.cwr_report.proofs.json_report.put_findings.Given as goal
 
 -- what is written and what is left make the whole, and the walk goes over the file's lines
@@ -12,5 +12,5 @@ invariant-loop-finding l = record {
   written :
       l.out.items ++ items_text l.later (items_of (map (finding_data (lines l.bytes)) (drop l.finding-index l.findings)))
       ≡ l.fn.out.items ++ 91 ∷ items_text false (items_of (map (finding_data (lines l.bytes)) l.fn.findings));
-  walk : IsLineWalk l.walk (lines l.bytes) l.walk.passed;
+  walk : IsWalk l.walk (lines l.bytes) l.walk.passed;
 }

@@ -1,4 +1,4 @@
-use Rattle.cwr_report.proofs.Written.{four}
+use Rattle.cwr_report.proofs.lemmas.Written.{four}
 use Rattle.cwr_report.proofs.long_lines.put_transaction.Goals as goal
 
 pub returns : goal.returns

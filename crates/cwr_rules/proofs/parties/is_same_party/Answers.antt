@@ -1,4 +1,4 @@
-use Rattle.std.proofs.Common.{ℕ, ap, ◌∙◌, is_eq}
+use Rattle.std.proofs.Common.{◌∙◌, is_eq}
 use Rattle.cwr_rules.specs.Parties.{key_cmp}
 use Rattle.cwr_rules.proofs.PartyKeys.{same_key}
 use Rattle.cwr_rules.proofs.parties.is_same_party.Goals as goal

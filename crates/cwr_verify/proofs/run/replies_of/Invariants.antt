@@ -3,4 +3,4 @@ use Rattle.cwr_verify.proofs.run.replies_of.Given as goal
 
 -- the replies of the run so far
 abbrev pub invariant-loop-entry : goal.invariant-loop-entry
-invariant-loop-entry g l = AreReplies l.transactions l.history l.entry-index l.replies.items
+invariant-loop-entry g l = AreReplies l.transactions l.history l.entry-index l.replied

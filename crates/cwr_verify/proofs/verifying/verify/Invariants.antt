@@ -1,4 +1,4 @@
-use Rattle.std.proofs.Common.{ℕ, ◌<◌, length}
+use Rattle.std.proofs.Common.{ℕ, ◌<◌}
 use Rattle.std.specs.Prelude.{slice_index_or}
 use Rattle.cwr_verify.specs.Owned.{owned}
 use Rattle.cwr_verify.specs.Sent.{Sent}
@@ -7,4 +7,4 @@ use Rattle.cwr_verify.proofs.verifying.verify.Given as goal
 
 -- each file so far is answered by the entries that it owns
 abbrev pub invariant-loop-number : goal.invariant-loop-number
-invariant-loop-number g l = (file : ℕ) (d : Sent) → file < length l.yielded → IsAnsweredBy (slice_index_or l.files file d) (owned file l.each l.book.history)
+invariant-loop-number g l = (file : ℕ) (d : Sent) → file < l.number → IsAnsweredBy (slice_index_or l.files file d) (owned file l.owners.items l.book.history)

@@ -1,8 +1,10 @@
-use Rattle.std.proofs.Common.{ℕ, ◌<◌, length, get_or}
-use Rattle.cwr_verify.proofs.Turns.{Refuses}
-use Rattle.cwr_verify.specs.declared.waiting.Key.{Key}
+use Rattle.std.proofs.Common.{◌≤◌, ◌-◌, length}
+use Rattle.cwr_verify.proofs.Turns.{Refuse}
 use Rattle.cwr_verify.proofs.wanted.first_of.Given as goal
 
--- none of the files so far can have made the entry
-abbrev pub invariant-loop-turn : goal.invariant-loop-turn
-invariant-loop-turn g l = (k : ℕ) (d : Key × ℕ) → k < length l.yielded → Refuses l.wanted l.entry (get_or l.initial.turn-iterator k d).1
+-- none of the files before this one can have made the entry
+abbrev pub invariant-loop-file : goal.invariant-loop-file
+invariant-loop-file g l = record { within : l.from ≤ length l.wanted; refuse : Refuse l.wanted l.entry l.from }
+
+abbrev pub decreases-loop-file : goal.decreases-loop-file
+decreases-loop-file g l = length l.wanted - l.from

@@ -1,43 +1,27 @@
-use Rattle.std.proofs.Common.{◌≡◌, ◌∙◌, ℕ, ◌+◌, true, false, Some, None, sym, subst, get_or, arith}
-use Rattle.std.specs.BTreeSet.{BTreeSet}
-use Rattle.cwr_verify.proofs.Turns.{AreWaitingBelow, NoOthersWaitBelow, nobody, none_more, none_waits, one_more, one_waits, read_at}
-use Rattle.cwr_verify.specs.Wanting.{Wanting, next_key}
-use Rattle.cwr_verify.specs.declared.waiting.Key.{Key}
+use Rattle.std.proofs.Common.{◌≡◌, ◌∙◌, ◌+◌, length, ap, sym, subst, refl}
+use Rattle.std.specs.Prelude.{option_and_then}
+use Rattle.std.proofs.lemmas.Option.{slice_get_read}
+use Rattle.cwr_verify.proofs.Turns.{AreWaitingBelow, all_wait, nobody, none_comes, one_comes}
+use Rattle.cwr_verify.specs.Wanting.{next_key, next_of}
 use Rattle.cwr_verify.proofs.wanted.waiting_of.Goals as goal
 use Rattle.cwr_verify.proofs.wanted.waiting_of.Goals.{in-Some+in_ok-insert, in_default}
 
 pub loop-file-init : goal.loop-file-init
-loop-file-init g c = record {
-  waiting = λ file d call lt. absurd (omega (arith, lt));
-  no_others = λ key file has. absurd (let bad : true ≡ false = sym has ∙ nobody c.new-waiting.result (key, file) c.new-waiting.ensures.empty in cc);
-}
+loop-file-init g c = nobody c.args.wanted.now c.new-waiting.result c.new-waiting.ensures.empty
 
 pub loop-file-preserved : goal.loop-file-preserved
 loop-file-preserved g c =
-    let at = read_at c.args.wanted.now c.loop-file.file c.index-wanted-file.result c.loop-file-test.true c.index-wanted-file.is in
+    let its : next_of c.args.wanted.now c.loop-file.file ≡ next_key c.index-wanted-file.result =
+    ap (option_and_then next_key)
+    (slice_get_read c.args.wanted.now (length c.args.wanted.now) c.loop-file.file c.index-wanted-file.result refl c.loop-file-test.true c.index-wanted-file.is) in
     elim c.match-next_key.branch [
       | in-Some+in_ok-insert w ↦
-          let wants : (d : Wanting) → next_key (get_or c.args.wanted.now c.loop-file.file d) ≡ Some w.in-Some.key =
-          λ d. subst (λ (v : Wanting). next_key v ≡ Some w.in-Some.key) (sym (at d)) (sym w.in-Some.ensures) in
-          subst (λ (t : BTreeSet (Key × ℕ)). record { waiting : AreWaitingBelow (c.loop-file.file + 1) c.args.wanted.now t; no_others : NoOthersWaitBelow (c.loop-file.file + 1) c.args.wanted.now t })
-          (sym w.waiting-is)
-          (record {
-            waiting = one_waits c.loop-file.file c.args.wanted.now c.loop-file.waiting w.insert.new.self w.in-Some.key wants w.in_ok-insert.ensures.updates c.loop-file.invariant.waiting;
-            no_others = one_more c.loop-file.file c.args.wanted.now c.loop-file.waiting w.insert.new.self w.in-Some.key wants w.in_ok-insert.ensures.updates
-                c.loop-file.invariant.no_others;
-          })
+          subst (AreWaitingBelow (c.loop-file.file + 1) c.args.wanted.now) (sym w.waiting-is)
+          (one_comes c.loop-file.file c.args.wanted.now c.loop-file.waiting w.insert.new.self w.in-Some.key (its ∙ sym w.in-Some.ensures) w.in_ok-insert.ensures.updates c.loop-file.invariant)
       | in_default w ↦
-          subst (λ (t : BTreeSet (Key × ℕ)). record { waiting : AreWaitingBelow (c.loop-file.file + 1) c.args.wanted.now t; no_others : NoOthersWaitBelow (c.loop-file.file + 1) c.args.wanted.now t })
-          (sym w.waiting-is)
-          (record {
-            waiting = none_waits c.loop-file.file c.args.wanted.now c.loop-file.waiting
-                (λ d. subst (λ (v : Wanting). next_key v ≡ None) (sym (at d)) (sym w.in_default.ensures)) c.loop-file.invariant.waiting;
-            no_others = none_more c.loop-file.file c.args.wanted.now c.loop-file.waiting c.loop-file.invariant.no_others;
-          })
+          subst (AreWaitingBelow (c.loop-file.file + 1) c.args.wanted.now) (sym w.waiting-is)
+          (none_comes c.loop-file.file c.args.wanted.now c.loop-file.waiting (its ∙ sym w.in_default.ensures) c.loop-file.invariant)
     ]
 
 pub returns : goal.returns
-returns g c = record {
-  waiting = λ file d call lt. c.loop-file.invariant.waiting file d call (omega (arith, lt));
-  no_others = λ key file has. let old = c.loop-file.invariant.no_others key file has in record { known = omega (arith, old.0); wants = old.1 };
-}
+returns g c = all_wait c.loop-file.file c.args.wanted.now c.loop-file.waiting c.loop-file-test.false c.loop-file.invariant

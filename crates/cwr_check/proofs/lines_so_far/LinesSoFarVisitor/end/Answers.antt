@@ -1,19 +1,24 @@
-use Rattle.std.proofs.Common.{List, [], ◌∷◌, ◌++◌, ℕ, ap, sym, subst, ◌∙◌}
-use Rattle.cwr_check.specs.LinesSoFar.{IsTold, IsJudgedAt}
-use Rattle.cwr_check.specs.declared.lines_so_far.LinesSoFar.{LinesSoFar}
+use Rattle.std.proofs.Common.{[], arith, ◌∙◌}
+use Rattle.cwr_check.specs.LinesSoFar.{IsJudgedAt}
 use Rattle.cwr_check.proofs.OpenJudges.{is_judged}
 use Rattle.cwr_check.proofs.lines_so_far.LinesSoFarVisitor.end.Goals as goal
 
 pub faults-requires : goal.faults-requires
 faults-requires g c =
-    let t = c.requires.begun.2 in
-    let here = (is_judged _ _ _ t c.requires.begun.3.2).1 in
-    record { «open» = (t.kind, t.lines, here.judging, c.requires.begun.4) }
+    let b = c.requires.begun in
+    let here = (is_judged _ _ _ b.3 b.4.1).1 in
+    record { «open» = (b.3.kind, b.3.lines, here.judging, b.5) }
+
+pub tell-requires-clause-few : goal.tell-requires-clause-few
+tell-requires-clause-few g c =
+    let b = c.requires.begun in
+    let told = b.4.0 [] in
+    omega (arith, told.transactions_are, b.6)
+
+pub tell-requires-clause-faulty : goal.tell-requires-clause-faulty
+tell-requires-clause-faulty g c = (c.requires.begun.4.0 []).few
 
 pub returns : goal.returns
-returns g c = λ first whole t kept.
-    let same = ap (λ (l : LinesSoFar g.row.A.Denot). l.submitter) c.in_ok-tell.ensures.same in
-    let here : IsJudgedAt c.args.self.now.place c.args.self.now.judge t = (is_judged _ _ _ t kept.2).1 in
-    let faults = c.as_slice.ensures ∙ c.in_ok-faults.ensures c.args.self.now.submitter t.kind t.lines here.judging in
-    let P : List ℕ → Type 0 = λ s. IsTold s c.tell.new.self.text.items c.tell.new.self.transactions c.tell.new.self.faulty (whole ++ t ∷ []) in
-    (same ∙ kept.0, subst P (sym same) (c.in_ok-tell.ensures.told whole t here.place_is faults kept.1), tt)
+returns g c = λ first header whole t kept.
+    let here : IsJudgedAt c.args.self.now.place c.args.self.now.judge t = (is_judged _ _ _ t kept.1).1 in
+    (λ submitter. c.in_ok-tell.ensures.told submitter whole t here.place_is (c.as_slice.ensures ∙ c.in_ok-faults.ensures submitter t.kind t.lines here.judging) (kept.0 submitter), tt)

@@ -16,4 +16,4 @@ returns-in-Ok-clause-gained g c = record {
 pub returns-in-Err-clause-full : goal.returns-in-Err-clause-full
 returns-in-Err-clause-full g c =
     full_exactly _ _ c.args.self.book.now c.apply.new.self (ap (λ (r : RefusedValue). r.why) c.refused.view_is) c.in-Err.ensures.full c.in-Err.ensures.unchanged
-    c.history-entries.ensures.fits
+    c.recall.ensures.fits

@@ -1,8 +1,10 @@
-use Rattle.std.proofs.Common.{◌∙◌, ◌+◌, ◌<◌, ◌^◌, length, sym, ap, subst, arith}
+use Rattle.std.proofs.Common.{◌∙◌, ◌+◌, ◌<◌, ◌^◌, List, Option, length, sym, ap, subst, arith}
 use Rattle.std.proofs.lemmas.Result.{err_from_is_err_and}
 use Rattle.cwr_grammar.specs.Awaited.{next_detail}
 use Rattle.cwr_grammar.specs.ReadUpTo.{ReaderState}
 use Rattle.cwr_grammar.specs.Spans.{Placed}
+use Rattle.cwr_grammar.specs.RawParts.{RawParts}
+use Rattle.cwr_grammar.specs.Visiting.{open_after, whole_after}
 use Rattle.cwr_grammar.proofs.NextDetail.{line_clear}
 use Rattle.cwr_grammar.proofs.Numbers.{fits_header, clear_role}
 use Rattle.cwr_grammar.proofs.OneLineFurther.{going_small}
@@ -29,9 +31,9 @@ returns-then-is_next_detail-clause-taken g c = λ text here whole so_far.
     let inside = here.inside in
     let lt : c.args.at < length text = omega (arith, some, inside) in
     let clear = line_clear r.before c.args.line.now.bytes.now _ r.visiting.going.counted is.1 (sym r.visiting.is.counted ∙ is.0) is.3 is.2 in
-    line_taken (Placed text c.args.spans.now.items c.args.current c.args.at) (Placed text c.args.spans.now.items c.args.current (c.args.at + c.args.line.now.size)) _ _ text c.args.at c.args.line.now.size c.args.line.now.bytes.now
+    line_taken (λ _. Placed text c.args.spans.now.items c.args.current c.args.at) (λ _. Placed text c.args.spans.now.items c.args.current (c.args.at + c.args.line.now.size)) _ _ text c.args.at c.args.line.now.size c.args.line.now.bytes.now
     (next_detail c.args.self.now.counts) so_far r here (sym is.3) clear (c.pass_detail.ensures c.args.line.now.bytes.now)
-    (λ found opened open_is kept. placed_detail text c.args.spans.now.items c.args.current c.args.at c.args.line.now.size c.args.line.now.bytes.now found opened lt whole kept)
+    (placed_detail text c.args.spans.now.items c.args.current c.args.at c.args.line.now.size c.args.line.now.bytes.now r.whole r.current lt whole r.visiting.kept)
 
 pub returns-in_err-take_tail-clause-fault : goal.returns-in_err-take_tail-clause-fault
 returns-in_err-take_tail-clause-fault g c =
@@ -83,6 +85,10 @@ returns-clause-taken g c = λ text here whole so_far.
     let inside = here.inside in
     let lt : c.args.at < length text = omega (arith, some, inside) in
     let counts = ap (λ (s : ReaderState). s.counts) c.self.view_is in
-    line_taken (Placed text c.args.spans.now.items c.args.current c.args.at) (Placed text c.take_line.new.spans.items c.in_ok-next.next (c.args.at + c.args.line.now.size)) _ _ text c.args.at c.args.line.now.size c.args.line.now.bytes.now c.in_ok-role.role
+    let gives : (found : List RawParts) (opened : Option RawParts) → Placed text c.args.spans.now.items c.args.current c.args.at found opened
+    → Placed text c.take_line.new.spans.items c.in_ok-next.next (c.args.at + c.args.line.now.size) (whole_after c.in_ok-role.role found opened)
+    (open_after c.in_ok-role.role c.args.line.now.bytes.now c.args.self.now.counts.groups c.args.self.now.counts.transactions opened) =
+    λ found opened kept. rw (c.in_ok-next.ensures.taken, c.in_ok-next.ensures.next, counts) (placed_after c.in_ok-role.role text c.args.spans.now.items c.args.current _ _ c.args.at c.args.line.now.size c.args.line.now.bytes.now found opened lt whole kept) in
+    line_taken (λ _. Placed text c.args.spans.now.items c.args.current c.args.at) (λ _. Placed text c.take_line.new.spans.items c.in_ok-next.next (c.args.at + c.args.line.now.size)) _ _ text c.args.at c.args.line.now.size c.args.line.now.bytes.now c.in_ok-role.role
     so_far r here c.in_ok-role.ensures.role (c.in_ok-role.ensures.clear r.before r.visiting.going.counted) c.pass.ensures
-    (λ found opened is kept. rw (c.in_ok-next.ensures.taken, c.in_ok-next.ensures.next, counts) (placed_after c.in_ok-role.role text c.args.spans.now.items c.args.current _ _ c.args.at c.args.line.now.size c.args.line.now.bytes.now found opened lt whole kept))
+    (gives r.whole r.current r.visiting.kept)

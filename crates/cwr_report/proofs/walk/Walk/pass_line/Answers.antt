@@ -6,4 +6,4 @@ returns-in-None-clause-walk c = λ lines so_far. passed_end c.args.self.now line
 
 pub returns-in-Some-clause-walk : goal.returns-in-Some-clause-walk
 returns-in-Some-clause-walk c = λ lines so_far.
-    passed_more c.args.self.now lines c.in-Some.line c.next-self.result c.next-self.new.self c.add.new.self c.in-Some.is c.next-self.ensures.steps c.add.ensures so_far
+    passed_more c.args.self.now lines c.in-Some.line c.next-self.result c.next-self.new.self c.add_where.new.self c.in-Some.is c.next-self.ensures.steps c.add_where.ensures so_far

@@ -1,18 +1,20 @@
-use Rattle.std.proofs.Common.{refl, sym, subst}
+use Rattle.std.proofs.Common.{ℕ, ◌<◌, refl, sym, subst}
+use Rattle.cwr_field.specs.Number.{most_count}
 use Rattle.cwr_rules.specs.Collected.{AreSmall, AreSmallSums, found_in, found_among, value_at}
 use Rattle.cwr_rules.specs.Judging.{JudgeState, IsJudging}
-use Rattle.cwr_rules.proofs.Lines.{small_sums, small_totals, one_more}
+use Rattle.cwr_rules.proofs.Lines.{few, small_sums, small_totals, one_more}
 use Rattle.cwr_rules.proofs.by_line.Judge.take.Goals as goal
 
-pub take-requires-clause-sums : goal.take-requires-clause-sums
-take-requires-clause-sums g c =
-    let P : JudgeState → Type 0 = λ s. AreSmallSums s.sums in
-    subst P (sym c.self.view_is) (small_sums _ _ _ c.requires.open.2 c.requires.open.3)
-
-pub take-requires-clause-collected : goal.take-requires-clause-collected
-take-requires-clause-collected g c = λ q.
-    let P : JudgeState → Type 0 = λ s. AreSmall (value_at (found_in s.first_code (found_among s.codes)) q) in
-    subst P (sym c.self.view_is) (small_totals _ _ _ c.requires.open.2 c.requires.open.3 q)
+pub take-requires-clause-room : goal.take-requires-clause-room
+take-requires-clause-room g c =
+    let P : JudgeState → Type 0 = λ s. s.count < most_count in
+    let Q : JudgeState → Type 0 = λ s. AreSmallSums s.sums in
+    let R : JudgeState → Type 0 = λ s. (q : ℕ) → AreSmall (value_at (found_in s.first_code (found_among s.codes)) q) in
+    record {
+      few = subst P (sym c.self.view_is) (few _ _ _ c.requires.open.2 c.requires.open.3);
+      sums = subst Q (sym c.self.view_is) (small_sums _ _ _ c.requires.open.2 c.requires.open.3);
+      collected = subst R (sym c.self.view_is) (small_totals _ _ _ c.requires.open.2 c.requires.open.3);
+    }
 
 pub returns : goal.returns
 returns g c = λ kind lines h.

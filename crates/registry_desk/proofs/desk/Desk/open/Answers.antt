@@ -7,7 +7,7 @@ use Rattle.registry_desk.proofs.Ends.{opens_desk, opening_rests}
 use Rattle.registry_desk.proofs.desk.Desk.open.Goals as goal
 
 pub new-requires : goal.new-requires
-new-requires g c = let slots : c.push_reserved.new.self.items ≡ Some c.args.book ∷ [] = search rules in let h = c.history-entries.ensures in
+new-requires g c = let slots : c.push_reserved.new.self.items ≡ Some c.args.book ∷ [] = search rules in let h = c.recall.ensures in
     subst (λ (z : ℕ × List (Option BookValue) × BookValue). Kept (opening (set (replicate 65 0) z.0 1) z.1 (opening_view z.2 c.args.seats)))
     (λ i. (sym c.flag_word.ensures i, sym slots i, sym c.of.ensures i))
     (opens_desk (set (replicate 65 0) 1 1) c.args.book c.args.seats refl h.lawful h.fits c.requires.opening c.requires.seats.0 c.requires.seats.1)

@@ -9,7 +9,7 @@ use Rattle.registry_desk.proofs.Leaving.{stays_answered, stays_refused}
 use Rattle.registry_desk.proofs.seat.Inside.apply.Goals as goal
 
 pub invariant_of-self : goal.invariant_of-self
-invariant_of-self g c = let e = c.in-Ok.ensures in let h = c.len-entries.ensures in
+invariant_of-self g c = let e = c.in-Ok.ensures in let h = c.recall.ensures in
     stays_answered _ _ _ _ _ _ c.self.invariant c.apply.new.self (entry_of c.self.inside.counts.session c.args.call c.in-Ok.reply)
     (subst (λ (x : Stay). x.unused ≡ true) (sym c.self.view_is) c.requires.unused) (subst (λ (x : Stay). x.view.session ≢ 0) (sym c.self.view_is) c.requires.session)
     refl e.entry e.limit h.lawful h.fits

@@ -7,17 +7,17 @@ use Rattle.work_registry.proofs.deciding.Known.change.Goals as goal
 
 pub overflow_add-result : goal.overflow_add-result
 overflow_add-result g c =
-    let s : IsSound (rows_of c.args.self.now) = rw (← c.self.view_is) (sound c.self.inside.past.value c.self.invariant.0) in
+    let s : IsSound (rows_of c.args.self.now) = sound c.args.self.now c.recall.ensures.lawful in
     omega (arith, control-fits 0 (rows_of c.args.self.now) c.args.call.now c.in-Accepted.work c.in-Accepted.version c.args.key.now c.others-others.result c.narrow-control.result s (omega arith) (sym c.requires.decided ∙ c.in-Accepted.is) c.requires.own c.others-others.ensures (c.narrow-control.ensures ∙ c.control.ensures.value))
 
 pub overflow_add-result-2 : goal.overflow_add-result-2
 overflow_add-result-2 g c =
-    let s : IsSound (rows_of c.args.self.now) = rw (← c.self.view_is) (sound c.self.inside.past.value c.self.invariant.0) in
+    let s : IsSound (rows_of c.args.self.now) = sound c.args.self.now c.recall.ensures.lawful in
     omega (arith, control-fits 1 (rows_of c.args.self.now) c.args.call.now c.in-Accepted.work c.in-Accepted.version c.args.key.now c.others-others.result c.narrow-control.result s (omega arith) (sym c.requires.decided ∙ c.in-Accepted.is) c.requires.own c.others-others.ensures (c.narrow-control.ensures ∙ c.control.ensures.value))
 
 pub overflow_add-result-3 : goal.overflow_add-result-3
 overflow_add-result-3 g c =
-    let s : IsSound (rows_of c.args.self.now) = rw (← c.self.view_is) (sound c.self.inside.past.value c.self.invariant.0) in
+    let s : IsSound (rows_of c.args.self.now) = sound c.args.self.now c.recall.ensures.lawful in
     omega (arith, control-fits 2 (rows_of c.args.self.now) c.args.call.now c.in-Accepted.work c.in-Accepted.version c.args.key.now c.others-others.result c.narrow-control.result s (omega arith) (sym c.requires.decided ∙ c.in-Accepted.is) c.requires.own c.others-others.ensures (c.narrow-control.ensures ∙ c.control.ensures.value))
 
 pub returns : goal.returns

@@ -1,4 +1,4 @@
-use Rattle.std.proofs.Common.{arith, ◌≡◌, ◌≤◌, ◌∙◌, sym, length}
+use Rattle.std.proofs.Common.{arith, ◌≡◌, ◌∙◌, sym}
 use Rattle.work_registry.specs.Rows.{rows_of, key_of}
 use Rattle.work_registry.specs.Claims.{versions_of}
 use Rattle.work_registry.proofs.KeptRows.{versions_some}
@@ -15,8 +15,7 @@ pub overflow_add-result : goal.overflow_add-result
 overflow_add-result g c =
     let k = key_of c.args.call.now in
     let same : c.in-Some.kept.version ≡ versions_of k (rows_of c.args.self.now) = versions_some k (rows_of c.args.self.now) c.in-Some.kept (sym c.in-Some.is ∙ c.requires.known) in
-    let few : versions_of k (rows_of c.args.self.now) ≤ length c.self.inside.past.value = rw (← c.self.view_is) (versions-le k c.self.inside.past.value) in
-    omega (arith, same, few, c.self.invariant.1)
+    omega (arith, same, versions-le k c.args.self.now, c.recall.ensures.few)
 
 pub returns-in-Some : goal.returns-in-Some
 returns-in-Some g c =

@@ -8,7 +8,7 @@ use Rattle.work_registry.proofs.deciding.Known.work.Goals as goal
 
 pub returns-then-work-eq0 : goal.returns-then-work-eq0
 returns-then-work-eq0 g c =
-    let s : IsSound (rows_of c.args.self.now) = rw (← c.self.view_is) (sound c.self.inside.past.value c.self.invariant.0) in
+    let s : IsSound (rows_of c.args.self.now) = sound c.args.self.now c.recall.ensures.lawful in
     rw c.if-work-eq0.true (kept_work-none 0 (rows_of c.args.self.now) (has_no_zero _ s))
 
 pub returns-in-None : goal.returns-in-None

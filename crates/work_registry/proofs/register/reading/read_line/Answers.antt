@@ -1,7 +1,7 @@
 use Rattle.std.proofs.Common.{◌∷◌, ◌++◌, ℕ, List, refl}
 use Rattle.work_registry.specs.RegisterReading.{IsStop}
 use Rattle.work_registry.proofs.HandedOn.{handed_on}
-use Rattle.work_registry.proofs.OneMoreEntry.{kept_with, longer, still_opening}
+use Rattle.work_registry.proofs.OneMoreEntry.{longer, still_opening}
 use Rattle.work_registry.proofs.register.reading.read_line.Goals as goal
 
 pub enter_told-requires-clause-says : goal.enter_told-requires-clause-says
@@ -10,28 +10,32 @@ enter_told-requires-clause-says g c = rw (c.told.ensures, c.call_alone-call.ensu
 pub enter_told-requires-clause-only : goal.enter_told-requires-clause-only
 enter_told-requires-clause-only g c = rw (c.told.ensures, c.call_alone-call.ensures) c.in-Some.ensures.only
 
-pub returns-in_err-read_other_line-clause-fault : goal.returns-in_err-read_other_line-clause-fault
-returns-in_err-read_other_line-clause-fault g c = handed_on c.from_residual.result c.in_err-read_other_line.field-0.0 (λ r. (more : List ℕ) → IsStop c.args.ledger.now (c.args.line.now ++ 10 ∷ more) r) c.from_residual.ensures.1 c.in_err-read_other_line.ensures.fault
+pub returns-in_err-entry-clause-fault : goal.returns-in_err-entry-clause-fault
+returns-in_err-entry-clause-fault g c = handed_on c.from_residual-in_err-entry.result c.in_err-entry.field-0.0 (λ r. (more : List ℕ) → IsStop c.args.ledger.now (c.args.line.now ++ 10 ∷ more) r) c.from_residual-in_err-entry.ensures.1 c.in_err-entry.ensures.fault
 
 pub returns-in_err-reply-clause-fault : goal.returns-in_err-reply-clause-fault
 returns-in_err-reply-clause-fault g c = handed_on c.from_residual-in_err-reply.result c.in_err-reply.field-0.0 (λ r. (more : List ℕ) → IsStop c.args.ledger.now (c.args.line.now ++ 10 ∷ more) r) c.from_residual-in_err-reply.ensures.1 c.in_err-reply.ensures.fault
 
-pub returns-in_default-clause-opening : goal.returns-in_default-clause-opening
-returns-in_default-clause-opening g c = still_opening c.args.ledger.now c.read_other_line.new.ledger c.in_ok-read_other_line.field-0 c.in_ok-read_other_line.ensures.entry c.in_ok-read_other_line.ensures.session
+pub returns-then-keeps-clause-opening : goal.returns-then-keeps-clause-opening
+returns-then-keeps-clause-opening g c = still_opening c.args.ledger.now c.read_other_line.new.ledger c.in_ok-entry.entry c.in_ok-entry.ensures.entry c.in_ok-entry.ensures.session
 
-pub returns-clause-opening : goal.returns-clause-opening
-returns-clause-opening g c = still_opening c.args.ledger.now c.enter_told.new.ledger _ c.in_ok-reply.ensures.entry refl
+pub returns-then-keeps-clause-longer : goal.returns-then-keeps-clause-longer
+returns-then-keeps-clause-longer g c = longer c.args.ledger.now c.read_other_line.new.ledger c.in_ok-entry.entry c.in_ok-entry.ensures.entry
 
-pub returns-in_default-clause-longer : goal.returns-in_default-clause-longer
-returns-in_default-clause-longer g c = longer c.args.ledger.now c.read_other_line.new.ledger c.in_ok-read_other_line.field-0 c.in_ok-read_other_line.ensures.entry
+pub returns-else-keeps-clause-opening : goal.returns-else-keeps-clause-opening
+returns-else-keeps-clause-opening g c = still_opening c.args.ledger.now c.read_other_line.new.ledger c.in_ok-entry.entry c.in_ok-entry.ensures.entry c.in_ok-entry.ensures.session
 
-pub returns-clause-longer : goal.returns-clause-longer
-returns-clause-longer g c = longer c.args.ledger.now c.enter_told.new.ledger _ c.in_ok-reply.ensures.entry
+pub returns-else-keeps-clause-longer : goal.returns-else-keeps-clause-longer
+returns-else-keeps-clause-longer g c = longer c.args.ledger.now c.read_other_line.new.ledger c.in_ok-entry.entry c.in_ok-entry.ensures.entry
 
-pub returns-in_default-clause-kept : goal.returns-in_default-clause-kept
-returns-in_default-clause-kept g c =
-    kept_with c.args.ledger.now c.read_other_line.new.ledger c.args.history.now.items c.store_entry.new.history.items c.in_ok-read_other_line.field-0 c.in_ok-read_other_line.ensures.entry c.store_entry.ensures
+pub returns-then-keeps-2-clause-opening : goal.returns-then-keeps-2-clause-opening
+returns-then-keeps-2-clause-opening g c = still_opening c.args.ledger.now c.enter_told.new.ledger _ c.in_ok-reply.ensures.entry refl
 
-pub returns-clause-kept : goal.returns-clause-kept
-returns-clause-kept g c =
-    kept_with c.args.ledger.now c.enter_told.new.ledger c.args.history.now.items c.store_entry-2.new.history.items _ c.in_ok-reply.ensures.entry c.store_entry-2.ensures
+pub returns-then-keeps-2-clause-longer : goal.returns-then-keeps-2-clause-longer
+returns-then-keeps-2-clause-longer g c = longer c.args.ledger.now c.enter_told.new.ledger _ c.in_ok-reply.ensures.entry
+
+pub returns-else-keeps-2-clause-opening : goal.returns-else-keeps-2-clause-opening
+returns-else-keeps-2-clause-opening g c = still_opening c.args.ledger.now c.enter_told.new.ledger _ c.in_ok-reply.ensures.entry refl
+
+pub returns-else-keeps-2-clause-longer : goal.returns-else-keeps-2-clause-longer
+returns-else-keeps-2-clause-longer g c = longer c.args.ledger.now c.enter_told.new.ledger _ c.in_ok-reply.ensures.entry

@@ -1,43 +1,15 @@
-use Rattle.std.proofs.Common.{◌∙◌, ◌∷◌, ◌++◌, [], ℕ, List, ap, refl, sym, subst, append_assoc}
-use Rattle.work_registry.specs.Auditing.{IsLeft}
+use Rattle.std.proofs.Common.{◌++◌, ℕ, List, sym, subst}
+use Rattle.std.proofs.lemmas.Result.{IfErr-weaker}
 use Rattle.work_registry.specs.Numbers.{most_entries}
-use Rattle.work_registry.specs.RegisterFaults.{has_end, IsRefusal}
-use Rattle.work_registry.proofs.EachOfList.{behind}
-use Rattle.work_registry.proofs.HandedOn.{handed_on}
+use Rattle.work_registry.specs.RegisterFaults.{IsRefusal}
+use Rattle.work_registry.specs.RegisterReader.{ReaderState, IsRest}
 use Rattle.work_registry.proofs.register.auditor.Auditor.take_lines.Goals as goal
 
-pub loop-line-preserved : goal.loop-line-preserved
-loop-line-preserved g c =
-    let i = c.loop-line.invariant in
-    let front = i.front.0 in
-    let line = c.in-Some.line.now in
-    let more = c.in-Some.more.now in
-    let cut = c.in-Some.ensures.text in
-    record {
-      front = (front ++ (line ++ 10 ∷ []), i.front.1 ∙ ap (λ (xs : List ℕ). front ++ xs) (cut ∙ sym (append_assoc line (10 ∷ []) more)) ∙ sym (append_assoc front (line ++ 10 ∷ []) more));
-      read = λ text later left.
-          let P : List ℕ → Type 0 = λ xs. IsLeft c.loop-line.self text xs in
-          c.in_ok-take_line.ensures.read text (more ++ later) (subst P (ap (λ (xs : List ℕ). xs ++ later) cut ∙ append_assoc line (10 ∷ more) later) (i.read text later left));
-    }
-
-pub loop-line-init : goal.loop-line-init
-loop-line-init g c = record { front = ([], refl); read = λ text later left. left }
-
-pub returns-in_err-take_line-clause-fault : goal.returns-in_err-take_line-clause-fault
-returns-in_err-take_line-clause-fault g c =
-    let piece = c.args.piece.now in
-    let line = c.in-Some.line.now in
-    let more = c.in-Some.more.now in
-    handed_on c.from_residual.result c.in_err-take_line.field-0.0 (λ refusal. (text later : List ℕ) → IsLeft c.args.self.now text (piece ++ later) → IsRefusal most_entries text refusal) c.from_residual.ensures.1
-    (λ text later left.
-    let P : List ℕ → Type 0 = λ xs. IsLeft c.loop-line.self text xs in
-    c.in_err-take_line.ensures.fault text (more ++ later)
-    (subst P (ap (λ (xs : List ℕ). xs ++ later) c.in-Some.ensures.text ∙ append_assoc line (10 ∷ more) later) (c.loop-line.invariant.read text later left)))
-
-pub returns-clause-whole : goal.returns-clause-whole
-returns-clause-whole g c = ap has_end (behind c.args.piece.now c.loop-line.invariant.front.0 c.loop-line.rest.now c.loop-line.invariant.front.1) ∙ c.in_default.ensures.unended
-
-pub returns-clause-read : goal.returns-clause-read
-returns-clause-read g c = λ text later left.
-    let P : List ℕ → Type 0 = λ xs. IsLeft c.loop-line.self text (xs ++ later) in
-    subst P (sym (behind c.args.piece.now c.loop-line.invariant.front.0 c.loop-line.rest.now c.loop-line.invariant.front.1)) (c.loop-line.invariant.read text later left)
+pub returns-clause-fault : goal.returns-clause-fault
+returns-clause-fault g c =
+    IfErr-weaker c.take_lines.result _ (λ refusal. (text later : List ℕ) → IsRest c.args.self.now text (c.args.piece.now ++ later) → IsRefusal most_entries text refusal)
+    (λ refusal is text later left.
+    let P : ReaderState → Type 0 = λ s. IsRest s text (c.args.piece.now ++ later) in
+    let R : ℕ → Type 0 = λ n. IsRefusal n text refusal in
+    subst R c.self.invariant (is text later (subst P (sym c.self.view_is) left)))
+    c.take_lines.ensures.fault

@@ -1,5 +1,5 @@
 use Rattle.std.proofs.Common.{◌≡◌, ◌∙◌, ◌+◌, ◌∷◌, ◌++◌, ℕ, List, Option, length, length-append, arith, ap, sym, subst}
-use Rattle.work_registry.specs.RegisterReader.{ReaderState, HasCounted, IsRest}
+use Rattle.work_registry.specs.RegisterReader.{LinesState, HasCounted, IsRest}
 use Rattle.work_registry.specs.EntryValue.{EntryValue}
 use Rattle.work_registry.specs.RegisterFaults.{IsRefusal}
 use Rattle.work_registry.specs.RegisterReading.{IsReadTo}
@@ -12,20 +12,20 @@ pub returns-in_err-first_count-clause-fault : goal.returns-in_err-first_count-cl
 returns-in_err-first_count-clause-fault g c =
     let line = c.args.line.now in
     let refusal = c.in_err-first_count.field-0.0 in
-    let limit = ap (λ (s : ReaderState). s.limit) c.self.view_is in
-    handed_on c.from_residual.result refusal (λ r. (text more : List ℕ) → IsRest c.args.self.now text (line ++ 10 ∷ more) → IsRefusal c.args.self.now.limit text r) c.from_residual.ensures.1
+    let limit = ap (λ (s : LinesState). s.read.limit) c.self.view_is in
+    handed_on c.from_residual.result refusal (λ r. (text more : List ℕ) → IsRest c.args.self.now.read text (line ++ 10 ∷ more) → IsRefusal c.args.self.now.read.limit text r) c.from_residual.ensures.1
     (λ text more left.
-    let P : ReaderState → Type 0 = λ s. IsRest s text (line ++ 10 ∷ more) in
-    let Q : List ℕ → Type 0 = λ xs. IsRefusal c.args.self.now.limit xs refusal in
+    let P : LinesState → Type 0 = λ s. IsRest s.read text (line ++ 10 ∷ more) in
+    let Q : List ℕ → Type 0 = λ xs. IsRefusal c.args.self.now.read.limit xs refusal in
     let R : ℕ → Type 0 = λ n. IsRefusal n (line ++ 10 ∷ more) refusal in
     subst Q (sym (rest_first _ text (line ++ 10 ∷ more) c.in_default.is (subst P (sym c.self.view_is) left))) (subst R limit (c.in_err-first_count.ensures.fault more)))
 
 pub returns-then-len-count-clause-fault : goal.returns-then-len-count-clause-fault
 returns-then-len-count-clause-fault g c = λ text more left.
     let line = c.args.line.now in
-    let P : ReaderState → Type 0 = λ s. IsRest s text (line ++ 10 ∷ more) in
+    let P : LinesState → Type 0 = λ s. IsRest s.read text (line ++ 10 ∷ more) in
     let R : ℕ → Type 0 = λ n. IsRefusal n text c.fault.result in
-    let limit = ap (λ (s : ReaderState). s.limit) c.self.view_is in
+    let limit = ap (λ (s : LinesState). s.read.limit) c.self.view_is in
     let read = rest_later _ c.in-Some.count text (line ++ 10 ∷ more) c.in-Some.is (subst P (sym c.self.view_is) left) in
     let size = length-append line (10 ∷ more) in
     let full : length c.self.inside.ledger ≡ c.in-Some.count = sym c.len.ensures.value ∙ c.if-len-count.true in
@@ -33,30 +33,30 @@ returns-then-len-count-clause-fault g c = λ text more left.
 
 pub returns-clause-more : goal.returns-clause-more
 returns-clause-more g c =
-    let most = (counted_later c.self.inside.limit c.self.inside.count c.self.inside.ledger c.in-Some.count c.in-Some.is c.self.invariant.counted).0 in
+    let most = (counted_later c.self.inside.limit c.self.inside.count c.self.inside.ledger c.in-Some.count c.in-Some.is c.self.invariant.0.counted).0 in
     rw (← c.self.view_is) (omega (arith, most, c.len.ensures.value, c.if-len-count.false))
 
 pub returns-clause-few : goal.returns-clause-few
 returns-clause-few g c =
-    let most = (counted_later c.self.inside.limit c.self.inside.count c.self.inside.ledger c.in-Some.count c.in-Some.is c.self.invariant.counted).1 in
-    omega (arith, most, c.self.invariant.most)
+    let most = (counted_later c.self.inside.limit c.self.inside.count c.self.inside.ledger c.in-Some.count c.in-Some.is c.self.invariant.0.counted).1 in
+    omega (arith, most, c.self.invariant.0.most)
 
 pub returns-clause-counted : goal.returns-clause-counted
-returns-clause-counted g c = sym (ap (λ (s : ReaderState). s.count) c.self.view_is) ∙ c.in-Some.is
+returns-clause-counted g c = sym (ap (λ (s : LinesState). s.read.count) c.self.view_is) ∙ c.in-Some.is
 
 pub invariant_of-self : goal.invariant_of-self
 invariant_of-self g c =
     let P : Option ℕ → Type 0 = λ o. HasCounted c.self.inside.limit o c.self.inside.ledger in
-    let none = subst P c.in_default.is c.self.invariant.counted in
-    record { counted = (omega (arith, ap length none), c.in_ok-first_count.ensures.within); most = c.self.invariant.most; opening = c.self.invariant.opening }
+    let none = subst P c.in_default.is c.self.invariant.0.counted in
+    (record { counted = (omega (arith, ap length none), c.in_ok-first_count.ensures.within); least = c.self.invariant.0.least; most = c.self.invariant.0.most; opening = c.self.invariant.0.opening }, c.self.invariant.1)
 
 pub returns-in_default-clause-first : goal.returns-in_default-clause-first
 returns-in_default-clause-first g c = λ first text more left.
     let line = c.args.line.now in
     let count = c.in_ok-first_count.field-0 in
     let P : Option ℕ → Type 0 = λ o. HasCounted c.self.inside.limit o c.self.inside.ledger in
-    let Q : ReaderState → Type 0 = λ s. IsRest s text (line ++ 10 ∷ more) in
+    let Q : LinesState → Type 0 = λ s. IsRest s.read text (line ++ 10 ∷ more) in
     let R : List ℕ → Type 0 = λ xs. IsReadTo c.self.inside.limit xs count c.self.inside.ledger more in
     let S : List EntryValue → Type 0 = λ h. IsReadTo c.self.inside.limit (line ++ 10 ∷ more) count h more in
-    let none = subst P c.in_default.is c.self.invariant.counted in
+    let none = subst P c.in_default.is c.self.invariant.0.counted in
     subst R (sym (rest_first _ text (line ++ 10 ∷ more) c.in_default.is (subst Q (sym c.self.view_is) left))) (subst S (sym none) (c.in_ok-first_count.ensures.count more))

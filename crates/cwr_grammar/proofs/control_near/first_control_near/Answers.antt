@@ -1,6 +1,0 @@
-use Rattle.std.proofs.Common.{refl}
-use Rattle.cwr_grammar.proofs.Controls.{stops_at}
-use Rattle.cwr_grammar.proofs.control_near.first_control_near.Goals as goal
-
-pub returns-then-is_clean_before : goal.returns-then-is_clean_before
-returns-then-is_clean_before c = stops_at c.args.text.now c.args.guess c.if-guess-text.true c.if-text-guess-lt-LEAST_PRINTABLE.true (c.if-is_clean_before.ensures refl)

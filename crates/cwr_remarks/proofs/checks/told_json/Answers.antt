@@ -1,8 +1,0 @@
-use Rattle.std.proofs.Common.{◌∙◌}
-use Rattle.cwr_remarks.specs.Json.{remarks_data}
-use Rattle.cwr_remarks.proofs.checks.told_json.Goals as goal
-
-pub returns : goal.returns
-returns c =
-    let written = rw c.new-told.ensures.items at c.in_ok-put_list.ensures in
-    c.json_text_with_text.ensures.value (remarks_data c.args.found.now) (c.deref.ensures.value ∙ written)
