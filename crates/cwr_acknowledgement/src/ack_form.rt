@@ -1,29 +1,40 @@
-//! The ACK lines of an acknowledgement.
+//! The ACK and MSG lines of an acknowledgement.
 
 ghost use Rattle.std.specs.Prelude.{◌≡◌, length};
 ghost use Rattle.cwr_record.specs.Lines.{line_of};
 ghost use Rattle.cwr_record.specs.Acknowledgement as table;
-ghost use Rattle.cwr_acknowledgement.specs.Acknowledgement.{ack_record, ended};
+ghost use Rattle.cwr_acknowledgement.specs.Acknowledgement.{FitsFault, ack_record, ended, message_record};
 
+use crate::ack_item::AckItem;
 use crate::ack_records::recipient_number;
-use crate::answers::Told;
+use crate::messages::message_text;
 use crate::numeral::Numeral;
-use crate::places::put;
+use crate::places::{put, put_padded};
+use cwr_call::Fault;
 use cwr_field::{filled, last_digits};
-use cwr_record::{Ack, Column, Header, Prefix, RecordType, Stamp};
+use cwr_record::{Ack, Column, Header, Message, Prefix, RecordType, Stamp};
 use std::marker::Model;
 
 /// How many bytes an ACK line has, with its end.
 pub(crate) const ACK_LEN: usize = 161;
 
 /// The end of an ACK line, behind its last field.
-const LINE_END: Column = Column {
+const ACK_END: Column = Column {
     start: 160,
     width: 2,
 };
 
-/// The ACK lines of the transactions of one file. The dates and the time, which are the same in each of them, are spelled
-/// once, and the numbers, which are mostly the next ones, are counted up.
+/// How many bytes a MSG line has, with its end.
+pub(crate) const MESSAGE_LEN: usize = 187;
+
+/// The end of a MSG line, behind its last field.
+const MESSAGE_END: Column = Column {
+    start: 186,
+    width: 2,
+};
+
+/// The ACK and MSG lines of the transactions of one file. The dates and the time, which are the same in each ACK line, are
+/// spelled once, and the numbers, which are mostly those of the line before or the next ones, are counted up.
 #[derive(Drop)]
 pub(crate) struct AckForm<'a> {
     stamp: &'a Stamp,
@@ -35,6 +46,8 @@ pub(crate) struct AckForm<'a> {
     group: Numeral<5>,
     sequence: Numeral<8>,
     work: Numeral<8>,
+    detail: Numeral<8>,
+    original_record: Numeral<8>,
 }
 
 impl<'a> Model for AckForm<'a> {
@@ -66,12 +79,14 @@ impl<'a> AckForm<'a> {
             group: Numeral::of(0),
             sequence: Numeral::of(0),
             work: Numeral::of(0),
+            detail: Numeral::of(0),
+            original_record: Numeral::of(0),
         }
     }
 
     /// Writes the line that acknowledges an item, as the transaction `index` of its file, with its end.
     #[inline(always)]
-    pub(crate) fn fill(&mut self, line: &mut [u8], index: u32, item: &Told)
+    pub(crate) fn fill_ack(&mut self, line: &mut [u8], index: u32, item: &AckItem)
         requires { length line.old ≡ 161 }
         ensures same { self.new ≡ self.old }
         ensures line { line.new ≡ ended (line_of table.ack (ack_record self.old.stamp self.old.header index item.now)) }
@@ -97,6 +112,34 @@ impl<'a> AckForm<'a> {
         );
         put(line, Ack::PROCESSING_DATE, self.processing_date);
         put(line, Ack::STATUS, *item.status.code());
-        put(line, LINE_END, *b"\r\n");
+        put(line, ACK_END, *b"\r\n");
+    }
+
+    /// Writes the line that tells a fault, as the record `detail` of the transaction `index`, with its end.
+    #[inline(always)]
+    pub(crate) fn fill_message(&mut self, line: &mut [u8], index: u32, detail: u32, fault: &Fault)
+        requires length { length line.old ≡ 187 }
+        requires fits { FitsFault fault.now }
+        ensures same { self.new ≡ self.old }
+        ensures line { line.new ≡ ended (line_of table.message (message_record index detail fault.now)) }
+    {
+        put(line, RecordType::COLUMN, *b"MSG");
+        put(line, Prefix::TRANSACTION, self.transaction.spelled(index));
+        put(line, Prefix::DETAIL, self.detail.spelled(detail));
+        put(line, Message::MESSAGE_TYPE, *b"T");
+        put(
+            line,
+            Message::ORIGINAL_RECORD,
+            self.original_record.spelled(fault.sequence),
+        );
+        put(line, Message::RECORD_TYPE, fault.rtype);
+        put(line, Message::MESSAGE_LEVEL, *b"T");
+        put(
+            line,
+            Message::VALIDATION_NUMBER,
+            last_digits::<3>(fault.number as u64),
+        );
+        put_padded(line, Message::TEXT, message_text(fault.number));
+        put(line, MESSAGE_END, *b"\r\n");
     }
 }

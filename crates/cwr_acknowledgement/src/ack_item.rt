@@ -1,13 +1,15 @@
-use crate::answers::{Answers, Told, told_faults};
-use cwr_call::Faults;
+ghost use Rattle.std.specs.Prelude.{◌≡◌};
+ghost use Rattle.cwr_acknowledgement.specs.AckItem.{told_faults};
+
+use crate::answers::{Answers, told_faults};
+use cwr_call::Fault;
 use cwr_record::{Status, WorkKind};
-use std::alloc::{Allocator, Global};
 use std::marker::Model;
 
-/// A transaction of the acknowledged file, and the registry's decision on it.
-#[derive_where(Debug)]
-#[derive(Drop)]
-pub struct AckItem<A: Allocator = Global> {
+/// A transaction of the acknowledged file, and the registry's decision on it, as the acknowledgement tells them. It borrows
+/// the faults from where they are kept.
+#[derive(Debug, Drop)]
+pub struct AckItem<'a> {
     /// Group id of the transaction's group, at most 99999.
     pub group: u32,
     /// Transaction sequence, at most 99999999.
@@ -23,10 +25,10 @@ pub struct AckItem<A: Allocator = Global> {
     /// The registry's number of the work that the decision names, at most 99999999.
     pub work: Option<u32>,
     /// Why the transaction is rejected. The faults of one that is not rejected are not told.
-    pub faults: Faults<A>,
+    pub faults: &'a [Fault],
 }
 
-impl<A: Allocator> Model for AckItem<A> {
+impl<'a> Model for AckItem<'a> {
     ghost use Rattle.cwr_acknowledgement.specs.AckItem.{Item};
 
     ghost Value = { Item };
@@ -39,17 +41,26 @@ impl<A: Allocator> Model for AckItem<A> {
       number = i.number;
       status = i.status;
       work = i.work;
-      faults = i.faults;
+      faults = i.faults.now;
     } };
+}
+
+impl<'a> AckItem<'a> {
+    /// The faults that the acknowledgement tells: those of a rejected transaction.
+    pub(crate) fn told_faults(&self) -> &[Fault]
+        ensures { result.now ≡ told_faults self.now }
+    {
+        told_faults(self.status, self.faults)
+    }
 }
 
 /// Items that stand one after the other.
 #[derive(Drop)]
-pub(crate) struct Listed<'a, A: Allocator> {
-    pub(crate) items: &'a [AckItem<A>],
+pub(crate) struct Listed<'a> {
+    pub(crate) items: &'a [AckItem<'a>],
 }
 
-impl<'a, A: Allocator> Answers for Listed<'a, A> {
+impl<'a> Answers for Listed<'a> {
     ghost items = { λ l. l.items.now };
 
     fn len(&self) -> usize {
@@ -57,23 +68,13 @@ impl<'a, A: Allocator> Answers for Listed<'a, A> {
     }
 
     #[inline]
-    fn told(&self, index: usize) -> Told<'_> {
+    fn told(&self, index: usize) -> AckItem<'_> {
         let item = &self.items[index];
-        Told {
-            group: item.group,
-            sequence: item.sequence,
-            kind: item.kind,
-            title: item.title,
-            number: item.number,
-            status: item.status,
-            work: item.work,
-            faults: item.faults.as_slice(),
-        }
+        AckItem { ..*item }
     }
 
     #[inline]
     fn fault_count(&self, index: usize) -> usize {
-        let item = &self.items[index];
-        told_faults(item.status, item.faults.as_slice()).len()
+        self.items[index].told_faults().len()
     }
 }

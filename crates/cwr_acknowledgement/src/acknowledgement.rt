@@ -13,11 +13,10 @@ ghost use Rattle.cwr_acknowledgement.specs.Outgoing.{IsPut, size_of};
 use crate::ack_form::AckForm;
 use crate::ack_item::{AckItem, Listed};
 use crate::ack_records::{file_end, file_start, group_end, group_start};
-use crate::answers::{Answers, Told};
+use crate::answers::Answers;
 use crate::nowhere::Nowhere;
 use crate::outgoing::Outgoing;
 use crate::stopped::AckStopped;
-use crate::told::MessageForm;
 use byte_streams::{Sink, WriteStopped};
 use cwr_call::Fault;
 use cwr_field::Memory;
@@ -40,7 +39,7 @@ pub fn ack_file<A: Allocator + Copy>(
     alloc: A,
     stamp: &Stamp,
     header: &Header,
-    items: &[AckItem<A>],
+    items: &[AckItem],
 ) -> Result<Vec<u8, A>, Memory>
     requires few { length items.now + told_count items.now ≤ most_told }
     requires fit { AllByRecursion FitsItem items.now }
@@ -63,7 +62,7 @@ pub fn send_ack<W: Sink, A: Allocator + Copy>(
     writer: &mut W,
     stamp: &Stamp,
     header: &Header,
-    items: &[AckItem<A>],
+    items: &[AckItem],
 ) -> Result<(), AckStopped>
     requires works { W.has_failed writer.old ≡ false }
     requires few { length items.now + told_count items.now ≤ most_told }
@@ -154,17 +153,13 @@ fn put_all<W: Sink, L: Answers, A: Allocator>(
 {
     let transactions = answers.len() as u32;
     let told = told_count(answers);
-    put_file_start(out, writer, stamp)?;
-    put_group_start(out, writer)?;
-    put_items(
-        out,
-        writer,
-        &mut AckForm::new(stamp, header),
-        &mut MessageForm::new(),
-        answers,
-    )?;
-    put_group_end(out, writer, transactions, told)?;
-    put_file_end(out, writer, transactions, told)
+    out.put_line(writer, header_line(&file_start(stamp)).bytes())?;
+    out.put_line(writer, group_head_line(&group_start()).bytes())?;
+    put_items(out, writer, &mut AckForm::new(stamp, header), answers)?;
+    let group = group_end(transactions, told);
+    out.put_line(writer, group_trailer_line(&group).bytes())?;
+    let file = file_end(transactions, told);
+    out.put_line(writer, file_trailer_line(&file).bytes())
 }
 
 /// How many faults are told in all.
@@ -187,36 +182,10 @@ fn text_len(transactions: u32, told: u32) -> usize
     STARTS_AND_ENDS + transactions as usize * (159 + 2) + told as usize * (185 + 2)
 }
 
-fn put_file_start<W: Sink, A: Allocator>(
-    out: &mut Outgoing<A>,
-    writer: &mut W,
-    stamp: &Stamp,
-) -> Result<(), WriteStopped>
-    requires works { W.has_failed writer.old ≡ false }
-    requires size { size_of out.old + 187 < 2 ^ 63 }
-    ensures put { IsPut result (W.taken writer.old) (W.taken writer.new) out.old out.new 1 (ended (line_of control.header (file_start stamp.now))) }
-    ensures fails { W.has_failed writer.new ≡ is_err result }
-{
-    out.put_line(writer, header_line(&file_start(stamp)).bytes())
-}
-
-fn put_group_start<W: Sink, A: Allocator>(
-    out: &mut Outgoing<A>,
-    writer: &mut W,
-) -> Result<(), WriteStopped>
-    requires works { W.has_failed writer.old ≡ false }
-    requires size { size_of out.old + 187 < 2 ^ 63 }
-    ensures put { IsPut result (W.taken writer.old) (W.taken writer.new) out.old out.new 1 (ended (line_of control.group_head group_start)) }
-    ensures fails { W.has_failed writer.new ≡ is_err result }
-{
-    out.put_line(writer, group_head_line(&group_start()).bytes())
-}
-
 fn put_items<W: Sink, L: Answers, A: Allocator>(
     out: &mut Outgoing<A>,
     writer: &mut W,
     form: &mut AckForm,
-    messages: &mut MessageForm,
     answers: &L,
 ) -> Result<(), WriteStopped>
     requires works { W.has_failed writer.old ≡ false }
@@ -228,14 +197,7 @@ fn put_items<W: Sink, L: Answers, A: Allocator>(
     ensures fails { W.has_failed writer.new ≡ is_err result }
 {
     for index in 0..answers.len() {
-        put_item(
-            out,
-            writer,
-            form,
-            messages,
-            index as u32,
-            &answers.told(index),
-        )?;
+        put_item(out, writer, form, index as u32, &answers.told(index))?;
     }
     Ok(())
 }
@@ -244,9 +206,8 @@ fn put_item<W: Sink, A: Allocator>(
     out: &mut Outgoing<A>,
     writer: &mut W,
     form: &mut AckForm,
-    messages: &mut MessageForm,
     index: u32,
-    item: &Told,
+    item: &AckItem,
 ) -> Result<(), WriteStopped>
     requires works { W.has_failed writer.old ≡ false }
     requires size { size_of out.old + 187 * (1 + length (told_faults item.now)) < 2 ^ 63 }
@@ -258,13 +219,13 @@ fn put_item<W: Sink, A: Allocator>(
     ensures same { form.new ≡ form.old }
 {
     out.put_ack(writer, form, index, item)?;
-    put_messages(out, writer, messages, index, item.told_faults())
+    put_messages(out, writer, form, index, item.told_faults())
 }
 
 fn put_messages<W: Sink, A: Allocator>(
     out: &mut Outgoing<A>,
     writer: &mut W,
-    messages: &mut MessageForm,
+    form: &mut AckForm,
     index: u32,
     faults: &[Fault],
 ) -> Result<(), WriteStopped>
@@ -275,47 +236,10 @@ fn put_messages<W: Sink, A: Allocator>(
     ensures put { IsPut result (W.taken writer.old) (W.taken writer.new) out.old out.new (length faults.now)
         (flat_map ended (message_lines index 1 faults.now)) }
     ensures fails { W.has_failed writer.new ≡ is_err result }
+    ensures same { form.new ≡ form.old }
 {
     for (before, fault) in faults.iter().enumerate() {
-        out.put_message(writer, messages, index, before as u32 + 1, fault)?;
+        out.put_message(writer, form, index, before as u32 + 1, fault)?;
     }
     Ok(())
-}
-
-fn put_group_end<W: Sink, A: Allocator>(
-    out: &mut Outgoing<A>,
-    writer: &mut W,
-    transactions: u32,
-    told: u32,
-) -> Result<(), WriteStopped>
-    requires works { W.has_failed writer.old ≡ false }
-    requires size { size_of out.old + 187 < 2 ^ 63 }
-    requires few { transactions + told ≤ most_told }
-    ensures put { IsPut result (W.taken writer.old) (W.taken writer.new) out.old out.new 1
-        (ended (line_of control.group_trailer (group_end transactions told))) }
-    ensures fails { W.has_failed writer.new ≡ is_err result }
-{
-    out.put_line(
-        writer,
-        group_trailer_line(&group_end(transactions, told)).bytes(),
-    )
-}
-
-fn put_file_end<W: Sink, A: Allocator>(
-    out: &mut Outgoing<A>,
-    writer: &mut W,
-    transactions: u32,
-    told: u32,
-) -> Result<(), WriteStopped>
-    requires works { W.has_failed writer.old ≡ false }
-    requires size { size_of out.old + 187 < 2 ^ 63 }
-    requires few { transactions + told ≤ most_told }
-    ensures put { IsPut result (W.taken writer.old) (W.taken writer.new) out.old out.new 1
-        (ended (line_of control.file_trailer (file_end transactions told))) }
-    ensures fails { W.has_failed writer.new ≡ is_err result }
-{
-    out.put_line(
-        writer,
-        file_trailer_line(&file_end(transactions, told)).bytes(),
-    )
 }

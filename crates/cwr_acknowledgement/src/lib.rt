@@ -16,11 +16,10 @@ mod numeral;
 mod outgoing;
 mod places;
 mod stopped;
-mod told;
 
 pub use ack_item::AckItem;
 pub use acknowledgement::{ack_file, send_ack, send_answers};
-pub use answers::{Answers, Told, told_faults};
+pub use answers::{Answers, told_faults};
 pub use cwr_call::{Fault, Faults};
 pub use cwr_field::Memory;
 pub use cwr_record::{Header, Stamp, Status, WorkKind};

@@ -7,10 +7,9 @@ ghost use Rattle.cwr_record.specs.Acknowledgement as table;
 ghost use Rattle.cwr_acknowledgement.specs.Acknowledgement.{FitsFault, ack_record, message_record, ended};
 ghost use Rattle.cwr_acknowledgement.specs.Outgoing.{IsPut, size_of};
 
-use crate::ack_form::{ACK_LEN, AckForm};
-use crate::answers::Told;
+use crate::ack_form::{ACK_LEN, AckForm, MESSAGE_LEN};
+use crate::ack_item::AckItem;
 use crate::places::put_ended;
-use crate::told::{MESSAGE_LEN, MessageForm};
 use byte_streams::{Sink, WriteStopped, write_out};
 use cwr_call::Fault;
 use cwr_field::Memory;
@@ -94,7 +93,7 @@ impl<A: Allocator> Outgoing<A> {
         writer: &mut W,
         form: &mut AckForm,
         index: u32,
-        item: &Told,
+        item: &AckItem,
     ) -> Result<(), WriteStopped>
         requires works { W.has_failed writer.old ≡ false }
         requires size { size_of self.old + 187 < 2 ^ 63 }
@@ -105,7 +104,7 @@ impl<A: Allocator> Outgoing<A> {
     {
         self.make_room(writer, ACK_LEN)?;
         let end = self.end + ACK_LEN;
-        form.fill(&mut self.bytes[self.end..end], index, item);
+        form.fill_ack(&mut self.bytes[self.end..end], index, item);
         self.end = end;
         Ok(())
     }
@@ -115,7 +114,7 @@ impl<A: Allocator> Outgoing<A> {
     pub(crate) fn put_message<W: Sink>(
         &mut self,
         writer: &mut W,
-        form: &mut MessageForm,
+        form: &mut AckForm,
         index: u32,
         detail: u32,
         fault: &Fault,
@@ -126,10 +125,11 @@ impl<A: Allocator> Outgoing<A> {
         ensures put { IsPut result (W.taken writer.old) (W.taken writer.new) self.old self.new 1
             (ended (line_of table.message (message_record index detail fault.now))) }
         ensures fails { W.has_failed writer.new ≡ is_err result }
+        ensures same { form.new ≡ form.old }
     {
         self.make_room(writer, MESSAGE_LEN)?;
         let end = self.end + MESSAGE_LEN;
-        form.fill(&mut self.bytes[self.end..end], index, detail, fault);
+        form.fill_message(&mut self.bytes[self.end..end], index, detail, fault);
         self.end = end;
         Ok(())
     }

@@ -5,7 +5,7 @@ ghost use Rattle.cwr_acknowledgement.specs.Acknowledgement.{FitsItem, most_told,
 ghost use Rattle.cwr_engine.specs.Told.{told_all};
 
 use crate::judged::Judged;
-use cwr_acknowledgement::{Answers, Told, told_faults};
+use cwr_acknowledgement::{AckItem, Answers, told_faults};
 use cwr_record::Header;
 use std::alloc::{Allocator, Global};
 use work_registry::Reply;
@@ -49,14 +49,14 @@ impl<'a, A: Allocator> Answers for Answered<'a, A> {
     }
 
     #[inline]
-    fn told(&self, index: usize) -> Told<'_> {
+    fn told(&self, index: usize) -> AckItem<'_> {
         let Judged {
             group,
             sequence,
             call,
         } = &self.transactions[index];
         let reply = self.replies[index];
-        Told {
+        AckItem {
             group: *group,
             sequence: *sequence,
             kind: call.kind(),

@@ -38,10 +38,6 @@ one_more bytes c m digit is =
     let known = spelled bytes m (list_all is_ascii_digit bytes) refl is in
     rw (list_all-append is_ascii_digit bytes (c ∷ []), known.0, digit, digits_value_push 10 bytes c, known.1, (is_digit c digit).value) refl
 
--- the last is no digit
-pub none_last : (bytes : List ℕ) (c : ℕ) → is_ascii_digit c ≡ false → number_of (bytes ++ c ∷ []) ≡ None
-none_last bytes c other = rw (list_all-append is_ascii_digit bytes (c ∷ []), other, and-false (list_all is_ascii_digit bytes)) refl
-
 -- one of the first is no digit
 pub none_front : (bytes : List ℕ) (c : ℕ) → number_of bytes ≡ None → number_of (bytes ++ c ∷ []) ≡ None
 none_front bytes c is =

@@ -38,24 +38,13 @@ pub(crate) fn number_of_eight(bytes: [u8; 8]) -> Option<u64>
     Some(parts.reduce_sum() as u64)
 }
 
-/// The number that four bytes spell, where each is a digit: that of eight, with zeros in front.
+/// The number that four bytes spell, where each is a digit.
 #[inline(always)]
 pub fn number_of_four(bytes: [u8; 4]) -> Option<u64>
     ensures value { result ≡ number_of bytes }
     ensures bound { IfSome result (λ n. n < 10 ^ 4) }
 {
-    let [a, b, c, d] = bytes;
-    number_of_eight([b'0', b'0', b'0', b'0', a, b, c, d])
-}
-
-/// The number that five bytes spell, where each is a digit: that of eight, with zeros in front.
-#[inline(always)]
-fn number_of_five(bytes: [u8; 5]) -> Option<u64>
-    ensures value { result ≡ number_of bytes }
-    ensures bound { IfSome result (λ n. n < 10 ^ 5) }
-{
-    let [a, b, c, d, e] = bytes;
-    number_of_eight([b'0', b'0', b'0', a, b, c, d, e])
+    number_in(&bytes)
 }
 
 /// The number that nine bytes spell, where each is a digit: eight at once, and the last.
@@ -85,7 +74,7 @@ fn number_of_twelve(bytes: [u8; 12]) -> Option<u64>
 }
 
 /// The number that at most 18 bytes spell, where each is a digit, byte by byte.
-#[inline(never)]
+#[inline(always)]
 fn number_in(bytes: &[u8]) -> Option<u64>
     requires { length bytes.now ≤ 18 }
     ensures value { result ≡ number_of bytes.now }
@@ -103,7 +92,7 @@ fn number_in(bytes: &[u8]) -> Option<u64>
 
 /// The number that a field spells, where each of its bytes is a digit.
 ///
-/// Of eight, nine or twelve bytes eight are looked at at once.
+/// Of eight, nine or twelve bytes eight are looked at at once; a group's five, which each transaction has, one by one.
 #[inline(always)]
 pub fn digits(text: Field) -> Option<u64>
     requires { length text ≤ 18 }
@@ -111,6 +100,7 @@ pub fn digits(text: Field) -> Option<u64>
     ensures bound { IfSome result (λ n. n < 10 ^ length text.entry) }
 {
     match text.width() {
+        5 => number_in(&text.bytes::<5>()),
         8 => number_of_eight(text.bytes::<8>()),
         9 => number_of_nine(text.bytes::<9>()),
         12 => number_of_twelve(text.bytes::<12>()),
@@ -138,7 +128,7 @@ pub fn share(text: Field) -> Option<u16>
     ensures bound { IfSome result (λ n. n ≤ whole) }
 {
     let bytes = text.bytes::<5>();
-    match number_of_five(bytes) {
+    match number_in(&bytes) {
         Some(number) if number <= WHOLE => Some(number as u16),
         Some(_) => None,
         None => no_share(&bytes),

@@ -11,7 +11,7 @@ use std::simd::prelude::*;
 pub const BLOCK: usize = 64;
 
 /// And how many of them together, where there are fewer.
-pub const HALF: usize = 32;
+const HALF: usize = 32;
 
 /// Which bytes are looked for.
 #[derive(Clone, Copy, Debug, PartialEq, Eq, Hash)]

@@ -71,7 +71,7 @@ pub(crate) fn stamp() -> Result<Stamp, Fail> {
 }
 
 /// An item of the first group that is not rejected, for a work that the submitter calls W1.
-pub(crate) fn item(alloc: Global, sequence: u32, kind: WorkKind, status: Status) -> AckItem
+pub(crate) fn item(sequence: u32, kind: WorkKind, status: Status) -> AckItem<'static>
     requires sequence { sequence < 10 ^ 8 }
     requires status { is_rejected status ≡ false }
     ensures fits { FitsItem result }
@@ -85,7 +85,7 @@ pub(crate) fn item(alloc: Global, sequence: u32, kind: WorkKind, status: Status)
         number: cut(b"W1", 1, 14).bytes(),
         status,
         work: Some(1),
-        faults: Faults::new(Vec::new(alloc)),
+        faults: &[],
     }
 }
 
@@ -100,10 +100,10 @@ fn fault(sequence: u32, number: u8, rtype: [u8; 3]) -> Fault
 }
 
 /// A rejected item: the first of the first group.
-pub(crate) fn rejected(title: &[u8], number: &[u8], faults: Vec<Fault>) -> AckItem
-    requires { AllByRecursion FitsFault faults.items }
+pub(crate) fn rejected<'a>(title: &[u8], number: &[u8], faults: &'a [Fault]) -> AckItem<'a>
+    requires { AllByRecursion FitsFault faults.now }
     ensures fits { FitsItem result }
-    ensures told { told_faults result ≡ faults.items }
+    ensures told { told_faults result ≡ faults.now }
 {
     AckItem {
         group: 1,
@@ -113,7 +113,7 @@ pub(crate) fn rejected(title: &[u8], number: &[u8], faults: Vec<Fault>) -> AckIt
         number: cut(number, 1, 14).bytes(),
         status: Status::Rejected,
         work: None,
-        faults: Faults::new(faults),
+        faults,
     }
 }
 
@@ -154,7 +154,7 @@ const REGISTERED: [&str; 5] = [
 #[test]
 fn acknowledges_one_work(rt: HostRuntime) -> Result<(), Fail> {
     same("its length", &spelled(rt.alloc(), &REGISTERED)?.len(), &425)?;
-    let items = [item(rt.alloc(), 0, WorkKind::Nwr, Status::Accepted)];
+    let items = [item(0, WorkKind::Nwr, Status::Accepted)];
     expect_text(rt.alloc(), &items, &REGISTERED)
 }
 
@@ -174,8 +174,8 @@ fn acknowledges_no_work(rt: HostRuntime) -> Result<(), Fail> {
 #[test]
 fn acknowledges_a_work_twice(rt: HostRuntime) -> Result<(), Fail> {
     let items = [
-        item(rt.alloc(), 0, WorkKind::Nwr, Status::Accepted),
-        item(rt.alloc(), 1, WorkKind::Nwr, Status::Duplicate),
+        item(0, WorkKind::Nwr, Status::Accepted),
+        item(1, WorkKind::Nwr, Status::Duplicate),
     ];
     expect_text(
         rt.alloc(),
@@ -194,7 +194,7 @@ fn acknowledges_a_work_twice(rt: HostRuntime) -> Result<(), Fail> {
 
 #[test]
 fn acknowledges_a_conflict(rt: HostRuntime) -> Result<(), Fail> {
-    let items = [item(rt.alloc(), 0, WorkKind::Rev, Status::Conflict)];
+    let items = [item(0, WorkKind::Rev, Status::Conflict)];
     expect_text(
         rt.alloc(),
         &items,
@@ -216,7 +216,7 @@ fn tells_three_faults(rt: HostRuntime) -> Result<(), Fail> {
         fault(0, 3, *b"NWR"),
         fault(0, 10, *b"NWR"),
     ];
-    let items = [rejected(b"", b"", faults.to_vec(rt.alloc())?)];
+    let items = [rejected(b"", b"", &faults)];
     expect_text(
         rt.alloc(),
         &items,
@@ -237,7 +237,7 @@ fn tells_three_faults(rt: HostRuntime) -> Result<(), Fail> {
 #[test]
 fn tells_a_share(rt: HostRuntime) -> Result<(), Fail> {
     let faults = [fault(1, 6, *b"SWR")];
-    let items = [rejected(b"SONG ONE", b"W1", faults.to_vec(rt.alloc())?)];
+    let items = [rejected(b"SONG ONE", b"W1", &faults)];
     expect_text(
         rt.alloc(),
         &items,
@@ -253,7 +253,7 @@ fn tells_a_share(rt: HostRuntime) -> Result<(), Fail> {
 }
 
 /// An item in conflict, which has faults all the same.
-fn in_conflict(faults: Vec<Fault>) -> AckItem
+fn in_conflict(faults: &[Fault]) -> AckItem<'_>
     ensures fits { FitsItem result }
     ensures told { told_faults result ≡ [] }
 {
@@ -265,7 +265,7 @@ fn in_conflict(faults: Vec<Fault>) -> AckItem
         number: cut(b"W1", 1, 14).bytes(),
         status: Status::Conflict,
         work: None,
-        faults: Faults::new(faults),
+        faults,
     }
 }
 
@@ -325,14 +325,13 @@ fn keeps_faults(rt: HostRuntime) -> Result<(), Fail> {
 /// A rejected item tells them.
 #[test]
 fn tells_the_faults_of_a_rejected_item(rt: HostRuntime) -> Result<(), Fail> {
-    let faults = TWO_FAULTS.to_vec(rt.alloc())?;
-    let items = [rejected(b"SONG ONE", b"W1", faults)];
+    let items = [rejected(b"SONG ONE", b"W1", &TWO_FAULTS)];
     expect_told(rt.alloc(), &items, &TWO_FAULTS)
 }
 
 /// No other item does.
 #[test]
 fn tells_no_faults_of_a_conflict(rt: HostRuntime) -> Result<(), Fail> {
-    let items = [in_conflict(TWO_FAULTS.to_vec(rt.alloc())?)];
+    let items = [in_conflict(&TWO_FAULTS)];
     expect_told(rt.alloc(), &items, &[])
 }

@@ -88,7 +88,7 @@ fn expect_cut(
 
 #[test]
 fn stops_after_each_byte(rt: HostRuntime) -> Result<(), Fail> {
-    let items = [item(rt.alloc(), 0, WorkKind::Nwr, Status::Accepted)];
+    let items = [item(0, WorkKind::Nwr, Status::Accepted)];
     let wanted = acknowledged(rt.alloc(), &items)?;
     expect_each_cut(rt.alloc(), &items, &wanted)
 }
@@ -126,7 +126,7 @@ fn thousand_faults(alloc: Global) -> Result<Vec<Fault>, Memory>
 #[test]
 fn stops_in_each_piece(rt: HostRuntime) -> Result<(), Fail> {
     let faults = thousand_faults(rt.alloc())?;
-    let items = [rejected(b"SONG ONE", b"W1", faults)];
+    let items = [rejected(b"SONG ONE", b"W1", &faults)];
     let wanted = acknowledged(rt.alloc(), &items)?;
     expect_pieces(rt.alloc(), &items, &wanted)
 }

@@ -1,7 +1,6 @@
 pub mod FirstLine
 pub mod Controls
 pub mod lemmas
-pub mod Small
 pub mod Enveloped
 pub mod Accepted
 pub mod Complete

@@ -12,7 +12,7 @@ use Rattle.cwr_grammar.specs.FaultTests.{is_after_end}
 use Rattle.cwr_grammar.specs.Collected.{group_count, record_count, raws}
 use Rattle.cwr_grammar.specs.Counted.{counts_of, AreSmall}
 use Rattle.cwr_grammar.specs.ReadUpTo.{Going}
-use Rattle.cwr_grammar.proofs.Small.{small_from}
+use Rattle.cwr_grammar.proofs.lemmas.Small.{small_from}
 use Rattle.cwr_grammar.proofs.Numbers.{few_groups_after, few_records, clear_role}
 use Rattle.cwr_grammar.proofs.FileParts.{file_raws, file_groups, file_records}
 use Rattle.cwr_grammar.proofs.Least.{first_is_least}

@@ -1,40 +1,41 @@
-ghost use Rattle.std.specs.Prelude.{◌≡◌, ◌+◌, List, [], ◌∷◌};
+ghost use Rattle.std.specs.Prelude.{◌≡◌, ◌+◌, ℕ, List, [], ◌∷◌, map};
 ghost use Rattle.cwr_grammar.specs.declared.role.Role.{Role};
 ghost use Rattle.cwr_grammar.specs.FaultTests.{is_number, option_next, same_kind};
 ghost use Rattle.cwr_grammar.specs.FirstFault.{role_fault, grammar_fault};
 ghost use Rattle.cwr_grammar.specs.Counted.{counts_of, AreSmall};
+ghost use Rattle.cwr_grammar.specs.Roles.{role_of};
 
-use crate::role::Role;
-use cwr_record::WorkKind;
+use crate::role::{Role, role_at};
+use cwr_record::{WorkKind, type_of};
 
-/// What is counted while a file is read.
+/// What is counted while a file is read: what the lines up to one of them say, by their roles.
 #[derive(Clone, Copy)]
-pub(crate) struct FileCounts {
+pub struct FileCounts {
     /// How many lines were read.
-    pub(crate) lines: u64,
+    pub lines: u64,
     /// How many groups began.
-    pub(crate) groups: u64,
+    pub groups: u64,
     /// How many transactions began in the file.
-    pub(crate) all_transactions: u64,
+    pub all_transactions: u64,
     /// The file ended.
-    pub(crate) is_ended: bool,
+    pub is_ended: bool,
     /// A group is open.
-    pub(crate) in_group: bool,
+    pub in_group: bool,
     /// The transaction type of the last group.
-    pub(crate) kind: Option<WorkKind>,
+    pub kind: Option<WorkKind>,
     /// How many lines follow the last group header.
-    pub(crate) group_lines: u64,
+    pub group_lines: u64,
     /// How many transactions began in the last group.
-    pub(crate) transactions: u64,
+    pub transactions: u64,
     /// A transaction began in the last group.
-    pub(crate) in_transaction: bool,
+    pub in_transaction: bool,
     /// How many lines follow the last transaction header of the group.
-    pub(crate) details: u64,
+    pub details: u64,
 }
 
 impl FileCounts {
     /// The counts before the first line.
-    pub(crate) fn new() -> FileCounts
+    pub fn new() -> FileCounts
         ensures { result ≡ counts_of [] }
     {
         FileCounts {
@@ -51,6 +52,14 @@ impl FileCounts {
         }
     }
 
+    /// Counts the next line of a file by the record that it names, whether or not it has a fault.
+    pub fn add_record(&mut self, line: &[u8])
+        requires small { AreSmall self.old }
+        ensures { (before : List (List ℕ)) → self.old ≡ counts_of (map role_of before) → self.new ≡ counts_of (map role_of (line.now ∷ before)) }
+    {
+        self.add(&role_at(type_of(line), line));
+    }
+
     /// Counts a line that has no fault, and begins and ends nothing.
     #[inline(always)]
     pub(crate) fn add_line(&mut self)
@@ -62,7 +71,7 @@ impl FileCounts {
         self.details += 1;
     }
 
-    /// Counts a line that has no fault.
+    /// Counts a line of this role.
     #[inline(always)]
     pub(crate) fn add(&mut self, role: &Role)
         requires small { AreSmall self.old }

@@ -3,7 +3,7 @@
 //! [`parse_file`] reads a submission file: its header and its transactions, or its first fault. Nothing is copied:
 //! a [`RawTransaction`] borrows the file's bytes, and [`Lines`] goes over lines. [`visit_file`] gives the same header
 //! and transactions to a [`Visitor`], these line by line, on its way, and a [`FileReader`] those of a file that comes a
-//! piece at a time.
+//! piece at a time. [`FileCounts`] are what the lines before one of them say.
 #![tactic(auto)]
 
 mod awaited;
@@ -25,6 +25,7 @@ mod visitor;
 pub use cwr_field::Memory;
 pub use cwr_record::{Header, WorkKind};
 pub use envelope::Envelope;
+pub use file_counts::FileCounts;
 pub use file_reader::FileReader;
 pub use lines::Lines;
 pub use refusal::FileRefusal;

@@ -44,7 +44,7 @@ impl<'a> Iterator for Lines<'a> {
     ghost remaining = { item_count (λ l. l) };
 
     fn next(&mut self) -> Option<&'a [u8]> {
-        let line = first_line(self.rest)?;
+        let line = first_line_near(self.rest, 0)?;
         self.rest = &self.rest[line.size..];
         Some(line.bytes)
     }
@@ -62,22 +62,6 @@ pub(crate) struct FirstLine<'a> {
     pub(crate) is_clean: bool,
     /// An LF ends it.
     pub(crate) is_whole: bool,
-}
-
-/// The first line of a text.
-pub(crate) fn first_line(text: &[u8]) -> Option<FirstLine<'_>>
-    ensures none { IfNone result (text.now ≡ []) }
-    ensures line { IfSome result (λ x. lines text.now ≡ x.bytes.now ∷ lines (drop x.size text.now)) }
-    ensures some { IfSome result (λ x. 0 < x.size) }
-    ensures inside { IfSome result (λ x. x.size ≤ length text.now) }
-    ensures clean { IfSome result (λ x. x.is_clean ≡ true → has_control x.bytes.now ≡ false) }
-
-    // Its bytes are the whole text, or are a line with its end before any other bytes too.
-    ensures whole { IfSome result (λ x. (length text.now ≤ x.size) ⊎ ((more : List ℕ) → lines (take x.size text.now ++ more) ≡ x.bytes.now ∷ lines more)) }
-    ensures ended { IfSome result (λ x. x.is_whole ≡ true → (more : List ℕ) → lines (take x.size text.now ++ more) ≡ x.bytes.now ∷ lines more) }
-    ensures unended { IfSome result (λ x. x.is_whole ≡ false → position (λ b. b == 10) text.now ≡ None) }
-{
-    first_line_near(text, 0)
 }
 
 /// The first line of a text, which may have so many bytes.

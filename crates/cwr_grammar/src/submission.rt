@@ -4,7 +4,7 @@ ghost use Rattle.cwr_grammar.specs.File.{File, IsFile};
 ghost use Rattle.cwr_grammar.specs.Submitted.{IsSubmission, IsBounded, IsRefusal};
 
 use crate::file_reader::FileReader;
-use crate::lines::first_line;
+use crate::lines::first_line_near;
 use crate::refusal::FileRefusal;
 use crate::transactions::Transactions;
 use cwr_record::Header;
@@ -43,7 +43,7 @@ pub fn parse_file<'a, A: Allocator>(
     let mut spans = Vec::new(alloc);
     let mut current = None;
     let mut at = 0;
-    while let Some(line) = first_line(&bytes[at..]) {
+    while let Some(line) = first_line_near(&bytes[at..], 0) {
         current = reader.place_line(&mut spans, current, at, &line)?;
         at += line.size;
     }

@@ -1,6 +1,6 @@
 ghost use Rattle.std.specs.Prelude.{◌≡◌};
 ghost use Rattle.cwr_record.specs.Columns.{field_at, every_record_type};
-ghost use Rattle.cwr_remarks.specs.Types.{is_of_agreement, is_of_other_alphabet, is_of_work, is_standard, unknown_type};
+ghost use Rattle.cwr_remarks.specs.Types.{is_standard, unknown_type};
 
 use crate::remark::Remarked;
 use cwr_record::{RecordType, field_at};
@@ -17,45 +17,15 @@ pub(crate) fn unknown_type(record_type: RecordType, line: &[u8]) -> Option<Remar
     Some(Remarked::UnknownType)
 }
 
-/// Whether the name is that of a record of the standard which the profile does not name.
+/// Whether the name is that of a record of the standard which the profile does not name: of an agreement, of names and
+/// titles in other alphabets, or of a work.
 fn is_standard(name: [u8; 3]) -> bool
     ensures { result ≡ is_standard name }
 {
-    is_of_agreement(name) || is_of_other_alphabet(name) || is_of_work(name)
-}
-
-fn is_of_agreement(name: [u8; 3]) -> bool
-    ensures { result ≡ is_of_agreement name }
-{
-    name == *b"TER" || name == *b"IPA" || name == *b"NPA"
-}
-
-fn is_of_other_alphabet(name: [u8; 3]) -> bool
-    ensures { result ≡ is_of_other_alphabet name }
-{
-    name == *b"NPN"
-        || name == *b"NWN"
-        || name == *b"NOW"
-        || name == *b"NPR"
-        || name == *b"NAT"
-        || name == *b"NET"
-        || name == *b"NCT"
-        || name == *b"NVT"
-}
-
-fn is_of_work(name: [u8; 3]) -> bool
-    ensures { result ≡ is_of_work name }
-{
-    name == *b"OPT"
-        || name == *b"OWT"
-        || name == *b"EWT"
-        || name == *b"VER"
-        || name == *b"PER"
-        || name == *b"REC"
-        || name == *b"ORN"
-        || name == *b"INS"
-        || name == *b"IND"
-        || name == *b"COM"
-        || name == *b"ARI"
-        || name == *b"MSG"
+    [
+        *b"TER", *b"IPA", *b"NPA", *b"NPN", *b"NWN", *b"NOW", *b"NPR", *b"NAT", *b"NET", *b"NCT",
+        *b"NVT", *b"OPT", *b"OWT", *b"EWT", *b"VER", *b"PER", *b"REC", *b"ORN", *b"INS", *b"IND",
+        *b"COM", *b"ARI", *b"MSG",
+    ]
+    .contains(&name)
 }

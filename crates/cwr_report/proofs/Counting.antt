@@ -1,43 +1,29 @@
 -- The lines before one of a file are few, and what they say counts no more than they are.
-use Rattle.std.proofs.Common.{inl, inr, eqb, Bool, true, false, cond, ◌≡◌, ◌∙◌, ◌≤◌, ◌<◌, ◌^◌, ℕ, suc, ◌+◌, ◌-◌, List, [], ◌∷◌, length, map, take, drop, ap, sym, arith, Bor}
-use Rattle.std.proofs.lemmas.List.{length-take, length-drop, length-reverse, length-map}
-use Rattle.std.specs.List.{count_by, slice_split}
+use Rattle.std.proofs.Common.{inl, inr, eqb, true, false, cond, ◌≡◌, ◌∙◌, ◌≤◌, ◌<◌, ◌^◌, ℕ, suc, ◌+◌, ◌-◌, List, [], ◌∷◌, length, map, take, drop, ap, sym, subst, arith, Bor}
+use Rattle.std.proofs.lemmas.List.{length-take, length-drop, length-reverse, length-map, length-append}
+use Rattle.std.specs.List.{slice_split, join_with_byte}
 use Rattle.std.specs.Str.Lines.{lines, lines_of_parts}
-use Rattle.std.proofs.lemmas.List.Splits.{length-slice_split}
-use Rattle.std.proofs.lemmas.List.Sums.{length-filter}
+use Rattle.std.proofs.lemmas.List.Splits.{join_with_byte-slice_split}
+use Rattle.cwr_grammar.specs.Counted.{AreSmall}
 use Rattle.cwr_grammar.specs.Faults.{HasFault, IsLeastFault}
-use Rattle.cwr_grammar.specs.Before.{is_group_header, is_transaction_header, group_lines}
 use Rattle.cwr_grammar.specs.Roles.{role_of}
-use Rattle.cwr_grammar.proofs.lemmas.Few.{length-since-le, length-filter-le}
-use Rattle.cwr_report.specs.declared.before.Before.{Before}
-use Rattle.cwr_report.specs.Before.{before_of, AreFew, IsPassed}
+use Rattle.cwr_grammar.specs.declared.file_counts.FileCounts.{FileCounts}
+use Rattle.cwr_grammar.proofs.lemmas.Small.{are_small}
+use Rattle.cwr_report.specs.Before.{before_of, IsPassed}
 use Rattle.cwr_report.specs.BytesBefore.{first_size, bytes_before}
 use Rattle.cwr_report.specs.Walks.{lines_before}
 use Rattle.cwr_report.proofs.Walking.{rest_more, rest_end, before_more, before_end}
 
-pub are_few : (before : List (List ℕ)) → length before ≤ 2 ^ 63 → AreFew (before_of before)
-are_few before few =
-    let roles = map role_of before in
-    let size : length roles ≡ length before = length-map before role_of in
-    let group = length-since-le is_group_header roles in
-    let transaction = length-since-le is_transaction_header (group_lines roles) in
-    record {
-      lines = few;
-      groups = omega (arith, length-filter-le is_group_header roles, size);
-      all = omega (arith, length-filter-le is_transaction_header roles, size);
-      group_lines = omega (arith, group, size);
-      transactions = omega (arith, length-filter-le is_transaction_header (group_lines roles), group, size);
-      details = omega (arith, transaction, group, size);
-    }
-
 pub length-before : (lines : List (List ℕ)) (index : ℕ) → length (lines_before lines index) ≤ index
 length-before lines index = omega (arith, length-reverse (take index lines), length-take index lines)
 
-pub few_before : (lines : List (List ℕ)) (index : ℕ) → index ≤ 2 ^ 63 → AreFew (before_of (lines_before lines index))
-few_before lines index few = are_few (lines_before lines index) (omega (arith, length-before lines index, few))
+pub small_before : (lines : List (List ℕ)) (index : ℕ) → index < 2 ^ 63 → AreSmall (before_of (lines_before lines index))
+small_before lines index few =
+    let before = lines_before lines index in
+    are_small (map role_of before) (omega (arith, length-map before role_of, length-before lines index, few))
 
 -- there was no line to pass
-pub passed_end : (b : Before) (rest new all : List (List ℕ)) (index : ℕ) → (rest ≡ []) × (new ≡ []) → IsPassed b rest all index → IsPassed b new all (index + 1)
+pub passed_end : (b : FileCounts) (rest new all : List (List ℕ)) (index : ℕ) → (rest ≡ []) × (new ≡ []) → IsPassed b rest all index → IsPassed b new all (index + 1)
 passed_end b rest new all index none so_far =
     let over : drop index all ≡ [] = sym so_far.left ∙ none.0 in
     record {
@@ -46,7 +32,7 @@ passed_end b rest new all index none so_far =
     }
 
 -- the next line was passed
-pub passed_more : (b c : Before) (rest new all : List (List ℕ)) (index : ℕ) (line : Bor (List ℕ)) → rest ≡ line.now ∷ new
+pub passed_more : (b c : FileCounts) (rest new all : List (List ℕ)) (index : ℕ) (line : Bor (List ℕ)) → rest ≡ line.now ∷ new
     → ((before : List (List ℕ)) → b ≡ before_of before → c ≡ before_of (line.now ∷ before))
     → IsPassed b rest all index → IsPassed c new all (index + 1)
 passed_more b c rest new all index line some adds so_far =
@@ -78,17 +64,15 @@ fault_inside k n before [] (at, _) = omega (arith, at)
 fault_inside k n before (line ∷ rest) (inl here) = omega (arith, here.0)
 fault_inside k n before (line ∷ rest) (inr later) = omega (arith, fault_inside k n (line ∷ before) rest later)
 
-parts_few : (parts : List (List ℕ)) → length (lines_of_parts parts) ≤ length parts
+parts_few : (parts : List (List ℕ)) → length (lines_of_parts parts) ≤ length (join_with_byte 10 parts)
 parts_few [] = omega arith
-parts_few (part ∷ []) = elim (eqb (length part) 0) as (λ b. length (cond b [] (part ∷ [])) ≤ 1) [ true ↦ omega arith | false ↦ omega arith ]
-parts_few (part ∷ next ∷ parts) = omega (arith, parts_few (next ∷ parts))
+parts_few ([] ∷ []) = omega arith
+parts_few ((byte ∷ part) ∷ []) =
+    elim (eqb (length (byte ∷ part)) 0) as (λ b. length (cond b [] ((byte ∷ part) ∷ [])) ≤ length (byte ∷ part)) [ true ↦ omega arith | false ↦ omega arith ]
+parts_few (part ∷ next ∷ parts) = omega (arith, parts_few (next ∷ parts), length-append part (10 ∷ join_with_byte 10 (next ∷ parts)))
 
-counted_few : {X : Type 0} (p : X → Bool) (xs : List X) → count_by p xs ≤ length xs
-counted_few p xs = omega (arith, length-filter-le p xs, length-filter p xs)
+few_lines : (bytes : List ℕ) → length (lines bytes) ≤ length bytes
+few_lines bytes = subst (λ (x : List ℕ). length (lines bytes) ≤ length x) (join_with_byte-slice_split 10 bytes) (parts_few (slice_split (λ b. eqb b 10) bytes))
 
-few_lines : (bytes : List ℕ) → length (lines bytes) ≤ length bytes + 1
-few_lines bytes =
-    omega (arith, parts_few (slice_split (λ b. eqb b 10) bytes), length-slice_split (λ b. eqb b 10) bytes, counted_few (λ b. eqb b 10) bytes)
-
-pub fault_near : (bytes : List ℕ) (k n : ℕ) → length bytes < 2 ^ 63 → IsLeastFault (lines bytes) k n → k - 1 ≤ 2 ^ 63
+pub fault_near : (bytes : List ℕ) (k n : ℕ) → length bytes < 2 ^ 63 → IsLeastFault (lines bytes) k n → k - 1 < 2 ^ 63
 fault_near bytes k n short fault = omega (arith, fault_inside k n [] (lines bytes) fault.has, few_lines bytes, short)

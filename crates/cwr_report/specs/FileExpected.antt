@@ -9,7 +9,7 @@ use Rattle.cwr_record.specs.declared.record_type.RecordType.{RecordType}
 use Rattle.cwr_record.specs.declared.record_type.RecordType.TheVariants.{Grt, Nwr, Rev, Ack, Other, Bad}
 use Rattle.cwr_grammar.specs.FaultTests.{is_number}
 use Rattle.cwr_grammar.specs.Roles.{number_at}
-use Rattle.cwr_report.specs.declared.before.Before.{Before}
+use Rattle.cwr_grammar.specs.declared.file_counts.FileCounts.{FileCounts}
 use Rattle.cwr_report.specs.declared.finding.Spot.{Spot}
 use Rattle.cwr_report.specs.declared.finding.FieldName.{FieldName}
 use Rattle.cwr_report.specs.declared.finding.FieldName.TheVariants as name
@@ -23,26 +23,26 @@ malformed_expected Bad = wants.RecordType
 malformed_expected _ = wants.Dates
 
 -- F4: what may stand after the lines before
-abbrev pub record_expected : Before → FileExpected
+abbrev pub record_expected : FileCounts → FileExpected
 record_expected b =
     if not b.in_group then wants.OutsideGroups
     else if b.in_transaction then wants.InTransaction b.kind
     else wants.InGroup b.kind
 
 -- F7: the id of the group that GRT closes, or the next one
-abbrev pub group_expected : Before → RecordType → ℕ
+abbrev pub group_expected : FileCounts → RecordType → ℕ
 group_expected b Grt = b.groups
 group_expected b _ = b.groups + 1
 
 -- F8: the sequences of a header, which begins a transaction
-abbrev pub header_sequences : Before → FileExpected
+abbrev pub header_sequences : FileCounts → FileExpected
 header_sequences b = wants.Sequences b.transactions 0
 
 -- F8: the sequences of a detail, which goes on with the last transaction
-abbrev pub detail_sequences : Before → FileExpected
+abbrev pub detail_sequences : FileCounts → FileExpected
 detail_sequences b = wants.Sequences (b.transactions - 1) (b.details + 1)
 
-abbrev pub sequences_expected : Before → RecordType → FileExpected
+abbrev pub sequences_expected : FileCounts → RecordType → FileExpected
 sequences_expected b Nwr = header_sequences b
 sequences_expected b Rev = header_sequences b
 sequences_expected b Ack = header_sequences b
@@ -50,7 +50,7 @@ sequences_expected b Other = header_sequences b
 sequences_expected b _ = detail_sequences b
 
 -- what the rule with this number asks for in a line
-abbrev pub expected_in_line : ℕ → Before → List ℕ → FileExpected
+abbrev pub expected_in_line : ℕ → FileCounts → List ℕ → FileExpected
 expected_in_line number b line =
     if number == 1 then wants.Header
     else if number == 2 then wants.NoControl
@@ -70,7 +70,7 @@ abbrev pub expected_at_end : ℕ → FileExpected
 expected_at_end number = if number == 1 then wants.Header else wants.Trailer
 
 -- what it asks for where this line stands, or none
-abbrev pub file_expected : ℕ → Before → Option (List ℕ) → FileExpected
+abbrev pub file_expected : ℕ → FileCounts → Option (List ℕ) → FileExpected
 file_expected number b None = expected_at_end number
 file_expected number b (Some line) = expected_in_line number b line
 

@@ -4,7 +4,7 @@ use Rattle.std.specs.List.{position}
 use Rattle.std.specs.Str.Lines.{lines}
 use Rattle.cwr_record.specs.Columns.{field_at, every_record_type}
 use Rattle.cwr_record.specs.RecordTypes.{type_of}
-use Rattle.cwr_report.specs.declared.before.Before.{Before}
+use Rattle.cwr_grammar.specs.declared.file_counts.FileCounts.{FileCounts}
 use Rattle.cwr_report.specs.declared.file_finding.FileFinding.{FileFinding}
 use Rattle.cwr_report.specs.declared.file_finding.RecordPlace.{RecordPlace}
 use Rattle.cwr_report.specs.declared.file_finding.RecordPlace.TheVariants.{End, AfterTrailer}
@@ -20,7 +20,7 @@ type_at None = 32 ∷ 32 ∷ 32 ∷ []
 type_at (Some line) = field_at line every_record_type
 
 -- where a line with this fault stands, after the lines before it; a line has F11 after TRL alone
-abbrev pub place_of : ℕ → Before → Option (List ℕ) → RecordPlace
+abbrev pub place_of : ℕ → FileCounts → Option (List ℕ) → RecordPlace
 place_of number b None = End
 place_of number b (Some line) = if number == 11 then AfterTrailer else place_in b (type_of line)
 
@@ -44,7 +44,7 @@ wrong_byte bytes number line None = None
 wrong_byte bytes number line (Some found) = wrong_byte_in number (bytes_before (line - 1) bytes) found
 
 -- of the fault with this number, in this line of the file, after what the lines before say
-abbrev pub finding_at_line : List ℕ → ℕ → ℕ → Before → Option (List ℕ) → FileFinding
+abbrev pub finding_at_line : List ℕ → ℕ → ℕ → FileCounts → Option (List ℕ) → FileFinding
 finding_at_line bytes number line b found = record {
   number = number;
   line = line;

@@ -1,5 +1,5 @@
 ghost use Rattle.std.specs.Prelude.{◌≡◌, IsTrue};
-ghost use Rattle.cwr_record.specs.Parties.{party_column, ownership_columns, collection_columns};
+ghost use Rattle.cwr_record.specs.Parties.{party_column};
 ghost use Rattle.cwr_record.specs.Ranges.{is_in_line};
 ghost use Rattle.cwr_report.specs.Fields.{spot_where, one_field, wrong_dates, wrong_share, wrong_shares, wrong_ownership, wrong_collection, is_no_indicator, wrong_territory, fields_of};
 
@@ -78,20 +78,9 @@ fn wrong_share(line: &[u8], name: FieldName, column: Column) -> Option<Spot>
     spot_where(share(field_at(line, column)).is_none(), name, column)
 }
 
-/// The shares of a record that are not valid (J6).
+/// The shares of a record that are not valid (J6). Records of types that have no shares are read as SWR.
 fn wrong_shares(line: &[u8], record_type: RecordType) -> [Option<Spot>; 3]
     ensures { result ≡ wrong_shares record_type line.now }
-{
-    if record_type.has_collection() {
-        wrong_collection_in(line, record_type)
-    } else {
-        wrong_ownership_in(line, record_type)
-    }
-}
-
-/// Records of other types than SPU and OPU are read as SWR.
-fn wrong_ownership_in(line: &[u8], record_type: RecordType) -> [Option<Spot>; 3]
-    ensures { result ≡ wrong_ownership line.now (ownership_columns record_type) }
 {
     match record_type {
         RecordType::Spu | RecordType::Opu => wrong_ownership(
@@ -100,31 +89,23 @@ fn wrong_ownership_in(line: &[u8], record_type: RecordType) -> [Option<Spot>; 3]
             Publisher::MECHANICAL_OWNERSHIP,
             Publisher::SYNCHRONIZATION_OWNERSHIP,
         ),
-        _ => wrong_ownership(
-            line,
-            Writer::PERFORMING_OWNERSHIP,
-            Writer::MECHANICAL_OWNERSHIP,
-            Writer::SYNCHRONIZATION_OWNERSHIP,
-        ),
-    }
-}
-
-/// Records of other types than SPT are read as SWT.
-fn wrong_collection_in(line: &[u8], record_type: RecordType) -> [Option<Spot>; 3]
-    ensures { result ≡ wrong_collection line.now (collection_columns record_type) }
-{
-    match record_type {
         RecordType::Spt => wrong_collection(
             line,
             PublisherTerritory::PERFORMING_COLLECTION,
             PublisherTerritory::MECHANICAL_COLLECTION,
             PublisherTerritory::SYNCHRONIZATION_COLLECTION,
         ),
-        _ => wrong_collection(
+        RecordType::Swt => wrong_collection(
             line,
             WriterTerritory::PERFORMING_COLLECTION,
             WriterTerritory::MECHANICAL_COLLECTION,
             WriterTerritory::SYNCHRONIZATION_COLLECTION,
+        ),
+        _ => wrong_ownership(
+            line,
+            Writer::PERFORMING_OWNERSHIP,
+            Writer::MECHANICAL_OWNERSHIP,
+            Writer::SYNCHRONIZATION_OWNERSHIP,
         ),
     }
 }

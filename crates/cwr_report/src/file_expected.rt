@@ -1,21 +1,21 @@
 ghost use Rattle.std.specs.Prelude.{◌≡◌, ◌≤◌, IsTrue, option_map};
 ghost use Rattle.cwr_record.specs.Ranges.{is_in_line};
-ghost use Rattle.cwr_report.specs.Before.{AreFew};
+ghost use Rattle.cwr_grammar.specs.Counted.{AreSmall};
 ghost use Rattle.cwr_report.specs.FileExpected.{malformed_expected, record_expected, group_expected, sequences_expected, expected_in_line, expected_at_end, file_expected, wrong_number, wrong_day, wrong_time, wrong_header_dates, group_column, wrong_sequences, wrong_group_counts, wrong_file_counts, fields_in_line, fields_of_file};
 
-use crate::before::Before;
 use crate::fields::{one_field, spot_where};
 use crate::file_finding::FileExpected;
 use crate::finding::{FieldName, Spot};
 use cwr_field::{date, time};
+use cwr_grammar::FileCounts;
 use cwr_record::{
     Column, FileTrailer, GroupHead, GroupTrailer, Header, Prefix, RecordType, digits_at, field_at,
     type_of,
 };
 
 /// What the rule with this number asks for where this line stands, or none, after the lines before it.
-pub(crate) fn file_expected(number: u8, before: &Before, line: Option<&[u8]>) -> FileExpected
-    requires { AreFew before.now }
+pub(crate) fn file_expected(number: u8, before: &FileCounts, line: Option<&[u8]>) -> FileExpected
+    requires { AreSmall before.now }
     ensures { result ≡ file_expected number before.now (option_map (λ l. l.now) line.entry) }
 {
     match line {
@@ -33,8 +33,8 @@ fn expected_at_end(number: u8) -> FileExpected
     }
 }
 
-fn expected_in_line(number: u8, before: &Before, line: &[u8]) -> FileExpected
-    requires { AreFew before.now }
+fn expected_in_line(number: u8, before: &FileCounts, line: &[u8]) -> FileExpected
+    requires { AreSmall before.now }
     ensures { result ≡ expected_in_line number before.now line.now }
 {
     match number {
@@ -71,7 +71,7 @@ fn malformed_expected(record_type: RecordType) -> FileExpected
 }
 
 /// The records that may stand after the lines before.
-fn record_expected(before: &Before) -> FileExpected
+fn record_expected(before: &FileCounts) -> FileExpected
     ensures { result ≡ record_expected before.now }
 {
     if !before.in_group {
@@ -84,8 +84,8 @@ fn record_expected(before: &Before) -> FileExpected
 }
 
 /// The id of the group that GRT closes, or the next one.
-fn group_expected(before: &Before, record_type: RecordType) -> u64
-    requires { AreFew before.now }
+fn group_expected(before: &FileCounts, record_type: RecordType) -> u64
+    requires { AreSmall before.now }
     ensures { result ≡ group_expected before.now record_type }
 {
     match record_type {
@@ -95,8 +95,8 @@ fn group_expected(before: &Before, record_type: RecordType) -> u64
 }
 
 /// The sequences of a header, or of a detail.
-fn sequences_expected(before: &Before, record_type: RecordType) -> FileExpected
-    requires { AreFew before.now }
+fn sequences_expected(before: &FileCounts, record_type: RecordType) -> FileExpected
+    requires { AreSmall before.now }
     ensures { result ≡ sequences_expected before.now record_type }
 {
     match record_type {

@@ -1,14 +1,15 @@
 ghost use Rattle.std.specs.Prelude.{◌≡◌, ◌<◌, ◌==◌, ◌||◌, not, nat_lt, length, option_map, IfSome};
 ghost use Rattle.std.specs.List.{position};
 ghost use Rattle.std.specs.Str.Lines.{lines};
+ghost use Rattle.cwr_grammar.specs.Counted.{AreSmall};
 ghost use Rattle.cwr_grammar.specs.Faults.{IsLeastFault};
 ghost use Rattle.cwr_report.specs.FileFindings.{file_finding, place_of, type_at, wrong_byte};
-ghost use Rattle.cwr_report.specs.Before.{AreFew};
 
-use crate::before::{Before, at_line};
+use crate::before::{at_line, place_in};
 use crate::bytes_before::bytes_before;
 use crate::file_expected::{fields_of_file, file_expected};
 use crate::finding::Spot;
+use cwr_grammar::FileCounts;
 use cwr_record::{RecordType, WorkKind, field_at, type_of};
 
 /// The first fault of a file that is not well-formed, with what is wrong there.
@@ -148,13 +149,13 @@ fn type_at(line: Option<&[u8]>) -> [u8; 3]
 }
 
 /// Where a line with this fault stands, after the lines before it.
-fn place_of(number: u8, before: &Before, line: Option<&[u8]>) -> RecordPlace
-    requires { AreFew before.now }
+fn place_of(number: u8, before: &FileCounts, line: Option<&[u8]>) -> RecordPlace
+    requires { AreSmall before.now }
     ensures { result ≡ place_of number before.now (option_map (λ l. l.now) line.entry) }
 {
     match line {
         None => RecordPlace::End,
-        Some(line) if number != 11 => before.place(type_of(line)),
+        Some(line) if number != 11 => place_in(before, type_of(line)),
         Some(_) => RecordPlace::AfterTrailer,
     }
 }

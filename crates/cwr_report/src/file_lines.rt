@@ -1,5 +1,5 @@
-ghost use Rattle.std.specs.Prelude.{◌≡◌, ◌++◌, OnOk};
-ghost use Rattle.cwr_report.specs.FileText.{counted, place_text, detail_text, byte_text, kind_text, sequences_text, counts_text, file_counts_text, file_wanted_text, file_place_text, file_expected_text, refused_line, file_told};
+ghost use Rattle.std.specs.Prelude.{◌≡◌, ◌++◌, codes, OnOk};
+ghost use Rattle.cwr_report.specs.FileText.{counted, place_text, detail_text, byte_text, kind_text, sequences_text, counts_text, file_counts_text, file_wanted_text, file_place_text, refused_line, file_told};
 
 use crate::file_finding::{FileExpected, FileFinding, RecordPlace, WrongByte};
 use crate::file_words::{file_rule_text, kind_text};
@@ -21,7 +21,9 @@ pub(crate) fn put_file_finding<A: Allocator>(
     put_file_place(out, finding)?;
     put_byte(out, &finding.byte)?;
     put_spots(out, line, &finding.fields)?;
-    put_file_expected(out, &finding.expected)?;
+    out.extend_from_slice(b"  expected: ")?;
+    put_file_wanted(out, &finding.expected)?;
+    out.extend_from_slice(b"\n")?;
     put_refused_line(out, finding)?;
     Ok(())
 }
@@ -30,12 +32,10 @@ pub(crate) fn put_file_finding<A: Allocator>(
 fn put_file_place<A: Allocator>(out: &mut Vec<u8, A>, finding: &FileFinding) -> Result<(), Memory>
     ensures { OnOk result (out.new.items ≡ out.old.items ++ file_place_text finding.now) }
 {
-    out.extend_from_slice(b"line ")?;
-    put_decimal(out, finding.line)?;
+    put_counted(out, b"line ", finding.line)?;
     out.extend_from_slice(b": ")?;
     put_place(out, &finding.rtype, &finding.place)?;
-    out.extend_from_slice(b": F")?;
-    put_decimal(out, finding.number as u64)?;
+    put_counted(out, b": F", finding.number as u64)?;
     out.extend_from_slice(b" ")?;
     out.extend_from_slice(file_rule_text(finding.number))?;
     out.extend_from_slice(b"\n")?;
@@ -73,7 +73,7 @@ fn put_group<A: Allocator>(out: &mut Vec<u8, A>, rtype: &[u8], group: u64) -> Re
 }
 
 /// Appends a record of a transaction.
-fn put_detail<A: Allocator>(
+pub(crate) fn put_detail<A: Allocator>(
     out: &mut Vec<u8, A>,
     rtype: &[u8],
     group: u64,
@@ -107,18 +107,6 @@ fn put_byte<A: Allocator>(out: &mut Vec<u8, A>, wrong: &Option<WrongByte>) -> Re
 }
 
 /// Appends what was expected.
-fn put_file_expected<A: Allocator>(
-    out: &mut Vec<u8, A>,
-    expected: &FileExpected,
-) -> Result<(), Memory>
-    ensures { OnOk result (out.new.items ≡ out.old.items ++ file_expected_text expected.now) }
-{
-    out.extend_from_slice(b"  expected: ")?;
-    put_file_wanted(out, expected)?;
-    out.extend_from_slice(b"\n")?;
-    Ok(())
-}
-
 pub(crate) fn put_file_wanted<A: Allocator>(
     out: &mut Vec<u8, A>,
     expected: &FileExpected,
@@ -131,8 +119,8 @@ pub(crate) fn put_file_wanted<A: Allocator>(
         FileExpected::RecordType => put_text(out, b"a record type, three capitals from A to Z"),
         FileExpected::Dates => put_text(out, b"a date as YYYYMMDD, a time as HHMMSS"),
         FileExpected::OutsideGroups => put_text(out, b"GRH or TRL"),
-        FileExpected::InGroup(kind) => put_in_group(out, kind),
-        FileExpected::InTransaction(kind) => put_in_transaction(out, kind),
+        FileExpected::InGroup(kind) => put_in_group(out, b"", kind),
+        FileExpected::InTransaction(kind) => put_in_group(out, b"a detail, ", kind),
         FileExpected::Kinds => put_text(out, b"NWR or REV"),
         FileExpected::Kind(kind) => put_text(out, kind_text(kind)),
         FileExpected::Group(group) => put_counted(out, b"group ID ", group),
@@ -157,21 +145,15 @@ pub(crate) fn put_file_wanted<A: Allocator>(
     }
 }
 
-fn put_in_group<A: Allocator>(out: &mut Vec<u8, A>, kind: Option<WorkKind>) -> Result<(), Memory>
-    ensures { OnOk result (out.new.items ≡ out.old.items ++ file_wanted_text (FileExpected.InGroup kind)) }
-{
-    out.extend_from_slice(kind_text(kind))?;
-    out.extend_from_slice(b" or GRT")?;
-    Ok(())
-}
-
-fn put_in_transaction<A: Allocator>(
+/// Appends words, the kinds of header that may stand there, and GRT.
+fn put_in_group<A: Allocator>(
     out: &mut Vec<u8, A>,
+    words: &[u8],
     kind: Option<WorkKind>,
 ) -> Result<(), Memory>
-    ensures { OnOk result (out.new.items ≡ out.old.items ++ file_wanted_text (FileExpected.InTransaction kind)) }
+    ensures { OnOk result (out.new.items ≡ out.old.items ++ (words.now ++ kind_text kind ++ codes " or GRT")) }
 {
-    out.extend_from_slice(b"a detail, ")?;
+    out.extend_from_slice(words)?;
     out.extend_from_slice(kind_text(kind))?;
     out.extend_from_slice(b" or GRT")?;
     Ok(())

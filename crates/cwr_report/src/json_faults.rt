@@ -1,16 +1,14 @@
 ghost use Rattle.std.specs.Prelude.{◌≡◌, ◌++◌, ℕ, OnOk};
 ghost use Rattle.serde_json.specs.Written.{compact_text};
-ghost use Rattle.cwr_report.specs.FileText.{file_wanted_text};
-ghost use Rattle.cwr_report.specs.LongText.{wanted_text};
 ghost use Rattle.cwr_report.specs.Json.{type_data, place_members, told_data, file_place, file_told_data};
-ghost use Rattle.cwr_report.specs.JsonText.{string_text, wrong_text, byte_text, where_text, rule_text, tail_text};
+ghost use Rattle.cwr_report.specs.JsonText.{wrong_text, byte_text, where_text, tail_text};
 
-use crate::file_finding::{FileExpected, FileFinding, RecordPlace, WrongByte};
+use crate::file_finding::{FileFinding, RecordPlace, WrongByte};
 use crate::file_lines::put_file_wanted;
 use crate::file_words::file_rule_text;
-use crate::finding::{Expected, Finding};
+use crate::finding::Finding;
 use crate::json_strings::put_json_text;
-use crate::json_values::{put_fields, put_option, put_rule_name, put_type};
+use crate::json_values::{put_fields, put_option, put_rule, put_type};
 use crate::long_lines::{message_of, put_text, put_wanted};
 use cwr_field::{Memory, put_decimal};
 
@@ -24,7 +22,9 @@ pub(crate) fn put_finding(
     ensures { OnOk result (out.new.items ≡ out.old.items ++ compact_text (told_data line.now finding.now)) }
 {
     out.extend_from_slice(b"{\"byte\":null,\"expected\":")?;
-    put_finding_wanted(out, room, finding.fault.number, &finding.expected)?;
+    room.clear();
+    put_wanted(room, finding.fault.number, &finding.expected, false)?;
+    put_json_text(out, room)?;
     out.extend_from_slice(b",\"fields\":")?;
     put_fields(out, line, &finding.fields)?;
     put_where(
@@ -43,21 +43,6 @@ pub(crate) fn put_finding(
     Ok(())
 }
 
-/// Appends what the rule with this number asked for.
-fn put_finding_wanted(
-    out: &mut Vec<u8>,
-    room: &mut Vec<u8>,
-    number: u8,
-    expected: &Expected,
-) -> Result<(), Memory>
-    ensures { OnOk result (out.new.items ≡ out.old.items ++ string_text (wanted_text number expected.now)) }
-{
-    room.clear();
-    put_wanted(room, number, expected, false)?;
-    put_json_text(out, room)?;
-    Ok(())
-}
-
 /// Appends the group, the line and the record type of a fault.
 fn put_where(
     out: &mut Vec<u8>,
@@ -73,15 +58,6 @@ fn put_where(
     put_decimal(out, line)?;
     out.extend_from_slice(b",\"record\":")?;
     put_type(out, rtype)?;
-    Ok(())
-}
-
-/// Appends the rule of a fault, by its letter and its number.
-fn put_rule(out: &mut Vec<u8>, room: &mut Vec<u8>, letter: &[u8], number: u8) -> Result<(), Memory>
-    ensures { OnOk result (out.new.items ≡ out.old.items ++ rule_text letter.now number) }
-{
-    out.extend_from_slice(b",\"rule\":")?;
-    put_rule_name(out, room, letter, number)?;
     Ok(())
 }
 
@@ -117,7 +93,9 @@ pub(crate) fn put_file_finding(
     out.extend_from_slice(b"{\"byte\":")?;
     put_byte(out, &refused.byte)?;
     out.extend_from_slice(b",\"expected\":")?;
-    put_file_expected(out, room, &refused.expected)?;
+    room.clear();
+    put_file_wanted(room, &refused.expected)?;
+    put_json_text(out, room)?;
     out.extend_from_slice(b",\"fields\":")?;
     put_fields(out, line, &refused.fields)?;
     put_where(out, place.group, refused.line, place.rtype)?;
@@ -128,20 +106,6 @@ pub(crate) fn put_file_finding(
         file_rule_text(refused.number),
         place.transaction,
     )?;
-    Ok(())
-}
-
-/// Appends what was expected in a file.
-fn put_file_expected(
-    out: &mut Vec<u8>,
-    room: &mut Vec<u8>,
-    expected: &FileExpected,
-) -> Result<(), Memory>
-    ensures { OnOk result (out.new.items ≡ out.old.items ++ string_text (file_wanted_text expected.now)) }
-{
-    room.clear();
-    put_file_wanted(room, expected)?;
-    put_json_text(out, room)?;
     Ok(())
 }
 
@@ -182,26 +146,22 @@ impl Place {
     fn of(rtype: [u8; 3], place: &RecordPlace) -> Place
         ensures { (line : ℕ) → file_place line rtype place.now ≡ place_members line (type_data result.rtype) result.group result.transaction result.detail }
     {
+        let nowhere = Place {
+            rtype: None,
+            group: None,
+            transaction: None,
+            detail: None,
+        };
+        let of_file = Place {
+            rtype: Some(rtype),
+            ..nowhere
+        };
         match *place {
-            RecordPlace::End | RecordPlace::AfterTrailer | RecordPlace::Nameless => {
-                Place {
-                    rtype: None,
-                    group: None,
-                    transaction: None,
-                    detail: None,
-                }
-            }
-            RecordPlace::File => Place {
-                rtype: Some(rtype),
-                group: None,
-                transaction: None,
-                detail: None,
-            },
+            RecordPlace::End | RecordPlace::AfterTrailer | RecordPlace::Nameless => nowhere,
+            RecordPlace::File => of_file,
             RecordPlace::Group(group) => Place {
-                rtype: Some(rtype),
                 group: Some(group),
-                transaction: None,
-                detail: None,
+                ..of_file
             },
             RecordPlace::Transaction {
                 group,

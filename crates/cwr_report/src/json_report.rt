@@ -106,16 +106,17 @@ fn told_line(
     ensures { IfOk result (λ text. text.items ≡ 123 ∷ (left_text false more.entry (with_file (option_map (λ name. name.now) file.entry) (report_members (lines bytes.now) report.now)) ++ 10 ∷ [])) }
 {
     let mut text = Vec::new(alloc);
+    let mut room = Vec::new(alloc);
     text.push(b'{')?;
-    put_members(alloc, &mut text, bytes, report, file, more)?;
+    put_members(&mut text, &mut room, bytes, report, file, more)?;
     text.push(b'\n')?;
     Ok(text)
 }
 
-/// Appends the members, and ends the object.
+/// Appends the members, and ends the object. Texts are put together in a room for them.
 fn put_members(
-    alloc: Global,
     out: &mut Vec<u8>,
+    room: &mut Vec<u8>,
     bytes: &[u8],
     report: &Report,
     file: Option<&str>,
@@ -123,38 +124,13 @@ fn put_members(
 ) -> Result<(), Memory>
     ensures { OnOk result (out.new.items ≡ out.old.items ++ left_text false more.entry (with_file (option_map (λ name. name.now) file.entry) (report_members (lines bytes.now) report.now))) }
 {
-    let mut room = Vec::new(alloc);
+    let more = put_next(out, room, bytes, report, false, more, ReportMember::Faults)?;
+    let more = put_next(out, room, bytes, report, true, more, ReportMember::Faulty)?;
+    let more = put_file(out, room, bytes, report, file, more)?;
+    let more = put_next(out, room, bytes, report, true, more, ReportMember::Refused)?;
     let more = put_next(
         out,
-        &mut room,
-        bytes,
-        report,
-        false,
-        more,
-        ReportMember::Faults,
-    )?;
-    let more = put_next(
-        out,
-        &mut room,
-        bytes,
-        report,
-        true,
-        more,
-        ReportMember::Faulty,
-    )?;
-    let more = put_file(out, &mut room, bytes, report, file, more)?;
-    let more = put_next(
-        out,
-        &mut room,
-        bytes,
-        report,
-        true,
-        more,
-        ReportMember::Refused,
-    )?;
-    let more = put_next(
-        out,
-        &mut room,
+        room,
         bytes,
         report,
         true,
@@ -239,21 +215,6 @@ fn put_own(
         (compact_text (own_data (lines bytes.now) report.now own.entry))) }
 {
     put_member_name(out, later, own.name())?;
-    put_value(out, room, bytes, report, own)?;
-    Ok(())
-}
-
-/// Appends the value of a member of a report.
-fn put_value(
-    out: &mut Vec<u8>,
-    room: &mut Vec<u8>,
-    bytes: &[u8],
-    report: &Report,
-    own: ReportMember,
-) -> Result<(), Memory>
-    ensures { OnOk result (out.new.items ≡ out.old.items
-        ++ compact_text (own_data (lines bytes.now) report.now own.entry)) }
-{
     match own {
         ReportMember::Faults => put_faults(out, room, bytes, &report.findings, &report.refused),
         ReportMember::Faulty => put_decimal(out, report.faulty),

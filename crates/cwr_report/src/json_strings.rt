@@ -144,7 +144,7 @@ fn escape_letter(byte: u8) -> u8
 }
 
 /// The character of a digit below 16.
-fn hex_digit(digit: u8) -> u8
+pub(crate) fn hex_digit(digit: u8) -> u8
     requires { digit < 16 }
     ensures { result ≡ digit_char digit }
 {

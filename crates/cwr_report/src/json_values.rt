@@ -3,8 +3,7 @@ ghost use Rattle.serde_json.specs.Data.{Data, boolean};
 ghost use Rattle.serde_json.specs.View.{view, items_of};
 ghost use Rattle.serde_json.specs.Written.{comma_if, compact_text, items_text};
 ghost use Rattle.cwr_report.specs.Json.{latin, text_data, type_data, spot_data, fields_data};
-ghost use Rattle.cwr_report.specs.JsonText.{string_text, option_text, field_text};
-ghost use Rattle.cwr_report.specs.FileText.{counted};
+ghost use Rattle.cwr_report.specs.JsonText.{option_text, field_text, rule_text};
 
 use crate::file_lines::put_counted;
 use crate::finding::Spot;
@@ -76,15 +75,16 @@ pub fn put_type(out: &mut Vec<u8>, rtype: Option<[u8; 3]>) -> Result<(), Memory>
     }
 }
 
-/// Appends a rule by its letter and its number, which are put together in a room for texts.
-pub(crate) fn put_rule_name(
+/// Appends the rule of a fault, by its letter and its number, which are put together in a room for texts.
+pub(crate) fn put_rule(
     out: &mut Vec<u8>,
     room: &mut Vec<u8>,
     letter: &[u8],
     number: u8,
 ) -> Result<(), Memory>
-    ensures { OnOk result (out.new.items ≡ out.old.items ++ string_text (counted letter.now number)) }
+    ensures { OnOk result (out.new.items ≡ out.old.items ++ rule_text letter.now number) }
 {
+    out.extend_from_slice(b",\"rule\":")?;
     room.clear();
     put_counted(room, letter, number as u64)?;
     put_json_text(out, room)?;

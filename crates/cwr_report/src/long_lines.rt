@@ -1,7 +1,8 @@
 ghost use Rattle.std.specs.Prelude.{◌≡◌, ◌++◌, OnOk};
-ghost use Rattle.cwr_report.specs.LongText.{stands_at, spot_text, spots_text, percent_text, followers_text, after_text, digit_text, party_text, ownership_text, collection_text, collected_text, wanted_as, expected_text, record_text, transaction_text, message_of, broken_text, told_of};
+ghost use Rattle.cwr_report.specs.LongText.{stands_at, spot_text, spots_text, percent_text, followers_text, after_text, digit_text, party_text, ownership_text, collection_text, collected_text, wanted_as, record_text, transaction_text, message_of, broken_text, told_of};
 ghost use Rattle.cwr_report.specs.Shown.{told_bytes};
 
+use crate::file_lines::{put_counted, put_detail};
 use crate::finding::{Expected, Finding, Spot};
 use crate::shown::{put_bytes, put_shown};
 use crate::words::{followers_text, name_text, rule_text};
@@ -21,34 +22,27 @@ pub(crate) fn put_finding<A: Allocator>(
     ensures { OnOk result (out.new.items ≡ out.old.items ++ told_of line.now finding.now) }
 {
     put_record(out, finding)?;
-    put_transaction(out, finding)?;
     put_broken(out, finding.fault.number)?;
     put_spots(out, line, &finding.fields)?;
-    put_expected(out, finding.fault.number, &finding.expected)?;
+    out.extend_from_slice(b"  expected: ")?;
+    put_wanted(out, finding.fault.number, &finding.expected, true)?;
+    out.extend_from_slice(b"\n")?;
     Ok(())
 }
 
-/// Appends the line and the record in which the fault is.
+/// Appends the line, the record and the transaction in which the fault is.
 fn put_record<A: Allocator>(out: &mut Vec<u8, A>, finding: &Finding) -> Result<(), Memory>
-    ensures { OnOk result (out.new.items ≡ out.old.items ++ record_text finding.now) }
+    ensures { OnOk result (out.new.items ≡ out.old.items ++ (record_text finding.now ++ transaction_text finding.now)) }
 {
-    out.extend_from_slice(b"line ")?;
-    put_decimal(out, finding.line)?;
+    put_counted(out, b"line ", finding.line)?;
     out.extend_from_slice(b": ")?;
-    put_shown(out, &finding.fault.rtype)?;
-    out.extend_from_slice(b" ")?;
-    put_decimal(out, finding.fault.sequence as u64)?;
-    Ok(())
-}
-
-/// Appends its transaction.
-fn put_transaction<A: Allocator>(out: &mut Vec<u8, A>, finding: &Finding) -> Result<(), Memory>
-    ensures { OnOk result (out.new.items ≡ out.old.items ++ transaction_text finding.now) }
-{
-    out.extend_from_slice(b" of transaction ")?;
-    put_number(out, finding.transaction as u64)?;
-    out.extend_from_slice(b" in group ")?;
-    put_number(out, finding.group as u64)?;
+    put_detail(
+        out,
+        &finding.fault.rtype,
+        finding.group as u64,
+        finding.transaction as u64,
+        finding.fault.sequence as u64,
+    )?;
     Ok(())
 }
 
@@ -56,8 +50,7 @@ fn put_transaction<A: Allocator>(out: &mut Vec<u8, A>, finding: &Finding) -> Res
 fn put_broken<A: Allocator>(out: &mut Vec<u8, A>, number: u8) -> Result<(), Memory>
     ensures { OnOk result (out.new.items ≡ out.old.items ++ broken_text number) }
 {
-    out.extend_from_slice(b": J")?;
-    put_number(out, number as u64)?;
+    put_counted(out, b": J", number as u64)?;
     out.extend_from_slice(b" ")?;
     out.extend_from_slice(message_of(number))?;
     out.extend_from_slice(b"\n")?;
@@ -116,20 +109,6 @@ pub(crate) fn stands_at(line: &[u8], column: Column) -> &[u8]
 {
     let rest = line.get(column.start.saturating_sub(1)..).unwrap_or(&[]);
     rest.get(..column.width).unwrap_or(rest)
-}
-
-/// Appends what the rule with this number asked for, with bytes of the file as they are shown.
-fn put_expected<A: Allocator>(
-    out: &mut Vec<u8, A>,
-    number: u8,
-    expected: &Expected,
-) -> Result<(), Memory>
-    ensures { OnOk result (out.new.items ≡ out.old.items ++ expected_text number expected.now) }
-{
-    out.extend_from_slice(b"  expected: ")?;
-    put_wanted(out, number, expected, true)?;
-    out.extend_from_slice(b"\n")?;
-    Ok(())
 }
 
 /// Appends what the rule with this number asked for, with bytes of the file as they are shown, or as they stand.

@@ -1,6 +1,7 @@
-ghost use Rattle.std.specs.Prelude.{◌≡◌, ◌<◌, ◌++◌, OnOk};
-ghost use Rattle.cwr_report.specs.Shown.{hex_digit, is_unprinted, shown, shown_text, told_bytes};
+ghost use Rattle.std.specs.Prelude.{◌≡◌, ◌++◌, OnOk};
+ghost use Rattle.cwr_report.specs.Shown.{is_unprinted, shown, shown_text, told_bytes};
 
+use crate::json_strings::hex_digit;
 use crate::long_lines::put_text;
 use cwr_field::{LEAST_PRINTABLE, Memory};
 use std::alloc::Allocator;
@@ -38,8 +39,8 @@ fn put_shown_byte<A: Allocator>(out: &mut Vec<u8, A>, byte: u8) -> Result<(), Me
     ensures { OnOk result (out.new.items ≡ out.old.items ++ shown byte) }
 {
     if is_unprinted(byte) {
-        let high = hex_digit(byte / 16);
-        let low = hex_digit(byte % 16);
+        let high = hex_digit(byte / 16).to_ascii_uppercase();
+        let low = hex_digit(byte % 16).to_ascii_uppercase();
         out.extend_from_slice(&[b'\\', b'x', high, low])?;
     } else {
         out.push(byte)?;
@@ -52,16 +53,4 @@ fn is_unprinted(byte: u8) -> bool
     ensures { result ≡ is_unprinted byte }
 {
     byte < LEAST_PRINTABLE || byte > 126
-}
-
-/// The character of a digit below 16.
-fn hex_digit(digit: u8) -> u8
-    requires { digit < 16 }
-    ensures { result ≡ hex_digit digit }
-{
-    if digit < 10 {
-        b'0' + digit
-    } else {
-        b'A' + (digit - 10)
-    }
 }

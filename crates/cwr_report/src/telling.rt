@@ -2,7 +2,7 @@ ghost use Rattle.std.specs.Prelude.{◌≡◌, ◌++◌, IfOk, OnOk};
 ghost use Rattle.std.specs.List.{flat_map};
 ghost use Rattle.std.specs.Str.Lines.{lines};
 ghost use Rattle.cwr_report.specs.FileText.{file_text};
-ghost use Rattle.cwr_report.specs.LongText.{finding_text, long_text};
+ghost use Rattle.cwr_report.specs.LongText.{finding_text};
 ghost use Rattle.cwr_report.specs.Report.{report_text, faults_text, IsLongCheck, IsFaultsCheck};
 
 use crate::file_finding::FileFinding;
@@ -69,10 +69,9 @@ pub fn long_text<A: Allocator + Copy>(
 ) -> Result<Vec<u8, A>, Memory>
     ensures { IfOk result (λ text. text.items ≡ report_text (lines bytes.now) report.now) }
 {
-    let mut text = Vec::new(alloc);
-    match &report.refused {
-        Some(refused) => put_refused(&mut text, bytes, refused)?,
-        None => put_report(&mut text, bytes, report)?,
+    let mut text = faults_text(alloc, bytes, report)?;
+    if report.refused.is_none() {
+        put_total(&mut text, report.transactions, report.faulty)?;
     }
     Ok(text)
 }
@@ -86,19 +85,6 @@ fn put_refused<A: Allocator>(
     ensures { OnOk result (out.new.items ≡ out.old.items ++ file_text (lines bytes.now) refused.now) }
 {
     put_file_finding(out, line_of(bytes, refused.line), refused)
-}
-
-/// Appends what is told of a well-formed file.
-fn put_report<A: Allocator>(
-    out: &mut Vec<u8, A>,
-    bytes: &[u8],
-    report: &Report<A>,
-) -> Result<(), Memory>
-    ensures { OnOk result (out.new.items ≡ out.old.items ++ long_text (lines bytes.now) report.now.findings report.now.transactions report.now.faulty) }
-{
-    put_findings(out, bytes, &report.findings)?;
-    put_total(out, report.transactions, report.faulty)?;
-    Ok(())
 }
 
 /// Appends what is told of each fault. The lines of the file are gone over once where the faults are in their order.

@@ -13,7 +13,5 @@ pub mod Lines
 pub mod NameLaw
 pub mod PartyKeys
 pub mod RecordLaw
-pub mod ShareWords
-pub mod CodeWords
 pub mod FrontFields
 pub mod lemmas

@@ -8,7 +8,6 @@
 
 mod added;
 mod by_line;
-mod code;
 mod collected;
 mod finding;
 mod header;
@@ -21,7 +20,6 @@ mod position;
 mod reading;
 mod record;
 mod record_faults;
-mod share;
 mod so_far;
 mod standing;
 mod summary;

@@ -1,17 +1,14 @@
-ghost use Rattle.std.specs.Prelude.{◌≡◌, ◌≤◌, ◌<◌, ◌∷◌, IsTrue, length};
-ghost use Rattle.cwr_record.specs.Parties.{has_collection};
+ghost use Rattle.std.specs.Prelude.{◌≡◌, ◌<◌, ◌∷◌, IsTrue, None, length, get_or};
+ghost use Rattle.cwr_record.specs.Parties.{has_ownership, has_collection};
 ghost use Rattle.cwr_field.specs.Number.{most_count};
-ghost use Rattle.cwr_record.specs.Ranges.{is_in_line};
-ghost use Rattle.cwr_rules.specs.Records.{record_of, record_as, shares_from, owned_at, collected_at, territory_at};
+ghost use Rattle.cwr_rules.specs.Records.{record_of, record_as, owned_at, collected_at, territory_at};
 ghost use Rattle.cwr_call.specs.Lawful.{is_clean};
 
-use crate::code::code_of;
 use crate::record::{Record, Shares, Territory};
-use crate::share::share_at;
 use cwr_grammar::{Lines, RawTransaction};
 use cwr_record::{
-    Column, Publisher, PublisherTerritory, RecordType, Writer, WriterTerritory, field_at,
-    indicator_of, party_of, publisher_of, type_of,
+    RecordType, collection_of, field_at, indicator_of, ownership_of, party_of, publisher_of,
+    territory_of, type_of,
 };
 
 /// The header's line of a transaction, and the lines of its details.
@@ -71,61 +68,35 @@ pub(crate) fn record_as(line: &[u8], record_type: RecordType) -> Record
 }
 
 impl Shares {
-    /// The shares in the columns of the performing, the mechanical and the synchronization right.
+    /// The shares of the performing, the mechanical and the synchronization right.
     #[inline(always)]
-    fn at(line: &[u8], performing: Column, mechanical: Column, synchronization: Column) -> Shares
-        requires performing { IsTrue (is_in_line performing) × (4 ≤ performing.start) × (performing.width ≡ 5) }
-        requires mechanical { IsTrue (is_in_line mechanical) × (4 ≤ mechanical.start) × (mechanical.width ≡ 5) }
-        requires synchronization { IsTrue (is_in_line synchronization) × (4 ≤ synchronization.start) × (synchronization.width ≡ 5) }
-        ensures { result ≡ shares_from line.now (record { performing = performing; mechanical = mechanical; synchronization = synchronization }) }
+    fn of(rights: [Option<u16>; 3]) -> Shares
+        ensures { result ≡ record { performing = get_or rights 0 None; mechanical = get_or rights 1 None; synchronization = get_or rights 2 None } }
     {
+        let [performing, mechanical, synchronization] = rights;
         Shares {
-            performing: share_at(line, performing),
-            mechanical: share_at(line, mechanical),
-            synchronization: share_at(line, synchronization),
+            performing,
+            mechanical,
+            synchronization,
         }
     }
 
     /// The shares that a line of a type owns.
     #[inline(always)]
     pub(crate) fn owned(line: &[u8], record_type: RecordType) -> Shares
+        requires { IsTrue (has_ownership record_type) }
         ensures { result ≡ owned_at record_type line.now }
     {
-        match record_type {
-            RecordType::Spu | RecordType::Opu => Shares::at(
-                line,
-                Publisher::PERFORMING_OWNERSHIP,
-                Publisher::MECHANICAL_OWNERSHIP,
-                Publisher::SYNCHRONIZATION_OWNERSHIP,
-            ),
-            _ => Shares::at(
-                line,
-                Writer::PERFORMING_OWNERSHIP,
-                Writer::MECHANICAL_OWNERSHIP,
-                Writer::SYNCHRONIZATION_OWNERSHIP,
-            ),
-        }
+        Shares::of(ownership_of(line, record_type))
     }
 
     /// The shares that a line of a type collects.
     #[inline(always)]
     pub(crate) fn collected(line: &[u8], record_type: RecordType) -> Shares
+        requires { IsTrue (has_collection record_type) }
         ensures { result ≡ collected_at record_type line.now }
     {
-        match record_type {
-            RecordType::Spt => Shares::at(
-                line,
-                PublisherTerritory::PERFORMING_COLLECTION,
-                PublisherTerritory::MECHANICAL_COLLECTION,
-                PublisherTerritory::SYNCHRONIZATION_COLLECTION,
-            ),
-            _ => Shares::at(
-                line,
-                WriterTerritory::PERFORMING_COLLECTION,
-                WriterTerritory::MECHANICAL_COLLECTION,
-                WriterTerritory::SYNCHRONIZATION_COLLECTION,
-            ),
-        }
+        Shares::of(collection_of(line, record_type))
     }
 }
 
@@ -138,7 +109,7 @@ impl Territory {
     {
         Territory {
             indicator: indicator_of(line, record_type),
-            code: code_of(line, record_type),
+            code: territory_of(line, record_type),
         }
     }
 }

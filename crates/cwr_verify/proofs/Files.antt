@@ -1,19 +1,21 @@
 -- The files so far, and one more.
-use Rattle.std.proofs.Common.{◌≡◌, ◌∙◌, ℕ, ◌+◌, ◌<◌, List, length, get_or, refl, sym, subst, arith}
-use Rattle.std.proofs.lemmas.Option.{slice_get_read, get_or_from_slice_get}
+use Rattle.std.proofs.Common.{◌≡◌, ◌∙◌, ℕ, ◌+◌, ◌<◌, List, length, map, get_or, refl, sym, ap, subst, arith}
+use Rattle.std.specs.Prelude.{option_map}
+use Rattle.std.proofs.lemmas.List.{length-map}
+use Rattle.std.proofs.lemmas.Option.{slice_get-map, slice_get_read, get_or_from_slice_get}
 use borrow.Author.Count.{below_more}
 use Rattle.work_registry.specs.EntryValue.{EntryValue}
-use Rattle.cwr_verify.proofs.Lists.{zip_at, zip_length}
+use Rattle.cwr_verify.proofs.Lists.{item_at, zip_at, zip_length}
 use Rattle.cwr_verify.proofs.Owning.{all_replied, as_many, grown}
-use Rattle.cwr_verify.proofs.Proposing.{wantings_at, wantings_length}
 use Rattle.cwr_verify.specs.Owned.{owned}
-use Rattle.cwr_verify.specs.Proposed.{AreFirst, wanting_of, wantings_of}
-use Rattle.cwr_verify.specs.Reading.{AreReadingsOf, IsReadingOf, transactions_in}
+use Rattle.cwr_verify.specs.Proposed.{AreFirst, wanting_of}
+use Rattle.cwr_verify.specs.Read.{AreReadFrom, IsReadFrom}
+use Rattle.cwr_verify.specs.Reading.{transactions_in}
 use Rattle.cwr_verify.specs.Replied.{Replied, AreRepliedBy}
 use Rattle.cwr_verify.specs.Sent.{Sent}
 use Rattle.cwr_verify.specs.Verified.{IsAnsweredBy}
 use Rattle.cwr_verify.specs.Wanting.{Wanting}
-use Rattle.cwr_verify.specs.declared.reading.Reading.{Reading}
+use Rattle.cwr_verify.specs.declared.sent.ReadFile.{ReadFile}
 
 pub next_file : (owners : List ℕ) (history : List EntryValue) (files : List Sent) (number : ℕ) (sent : Sent)
     → ((file : ℕ) (d : Sent) → file < number → IsAnsweredBy (get_or files file d) (owned file owners history))
@@ -24,32 +26,30 @@ next_file owners history files number sent before within at here file d lt =
     below_more (λ (k : ℕ). IsAnsweredBy (get_or files k d) (owned k owners history)) number (λ k l. before k d l)
     (subst (λ (s : Sent). IsAnsweredBy s (owned number owners history)) (sym read) here) file lt
 
--- what is known of a file, of what it was judged to, and of its transactions once the owners are proposed
-pub record IsReplied {Z : Type 0} (sent : Sent) (reading : Reading Z) (replied : Replied) (entries : List EntryValue) : Type 0 where
-  pub judged : IsReadingOf sent.text reading
-  pub its : replied.transactions ≡ transactions_in reading
+-- what is known of the transactions of a file once the owners are proposed
+pub record IsReplied {Z : Type 0} (file : ReadFile Z) (replied : Replied) (entries : List EntryValue) : Type 0 where
+  pub its : replied.transactions ≡ transactions_in file.text
   pub made : length replied.replies ≡ length replied.transactions → AreRepliedBy replied entries
 
--- as many are judged, and as many are wanted
-pub judged_count : {Z : Type 0} (files : List Sent) (readings : List (Reading Z)) → AreReadingsOf files readings → length readings ≡ length files
-judged_count files readings are = zip_length (λ sent reading. IsReadingOf sent.text reading) files readings are
+pub wanted_count : {Z : Type 0} (files : List (ReadFile Z)) (history : List EntryValue) (owners : List ℕ) (after : List Wanting) → AreFirst (map wanting_of files) history owners after
+    → length after ≡ length files
+wanted_count files history owners after first = as_many (map wanting_of files) history owners after first ∙ length-map files wanting_of
 
-pub wanted_count : {Z : Type 0} (files : List Sent) (readings : List (Reading Z)) (history : List EntryValue) (owners : List ℕ) (after : List Wanting) → AreReadingsOf files readings
-    → AreFirst (wantings_of files readings) history owners after → length after ≡ length files
-wanted_count files readings history owners after are first =
-    as_many (wantings_of files readings) history owners after first ∙ wantings_length files readings (judged_count files readings are)
+pub replied_at : {Z : Type 0} (files : List (ReadFile Z)) (history : List EntryValue) (owners : List ℕ) (after : List Wanting) (n : ℕ) (file : ReadFile Z) (w : Wanting)
+    → AreFirst (map wanting_of files) history owners after → n < length files → file ≡ get_or files n file → w ≡ get_or after n w → IsReplied file w.replied (owned n owners history)
+replied_at files history owners after n file w first lt at now =
+    let many = wanted_count files history owners after first in
+    let grows = grown (map wanting_of files) history owners after n (wanting_of file) w first
+    (slice_get-map wanting_of files n ∙ ap (option_map wanting_of) (slice_get_read files (length files) n file refl lt at))
+    (slice_get_read after (length after) n w refl (omega (arith, lt, many)) now) in
+    record { its = grows.transactions; made = all_replied (wanting_of file).replied w.replied (owned n owners history) refl grows }
 
-pub replied_at : {Z : Type 0} (files : List Sent) (readings : List (Reading Z)) (history : List EntryValue) (owners : List ℕ) (after : List Wanting) (n : ℕ) (sent : Sent) (reading : Reading Z) (w : Wanting)
-    → AreReadingsOf files readings → AreFirst (wantings_of files readings) history owners after → n < length files
-    → sent ≡ get_or files n sent → reading ≡ get_or readings n reading → w ≡ get_or after n w → IsReplied sent reading w.replied (owned n owners history)
-replied_at files readings history owners after n sent reading w are first lt at its now =
-    let judged = judged_count files readings are in
-    let wanted = wanted_count files readings history owners after are first in
-    let grows = grown (wantings_of files readings) history owners after n (wanting_of sent reading) w first
-    (wantings_at files readings n sent reading lt (omega (arith, lt, judged)) at its)
-    (slice_get_read after (length after) n w refl (omega (arith, lt, wanted)) now) in
-    record {
-      judged = zip_at (λ sent reading. IsReadingOf sent.text reading) files readings n sent reading are lt at its;
-      its = grows.transactions;
-      made = all_replied (wanting_of sent reading).replied w.replied (owned n owners history) refl grows;
-    }
+-- the file that this one was read from
+pub sent_at : {Z : Type 0} (sent : List Sent) (files : List (ReadFile Z)) (n : ℕ) (file : ReadFile Z) → AreReadFrom sent files → n < length files → file ≡ get_or files n file
+    → (s : Sent) × (n < length sent) × (s ≡ get_or sent n s) × IsReadFrom s file
+sent_at sent files n file are lt at =
+    let many : length files ≡ length sent = zip_length IsReadFrom sent files are in
+    let within : n < length sent = omega (arith, lt, many) in
+    let found = item_at sent n within in
+    let is : found.0 ≡ get_or sent n found.0 = sym (get_or_from_slice_get sent n found.0 found.0 found.1) in
+    (found.0, within, is, zip_at IsReadFrom sent files n found.0 file are within is at)

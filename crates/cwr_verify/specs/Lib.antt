@@ -1,5 +1,6 @@
 pub mod Sent
 pub mod Reading
+pub mod Read
 pub mod Replied
 pub mod Compared
 pub mod Owned

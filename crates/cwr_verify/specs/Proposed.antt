@@ -3,19 +3,12 @@ use Rattle.std.specs.Prelude.{◌≡◌, ℕ, List, [], ◌∷◌}
 use Rattle.work_registry.specs.EntryValue.{EntryValue}
 use Rattle.cwr_verify.specs.Acknowledged.{told_in}
 use Rattle.cwr_verify.specs.Reading.{transactions_in}
-use Rattle.cwr_verify.specs.Sent.{Sent}
-use Rattle.cwr_verify.specs.declared.reading.Reading.{Reading}
+use Rattle.cwr_verify.specs.declared.sent.ReadFile.{ReadFile}
 use Rattle.cwr_verify.specs.Wanting.{Wanting, IsFirst, HasMovedOn}
 
--- what a file wants, so judged, none of whose transactions is found
-abbrev pub wanting_of : {Z : Type 0} → Sent → Reading Z → Wanting
-wanting_of sent reading = record { replied = record { transactions = transactions_in reading; replies = [] }; told = told_in sent.acknowledgement }
-
--- each of these files
-abbrev pub wantings_of : {Z : Type 0} → List Sent → List (Reading Z) → List Wanting
-wantings_of [] readings = []
-wantings_of (sent ∷ files) [] = []
-wantings_of (sent ∷ files) (reading ∷ readings) = wanting_of sent reading ∷ wantings_of files readings
+-- what a file wants, none of whose transactions is found
+abbrev pub wanting_of : {Z : Type 0} → ReadFile Z → Wanting
+wanting_of file = record { replied = record { transactions = transactions_in file.text; replies = [] }; told = told_in file.acknowledgement.now }
 
 -- The owner of each entry is the first file whose next transaction can have made it, once the transactions that made the
 -- entries before it are found. `before` and `after` are what is wanted before and after these entries.

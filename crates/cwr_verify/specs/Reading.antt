@@ -1,10 +1,8 @@
 -- What files are, each of them judged once.
 use Rattle.std.specs.Prelude.{ℕ, ◌<◌, ◌≤◌, List, [], length, map}
-use Rattle.std.specs.List.{AllZip}
 use Rattle.cwr_call.specs.CallValue.{CallValue}
 use Rattle.cwr_engine.specs.Account.{IsRefused, most}
 use Rattle.cwr_engine.specs.Judged.{JudgedValue, WasJudged}
-use Rattle.cwr_verify.specs.Sent.{Sent}
 use Rattle.cwr_verify.specs.declared.reading.Reading.{Reading}
 use Rattle.cwr_verify.specs.declared.reading.Reading.TheVariants.{File, TooLong, Refused}
 
@@ -14,10 +12,6 @@ abbrev pub IsReadingOf : {Z : Type 0} → List ℕ → Reading Z → Type 0
 IsReadingOf text (File file) = (length text ≤ most) × WasJudged text file.header file.transactions.items
 IsReadingOf text TooLong = most < length text
 IsReadingOf text (Refused number line) = IsRefused text number line
-
--- each of these files, judged
-abbrev pub AreReadingsOf : {Z : Type 0} → List Sent → List (Reading Z) → Type 0
-AreReadingsOf files readings = AllZip (λ sent reading. IsReadingOf sent.text reading) files readings
 
 -- the transactions of a well-formed file; of any other none
 abbrev pub transactions_in : {Z : Type 0} → Reading Z → List JudgedValue

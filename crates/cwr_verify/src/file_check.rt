@@ -3,37 +3,37 @@ ghost use Rattle.std.specs.Prelude.{◌≡◌, ◌≤◌, ◌+◌, ℕ, List, le
 ghost use Rattle.cwr_acknowledgement.specs.Acknowledgement.{ack_text, most_told, told_count};
 ghost use Rattle.cwr_engine.specs.Told.{told_all};
 ghost use Rattle.work_registry.specs.EntryValue.{EntryValue};
-ghost use Rattle.cwr_verify.specs.Reading.{IsReadingOf, transactions_in};
+ghost use Rattle.cwr_verify.specs.Read.{IsReadFrom};
+ghost use Rattle.cwr_verify.specs.Reading.{transactions_in};
 ghost use Rattle.cwr_verify.specs.Replied.{AreRepliedBy};
+ghost use Rattle.cwr_verify.specs.Sent.{Sent};
 ghost use Rattle.cwr_verify.specs.Told.{IsToldOf};
 ghost use Rattle.cwr_verify.specs.Verified.{IsAnsweredBy};
 
 use crate::compared::Compared;
 use crate::reading::Reading;
 use crate::replied::Replied;
-use crate::sent::SentFile;
+use crate::sent::ReadFile;
 use crate::told::stamp_in;
 use crate::unverified::Unverified;
 use cwr_acknowledgement::{AckStopped, send_answers};
 use cwr_record::{Header, Stamp};
 use std::alloc::Allocator;
 
-/// Checks a file, so judged, whose first transactions got these replies from the entries that it owns.
+/// Checks a file whose first transactions got these replies from the entries that it owns.
 ///
 /// Each of its transactions is to have one, and the acknowledgement that they make is compared with that of the file.
 pub(crate) fn check_file<A: Allocator + Copy>(
     alloc: A,
     number: usize,
-    file: &SentFile,
-    reading: &Reading<A>,
+    file: &ReadFile<A>,
     replied: &Replied<A>,
 ) -> Result<(), Unverified>
-    requires judged { IsReadingOf file.now.text reading.now }
-    requires its { replied.now.transactions ≡ transactions_in reading.now }
+    requires its { replied.now.transactions ≡ transactions_in file.now.text }
     requires made { length replied.now.replies ≡ length replied.now.transactions → (entries : List EntryValue) × AreRepliedBy replied.now entries }
     ensures answered { OnOk result (length replied.now.replies ≡ length replied.now.transactions) }
-    ensures by_each { OnOk result ((entries : List EntryValue) → AreRepliedBy replied.now entries → IsAnsweredBy file.now entries) }
-    ensures told { IfErr result (λ told. IsToldOf number file.now told) }
+    ensures by_each { OnOk result ((sent : Sent) (entries : List EntryValue) → IsReadFrom sent file.now → AreRepliedBy replied.now entries → IsAnsweredBy sent entries) }
+    ensures told { IfErr result (λ told. (sent : Sent) → IsReadFrom sent file.now → IsToldOf number sent told) }
 {
     let Some(stamp) = stamp_in(file.acknowledgement) else {
         return Err(Unverified::Acknowledgement {
@@ -41,7 +41,7 @@ pub(crate) fn check_file<A: Allocator + Copy>(
             line: 1,
         });
     };
-    match reading {
+    match file.text.reading() {
         Reading::File(judged) => {
             if let Some(first) = replied.next() {
                 return Err(Unverified::Transaction {
@@ -68,14 +68,14 @@ pub(crate) fn check_file<A: Allocator + Copy>(
 fn compare<A: Allocator + Copy>(
     alloc: A,
     number: usize,
-    file: &SentFile,
+    file: &ReadFile<A>,
     header: &Header,
     replied: &Replied<A>,
     stamp: &Stamp,
 ) -> Result<(), Unverified>
     requires few { length (told_all replied.now.transactions replied.now.replies) + told_count (told_all replied.now.transactions replied.now.replies) ≤ most_told }
-    ensures same { OnOk result (file.now.acknowledgement ≡ ack_text stamp.now header.now (told_all replied.now.transactions replied.now.replies)) }
-    ensures told { IfErr result (λ told. IsToldOf number file.now told) }
+    ensures same { OnOk result (file.now.acknowledgement.now ≡ ack_text stamp.now header.now (told_all replied.now.transactions replied.now.replies)) }
+    ensures told { IfErr result (λ told. (sent : Sent) → IsToldOf number sent told) }
 {
     let mut compared = Compared::with(file.acknowledgement);
     match send_answers(alloc, &mut compared, stamp, header, &replied.answered()) {

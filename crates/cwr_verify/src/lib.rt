@@ -24,6 +24,7 @@ mod wanted;
 
 pub use answering::answer;
 pub use no_answer::NoAnswer;
-pub use sent::SentFile;
+pub use reading::{ReadText, read_text};
+pub use sent::{ReadFile, SentFile};
 pub use unverified::Unverified;
-pub use verifying::verify;
+pub use verifying::{verify, verify_read};

@@ -1,12 +1,10 @@
 //! Which file each entry answers, as the acknowledgements let one think. That they tell so is checked.
-ghost use Rattle.std.specs.Prelude.{◌≡◌, length, IfOk};
+ghost use Rattle.std.specs.Prelude.{◌≡◌, length, map, IfOk};
 ghost use Rattle.std.specs.List.{AllByRecursion};
 ghost use Rattle.work_registry.specs.Numbers.{IsNumbered};
-ghost use Rattle.cwr_verify.specs.Proposed.{AreFirst, wantings_of};
-ghost use Rattle.cwr_verify.specs.Reading.{AreReadingsOf};
+ghost use Rattle.cwr_verify.specs.Proposed.{AreFirst, wanting_of};
 
-use crate::reading::Reading;
-use crate::sent::SentFile;
+use crate::sent::ReadFile;
 use crate::told::told_in;
 use crate::wanted::{Wanted, owner_of, waiting_of};
 use std::alloc::{AllocError, Allocator};
@@ -32,20 +30,17 @@ pub(crate) fn owners_of<A: Allocator + Copy>(
     Ok(owners)
 }
 
-/// What each of the files, so judged, wants of a history: its calls, and what its acknowledgement tells of them.
+/// What each of the files wants of a history: its calls, and what its acknowledgement tells of them.
 pub(crate) fn wanted_of<'r, A: Allocator + Copy>(
     alloc: A,
-    files: &[SentFile],
-    readings: &'r [Reading<A>],
+    files: &'r [ReadFile<A>],
 ) -> Result<Vec<Wanted<'r, A>, A>, AllocError>
-    requires { AreReadingsOf files.now readings.now }
-    ensures { IfOk result (λ all. all.items ≡ wantings_of files.now readings.now) }
+    ensures { IfOk result (λ all. all.items ≡ map wanting_of files.now) }
 {
-    let mut all = Vec::with_capacity(alloc, readings.len())?;
-    for (number, reading) in readings.iter().enumerate() {
-        let file = &files[number];
+    let mut all = Vec::with_capacity(alloc, files.len())?;
+    for file in files {
         let told = told_in(alloc, file.acknowledgement)?;
-        all.push(Wanted::of(alloc, reading.transactions(), told)?)?;
+        all.push(Wanted::of(alloc, file.text.transactions(), told)?)?;
     }
     Ok(all)
 }

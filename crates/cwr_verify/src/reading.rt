@@ -1,12 +1,15 @@
 //! What files are, each of them judged once.
-ghost use Rattle.std.specs.Prelude.{◌≡◌, IfOk};
-ghost use Rattle.cwr_verify.specs.Reading.{AreReadingsOf, IsReadingOf, transactions_in};
+ghost use Rattle.std.specs.Prelude.{◌≡◌, ℕ, List, IfOk};
+ghost use Rattle.cwr_verify.specs.Read.{AreReadFrom};
+ghost use Rattle.cwr_verify.specs.Reading.{IsReadingOf, transactions_in};
+ghost use Rattle.cwr_verify.specs.Replied.{AreOfFile};
 
-use crate::sent::SentFile;
+use crate::sent::{ReadFile, SentFile};
 use cwr_engine::{Judged, JudgedFile, MOST_BYTES, judge_file};
 use cwr_field::Memory;
 use cwr_grammar::FileRefusal;
-use std::alloc::Allocator;
+use std::alloc::{Allocator, Global};
+use std::marker::Model;
 
 /// What a file was judged to.
 #[derive(Drop)]
@@ -24,16 +27,55 @@ pub(crate) enum Reading<A: Allocator> {
     },
 }
 
-impl<A: Allocator> Reading<A> {
+/// The text of a file that was read: what it was judged to. It borrows no byte of the text.
+#[derive(Drop)]
+pub struct ReadText<A: Allocator = Global> {
+    reading: Reading<A>,
+}
+
+impl<A: Allocator> Model for ReadText<A> {
+    ghost use Rattle.cwr_verify.specs.declared.reading.Reading.{Reading};
+
+    ghost Value = { Reading A };
+
+    ghost use Rattle.std.specs.Prelude.{ℕ, List};
+    ghost use Rattle.cwr_verify.specs.Reading.{IsReadingOf};
+
+    ghost view = { λ r. r.reading };
+
+    ghost invariant = { λ r. (text : List ℕ) × IsReadingOf text r.reading };
+}
+
+impl<A: Allocator> ReadText<A> {
+    /// What it was judged to.
+    pub(crate) fn reading(&self) -> &Reading<A>
+        ensures its { result.now ≡ self.now }
+        ensures some { (text : List ℕ) × IsReadingOf text result.now }
+    {
+        &self.reading
+    }
+
     /// The transactions of a well-formed file; of any other none.
     pub(crate) fn transactions(&self) -> &[Judged<A>]
-        ensures { result.now ≡ transactions_in self.now }
+        ensures its { result.now ≡ transactions_in self.now }
+        ensures of_file { AreOfFile result.now }
     {
-        match self {
+        match &self.reading {
             Reading::File(file) => file.transactions.as_slice(),
             Reading::TooLong | Reading::Refused { .. } => &[],
         }
     }
+}
+
+/// Reads the text of a file and judges it. What it answers borrows no byte of the text.
+///
+/// A text of any kind can be read, and is judged to what it is: a well-formed file with its transactions, a text of more
+/// bytes than a file may have, or one with a first fault. An error says that memory was refused, and nothing of the text.
+pub fn read_text<A: Allocator + Copy>(alloc: A, text: &[u8]) -> Result<ReadText<A>, Memory>
+    ensures { IfOk result (IsReadingOf text.now) }
+{
+    let reading = reading_of(alloc, text)?;
+    Ok(ReadText { reading })
 }
 
 /// A text, judged.
@@ -50,16 +92,19 @@ pub(crate) fn reading_of<A: Allocator + Copy>(alloc: A, text: &[u8]) -> Result<R
     }
 }
 
-/// Each of the files, judged.
-pub(crate) fn readings_of<A: Allocator + Copy>(
+/// Each of the files, read.
+pub(crate) fn read_files<'a, A: Allocator + Copy>(
     alloc: A,
-    files: &[SentFile],
-) -> Result<Vec<Reading<A>, A>, Memory>
-    ensures { IfOk result (λ readings. AreReadingsOf files.now readings.items) }
+    files: &[SentFile<'a>],
+) -> Result<Vec<ReadFile<'a, A>, A>, Memory>
+    ensures { IfOk result (λ all. AreReadFrom files.now all.items) }
 {
-    let mut readings = Vec::with_capacity(alloc, files.len())?;
+    let mut all = Vec::with_capacity(alloc, files.len())?;
     for file in files {
-        readings.push(reading_of(alloc, file.text)?)?;
+        all.push(ReadFile {
+            text: read_text(alloc, file.text)?,
+            acknowledgement: file.acknowledgement,
+        })?;
     }
-    Ok(readings)
+    Ok(all)
 }

@@ -1,12 +1,18 @@
-ghost use Rattle.std.specs.Prelude.{IfErr, IfOk};
+ghost use Rattle.std.specs.Prelude.{◌≡◌, ℕ, List, length, map, IfErr, IfOk, OnOk};
+ghost use Rattle.work_registry.specs.EntryValue.{EntryValue};
+ghost use Rattle.cwr_verify.specs.Proposed.{AreFirst, wanting_of};
+ghost use Rattle.cwr_verify.specs.Read.{AreReadFrom};
+ghost use Rattle.cwr_verify.specs.Sent.{Sent};
 ghost use Rattle.cwr_verify.specs.Told.{IsTold};
 ghost use Rattle.cwr_verify.specs.Verified.{AreAnswered};
 
 use crate::file_check::check_file;
 use crate::proposal::{owners_of, wanted_of};
-use crate::reading::readings_of;
-use crate::sent::SentFile;
+use crate::reading::read_files;
+use crate::sent::{ReadFile, SentFile};
 use crate::unverified::Unverified;
+use crate::wanted::Wanted;
+use cwr_field::Memory;
 use std::alloc::Allocator;
 use work_registry::Book;
 
@@ -27,19 +33,46 @@ pub fn verify<A: Allocator + Copy + Drop>(
     ensures answered { IfOk result (λ owners. AreAnswered owners.items book.now.history files.now) }
     ensures told { IfErr result (λ told. IsTold files.now told) }
 {
-    let Ok(readings) = readings_of(alloc, files) else {
-        return Err(Unverified::Memory);
-    };
-    let Ok(mut wanted) = wanted_of(alloc, files, &readings) else {
+    match read_files(alloc, files) {
+        Ok(read) => verify_read(alloc, book, &read),
+        Err(Memory) => Err(Unverified::Memory),
+    }
+}
+
+/// What [`verify`] answers, of files that were read before, by [`read_text`](crate::read_text): no text of them is held.
+///
+/// An entry of the result and an error tell a file by its place in the list, as there. They hold of each list of sent
+/// files from which these can have been read.
+pub fn verify_read<A: Allocator + Copy + Drop>(
+    alloc: A,
+    book: &Book<A>,
+    files: &[ReadFile<A>],
+) -> Result<Vec<usize, A>, Unverified>
+    ensures answered { IfOk result (λ owners. (sent : List Sent) → AreReadFrom sent files.now → AreAnswered owners.items book.now.history sent) }
+    ensures told { IfErr result (λ told. (sent : List Sent) → AreReadFrom sent files.now → IsTold sent told) }
+{
+    let Ok(mut wanted) = wanted_of(alloc, files) else {
         return Err(Unverified::Memory);
     };
     let Ok(owners) = owners_of(alloc, wanted.as_mut_slice(), book.history()) else {
         return Err(Unverified::Memory);
     };
-    let (read, sought) = (readings.as_slice(), wanted.as_slice());
-    for number in 0..files.len() {
-        let replied = sought[number].replied();
-        check_file(alloc, number, &files[number], &read[number], replied)?;
-    }
+    check_files(alloc, files, wanted.as_slice())?;
     Ok(owners)
+}
+
+/// Checks files, of each of which this is what it wants once the owners are proposed.
+fn check_files<A: Allocator + Copy>(
+    alloc: A,
+    files: &[ReadFile<A>],
+    wanted: &[Wanted<A>],
+) -> Result<(), Unverified>
+    requires { (history : List EntryValue) × (owners : List ℕ) × AreFirst (map wanting_of files.now) history owners wanted.now }
+    ensures answered { OnOk result ((sent : List Sent) (history : List EntryValue) (owners : List ℕ) → AreReadFrom sent files.now → AreFirst (map wanting_of files.now) history owners wanted.now → length owners ≡ length history → AreAnswered owners history sent) }
+    ensures told { IfErr result (λ told. (sent : List Sent) → AreReadFrom sent files.now → IsTold sent told) }
+{
+    for number in 0..files.len() {
+        check_file(alloc, number, &files[number], wanted[number].replied())?;
+    }
+    Ok(())
 }

@@ -7,7 +7,7 @@ use crate::printing::StandardOutput;
 use crate::registers::{REGISTER, named_book};
 use crate::run_command::{DATE, NAME, SOCIETY, StampWords, TIME};
 use crate::status::{bad_words, no_memory};
-use crate::wanted_rows::number_in;
+use crate::wanted_rows::number_given;
 use byte_streams::{ReadRefused, Through, read_file};
 use clap::ArgMatches;
 use cwr_desk::MOST_BYTES;
@@ -80,16 +80,9 @@ fn asked_of<'a>(given: &ArgMatches<'a>) -> Result<Asked<'a>, &'static str> {
             .get_str("FILE")
             .ok_or("the command line is not taken")?,
         stamp: words.stamp().ok_or("the words name no stamp")?,
-        entry: entry_in(given)?,
+        entry: number_given(given, "entry", "bad --entry")?,
         verbose: given.get_flag("verbose"),
     })
-}
-
-fn entry_in(given: &ArgMatches) -> Result<Option<u32>, &'static str> {
-    match given.get_str("entry") {
-        Some(word) => Ok(Some(number_in(word.as_bytes()).ok_or("bad --entry")?)),
-        None => Ok(None),
-    }
 }
 
 /// The same of a register and a file. Why there is no acknowledgement is told, and its status answered.

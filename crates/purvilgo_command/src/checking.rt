@@ -4,7 +4,7 @@ use crate::arguments::{Argument, CommandWords};
 use crate::files::{Reading, bytes_of, read_named};
 use crate::help::CHECK_HELP;
 use crate::printing::StandardOutput;
-use crate::status::bad_words;
+use crate::status::{bad_words, status_of};
 use byte_streams::{ReadRefused, Source};
 use clap::ArgMatches;
 use cwr_check::{Checked, check_source};
@@ -95,11 +95,7 @@ pub(crate) fn check_files<R: AllocGlobal + Input + Print + Eprint + Files>(
         named: names.len() > 1,
         verbose: given.get_flag("verbose"),
     };
-    if are_clean(rt, names, manner) {
-        ExitCode::SUCCESS
-    } else {
-        ExitCode::FAILURE
-    }
+    status_of(are_clean(rt, names, manner))
 }
 
 /// The form that the words ask for.

@@ -3,7 +3,7 @@
 use crate::arguments::{Argument, CommandWords};
 use crate::help::EXPLAIN_HELP;
 use crate::printing::is_printed;
-use crate::status::{BAD_WORDS, no_memory};
+use crate::status::{BAD_WORDS, no_memory, status_of};
 use clap::ArgMatches;
 use rule_pages::{Page, every_page, page_named, texts_of_pages};
 use std::process::ExitCode;
@@ -46,9 +46,5 @@ fn tell_pages<R: AllocGlobal + Print + Eprint>(rt: &R, pages: &[Page]) -> ExitCo
     let Ok(text) = texts_of_pages(rt.alloc(), pages) else {
         return no_memory(rt);
     };
-    if is_printed(rt, &text) {
-        ExitCode::SUCCESS
-    } else {
-        ExitCode::FAILURE
-    }
+    status_of(is_printed(rt, &text))
 }

@@ -8,20 +8,21 @@ use crate::registers::audit_file;
 use crate::running::run_files;
 use crate::status::{BAD_WORDS, bad_words, no_memory};
 use crate::tables::{Table, tell_summary, tell_table};
+use crate::telling::tell_outcome;
 use crate::verified_files::verify_files;
 use crate::version::tell_version;
 use byte_streams::Through;
 use clap::ArgMatches;
 use clap::error::ErrorKind;
-use cwr_desk::{FileOutcome, acknowledge, outcome_line};
+use cwr_desk::{FileOutcome, acknowledge};
 use cwr_field::{Clock, Day, cut, date, time};
 use cwr_record::Stamp;
 use kept_file::Exclusive;
+use std::io;
 use std::process::ExitCode;
 use std::rt::{Env, Files};
 use std::sync::Wait;
 use std::thread::Threads;
-use std::{io, str};
 
 /// Runs the program on its words, and answers its exit status.
 ///
@@ -137,17 +138,8 @@ fn acknowledge_input<R: AllocGlobal + Input + Print + Eprint>(rt: &R) -> ExitCod
     match acknowledge(rt.alloc(), &mut reader, &mut writer, &fixed_stamp()) {
         FileOutcome::Acked { transactions: _ } => ExitCode::SUCCESS,
         outcome => {
-            tell_input_end(rt, &outcome);
+            tell_outcome(rt, "-", &outcome);
             ExitCode::FAILURE
-        }
-    }
-}
-
-/// Tells on standard error how the acknowledging of standard input ended. Where there is no memory, nothing.
-fn tell_input_end<R: AllocGlobal + Eprint>(rt: &R, outcome: &FileOutcome) {
-    if let Ok(line) = outcome_line(rt.alloc(), b"-", outcome) {
-        if let Ok(text) = str::from_utf8(&line) {
-            let _ = eprint!(rt; "{text}");
         }
     }
 }

@@ -8,7 +8,7 @@ use crate::arguments::{Argument, CommandWords};
 use crate::files::{InputFile, Reading, read_named};
 use crate::help::AUDIT_HELP;
 use crate::printing::{StandardOutput, is_printed};
-use crate::status::no_memory;
+use crate::status::{no_memory, status_of};
 use crate::telling::tell_reason;
 use byte_streams::Source;
 use clap::ArgMatches;
@@ -142,10 +142,7 @@ fn tell_entries<R: AllocGlobal + Print + Eprint>(rt: &R, entries: u64, as_json: 
     if as_json {
         return print_audited(rt, Audited::Entries(entries), ExitCode::SUCCESS);
     }
-    match write!(StandardOutput::of(rt), "{entries} entries\n") {
-        Ok(()) => ExitCode::SUCCESS,
-        Err(_) => ExitCode::FAILURE,
-    }
+    status_of(write!(StandardOutput::of(rt), "{entries} entries\n").is_ok())
 }
 
 /// The book of a register, which is that of standard input for `-`. Why there is none is told as an audit tells it.

@@ -10,8 +10,9 @@ use crate::printing::StandardOutput;
 use crate::registers::{locked_register, opening_book};
 use crate::run_command::{RunWords, Way, right_words};
 use crate::same_files::is_one_file_twice;
-use crate::status::{bad_words, no_memory};
+use crate::status::{bad_words, no_memory, status_of};
 use crate::targets::Targets;
+use crate::telling::tell_outcome;
 use clap::ArgMatches;
 use cwr_desk::{
     Book, FileOutcome, Job, OpenGate, Run, Sink, Source, outcome_line, serve, serve_in_order,
@@ -22,11 +23,11 @@ use cwr_record::Stamp;
 use kept_file::{Exclusive, FileNames};
 use run_words::RunFault;
 use std::alloc::Global;
+use std::fs;
 use std::process::ExitCode;
 use std::rt::Files;
 use std::sync::Wait;
 use std::thread::Threads;
-use std::{fs, str};
 
 /// Acknowledges the files that the words name, all at one book: each by a worker on a thread of its own, or, where the
 /// words ask for it, in their order, with threads or without.
@@ -53,7 +54,8 @@ where
     }
 }
 
-/// Acknowledges the files of words with which nothing is wrong.
+/// Acknowledges the files of words with which nothing is wrong, and leaves the register, unless files are in the way, or
+/// another run has the register.
 fn run_words<R: AllocGlobal + Print + Eprint + Files + Threads + Wait + Sync>(
     rt: &R,
     words: &RunWords,
@@ -66,29 +68,17 @@ where
     let Some(stamp) = words.stamp() else {
         return bad_words(rt, "the words name no stamp");
     };
-    match Targets::of(rt, words) {
-        Ok(targets) => run_to(rt, words, &stamp, &targets),
-        Err(_) => no_memory(rt),
-    }
-}
-
-/// Acknowledges them to these targets, unless files are in the way, or another run has the register.
-fn run_to<R: AllocGlobal + Print + Eprint + Files + Threads + Wait + Sync>(
-    rt: &R,
-    words: &RunWords,
-    stamp: &Stamp,
-    targets: &Targets,
-) -> ExitCode
-where
-    R::File: Send + Exclusive,
-    R::Dir: Send,
-    requires few { length words.now.files.now < 64 }
-{
-    if let Some(status) = refusal_of(rt, words, targets) {
+    let Ok(targets) = Targets::of(rt, words) else {
+        return no_memory(rt);
+    };
+    if let Some(status) = refusal_of(rt, words, &targets) {
         return status;
     }
-    match locked_register(rt, targets.register.as_ref(), words.verbose) {
-        Some(_held) => run_into(rt, words, stamp, targets),
+    let Some(_held) = locked_register(rt, targets.register.as_ref(), words.verbose) else {
+        return ExitCode::FAILURE;
+    };
+    match opening_book(rt, words.from, words.verbose) {
+        Some(book) => run_at(rt, words, &stamp, &targets, book),
         None => ExitCode::FAILURE,
     }
 }
@@ -108,25 +98,7 @@ fn refusal_of<R: AllocGlobal + Eprint + Files>(
     }
 }
 
-/// Acknowledges the files of these words to these targets, and leaves the register.
-fn run_into<R: AllocGlobal + Print + Eprint + Files + Threads + Wait + Sync>(
-    rt: &R,
-    words: &RunWords,
-    stamp: &Stamp,
-    targets: &Targets,
-) -> ExitCode
-where
-    R::File: Send,
-    R::Dir: Send,
-    requires few { length words.now.files.now < 64 }
-{
-    match opening_book(rt, words.from, words.verbose) {
-        Some(book) => run_at(rt, words, stamp, targets, book),
-        None => ExitCode::FAILURE,
-    }
-}
-
-/// The same at a book, all of whose entries are of the opening.
+/// Acknowledges them to these targets at a book, all of whose entries are of the opening.
 fn run_at<R: AllocGlobal + Print + Eprint + Files + Threads + Wait + Sync>(
     rt: &R,
     words: &RunWords,
@@ -196,15 +168,6 @@ where
     let told = tell_run(rt, words, &outcomes);
     let kept = keep_run(rt, &book, jobs, waiting, targets, words);
     status_of(told && kept)
-}
-
-/// The status of a run of which all is done, or not.
-fn status_of(done: bool) -> ExitCode {
-    if done {
-        ExitCode::SUCCESS
-    } else {
-        ExitCode::FAILURE
-    }
 }
 
 /// Tells how each job ended, and answers whether all are acknowledged and told.
@@ -277,21 +240,10 @@ fn job_of<'a, R: AllocGlobal + Eprint + Files>(
 fn tell_ends<R: AllocGlobal + Eprint>(rt: &R, files: &[&str], outcomes: &[FileOutcome]) {
     for (file, outcome) in files.iter().zip(outcomes) {
         if !is_acknowledged(outcome) {
-            tell_end(rt, file, outcome);
+            if let Ok(name) = format!(in rt.alloc(); "{file}: ended") {
+                tell_outcome(rt, &name, outcome);
+            }
         }
-    }
-}
-
-/// Tells on standard error how a job ended.
-fn tell_end<R: AllocGlobal + Eprint>(rt: &R, file: &str, outcome: &FileOutcome) {
-    let Ok(name) = format!(in rt.alloc(); "{file}: ended") else {
-        return;
-    };
-    let Ok(line) = outcome_line(rt.alloc(), name.as_bytes(), outcome) else {
-        return;
-    };
-    if let Ok(text) = str::from_utf8(&line) {
-        let _ = eprint!(rt; "{text}");
     }
 }
 

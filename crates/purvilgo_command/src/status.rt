@@ -5,6 +5,15 @@ use std::process::ExitCode;
 /// The status of words that are not taken.
 pub(crate) const BAD_WORDS: u8 = 2;
 
+/// The status of a command of which all is done and told, or not.
+pub(crate) fn status_of(done: bool) -> ExitCode {
+    if done {
+        ExitCode::SUCCESS
+    } else {
+        ExitCode::FAILURE
+    }
+}
+
 /// Tells what is wrong with the words of the command line.
 pub(crate) fn bad_words<R: Eprint>(rt: &R, text: &str) -> ExitCode {
     let _ = eprintln!(rt; "{text}");

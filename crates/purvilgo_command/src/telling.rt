@@ -1,6 +1,7 @@
 //! What is told on standard error beside the fixed texts, where the words ask for it.
 
-use std::io;
+use cwr_desk::{FileOutcome, outcome_line};
+use std::{io, str};
 
 /// What stands behind a reason of the system, before its number.
 const NUMBER: &str = " (os error ";
@@ -10,6 +11,15 @@ pub(crate) fn tell_reason<R: AllocGlobal + Eprint>(rt: &R, name: &str, error: &i
     if let Ok(text) = error.to_string(rt.alloc()) {
         let reason = without_number(text.as_str());
         let _ = eprintln!(rt; "{name}: {reason}");
+    }
+}
+
+/// Tells how the acknowledging of a file of this name ended. Where there is no memory for it, nothing.
+pub(crate) fn tell_outcome<R: AllocGlobal + Eprint>(rt: &R, name: &str, outcome: &FileOutcome) {
+    if let Ok(line) = outcome_line(rt.alloc(), name.as_bytes(), outcome) {
+        if let Ok(text) = str::from_utf8(&line) {
+            let _ = eprint!(rt; "{text}");
+        }
     }
 }
 

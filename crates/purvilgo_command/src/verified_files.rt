@@ -6,11 +6,11 @@ use crate::files::InputFile;
 use crate::help::VERIFY_HELP;
 use crate::printing::StandardOutput;
 use crate::registers::{MOST_REGISTER_BYTES, REGISTER, audited_book};
-use crate::status::{bad_words, no_memory};
+use crate::status::{bad_words, no_memory, status_of};
 use byte_streams::{ReadRefused, read_file};
 use clap::ArgMatches;
 use cwr_desk::MOST_BYTES;
-use cwr_verify::{SentFile, Unverified, verify};
+use cwr_verify::{ReadFile, ReadText, Unverified, read_text, verify_read};
 use std::io::{self, Write};
 use std::process::ExitCode;
 use std::rt::Files;
@@ -33,13 +33,11 @@ pub(crate) const VERIFY: CommandWords = CommandWords {
     more: VERIFY_HELP,
 };
 
-/// A file that was sent, and its acknowledgement.
+/// An acknowledgement.
 #[derive(Drop)]
-struct FilePair {
-    text: Vec<u8>,
-    /// The name of the acknowledgement.
-    answer: String,
-    acknowledgement: Vec<u8>,
+struct Answer {
+    name: String,
+    bytes: Vec<u8>,
 }
 
 /// Tells on standard output how many transactions of the files a register has as the acknowledgements tell them, or what
@@ -62,7 +60,7 @@ pub(crate) fn verify_files<R: AllocGlobal + Input + Print + Eprint + Files>(
     }
 }
 
-/// The same at a book.
+/// The same at a book. Each file is judged before the next is read, and of its text no byte is held.
 fn verify_at<R: AllocGlobal + Print + Eprint + Files>(
     rt: &R,
     book: &Book,
@@ -70,26 +68,18 @@ fn verify_at<R: AllocGlobal + Print + Eprint + Files>(
     ack: Option<&str>,
     verbose: bool,
 ) -> ExitCode {
-    match pairs_of(rt, names, ack, verbose) {
-        Ok(pairs) => tell_verified(rt, book, names, &pairs),
-        Err(status) => status,
-    }
-}
-
-/// The files of these names, each with its acknowledgement, which is the one that is named if any is.
-fn pairs_of<R: AllocGlobal + Eprint + Files>(
-    rt: &R,
-    names: &[&str],
-    ack: Option<&str>,
-    verbose: bool,
-) -> Result<Vec<FilePair>, ExitCode> {
-    let mut pairs = Vec::new(rt.alloc());
+    let (mut texts, mut answers) = (Vec::new(rt.alloc()), Vec::new(rt.alloc()));
     for name in names {
-        if pairs.push(pair_of(rt, name, ack, verbose)?).is_err() {
-            return Err(no_memory(rt));
+        match pair_of(rt, name, ack, verbose) {
+            Ok((text, answer)) => {
+                if texts.push(text).is_err() || answers.push(answer).is_err() {
+                    return no_memory(rt);
+                }
+            }
+            Err(status) => return status,
         }
     }
-    Ok(pairs)
+    tell_verified(rt, book, names, texts, &answers)
 }
 
 /// The file of this name, with its acknowledgement.
@@ -98,13 +88,30 @@ fn pair_of<R: AllocGlobal + Eprint + Files>(
     name: &str,
     ack: Option<&str>,
     verbose: bool,
-) -> Result<FilePair, ExitCode> {
+) -> Result<(ReadText, Answer), ExitCode> {
     let answer = answer_to(rt, name, ack)?;
-    Ok(FilePair {
-        text: whole_file(rt, name, MOST_BYTES, verbose)?,
-        acknowledgement: whole_file(rt, &answer, MOST_REGISTER_BYTES, verbose)?,
-        answer,
-    })
+    let text = judged_file(rt, name, verbose)?;
+    let bytes = whole_file(rt, &answer, MOST_REGISTER_BYTES, verbose)?;
+    Ok((
+        text,
+        Answer {
+            name: answer,
+            bytes,
+        },
+    ))
+}
+
+/// What the file of this name is judged to.
+fn judged_file<R: AllocGlobal + Eprint + Files>(
+    rt: &R,
+    name: &str,
+    verbose: bool,
+) -> Result<ReadText, ExitCode> {
+    let text = whole_file(rt, name, MOST_BYTES, verbose)?;
+    match read_text(rt.alloc(), &text) {
+        Ok(read) => Ok(read),
+        Err(_) => Err(no_memory(rt)),
+    }
 }
 
 /// The name of the acknowledgement of a file, which is the one that is given if any is.
@@ -145,22 +152,24 @@ fn tell_verified<R: AllocGlobal + Print + Eprint>(
     rt: &R,
     book: &Book,
     names: &[&str],
-    pairs: &[FilePair],
+    texts: Vec<ReadText>,
+    answers: &[Answer],
 ) -> ExitCode {
     let mut files = Vec::new(rt.alloc());
-    for pair in pairs {
-        let file = SentFile {
-            text: pair.text.as_slice(),
-            acknowledgement: pair.acknowledgement.as_slice(),
+    for (text, answer) in texts.into_iter().zip(answers) {
+        let acknowledgement = answer.bytes.as_slice();
+        let file = ReadFile {
+            text,
+            acknowledgement,
         };
         if files.push(file).is_err() {
             return no_memory(rt);
         }
     }
-    match verify(rt.alloc(), book, &files) {
+    match verify_read(rt.alloc(), book, &files) {
         Ok(owners) => tell_count(rt, &owners, files.len()),
         Err(unverified) => {
-            tell_unverified(rt, names, pairs, unverified);
+            tell_unverified(rt, names, answers, unverified);
             ExitCode::FAILURE
         }
     }
@@ -175,17 +184,14 @@ fn tell_count<R: Print + Eprint>(rt: &R, owners: &[usize], files: usize) -> Exit
         }
     }
     let mut out = StandardOutput::of(rt);
-    match write!(out, "{transactions} transactions of {files} files\n") {
-        Ok(()) => ExitCode::SUCCESS,
-        Err(_) => ExitCode::FAILURE,
-    }
+    status_of(write!(out, "{transactions} transactions of {files} files\n").is_ok())
 }
 
 /// Tells what does not fit, by the names of the files and of their acknowledgements.
 fn tell_unverified<R: Print + Eprint>(
     rt: &R,
     names: &[&str],
-    pairs: &[FilePair],
+    answers: &[Answer],
     unverified: Unverified,
 ) {
     let mut out = StandardOutput::of(rt);
@@ -205,11 +211,11 @@ fn tell_unverified<R: Print + Eprint>(
                 &mut out,
                 name_of(names, file),
                 place,
-                answer_of(pairs, file),
+                answer_of(answers, file),
             )
         }
         Unverified::Acknowledgement { file, line } => {
-            tell_other_line(&mut out, answer_of(pairs, file), line)
+            tell_other_line(&mut out, answer_of(answers, file), line)
         }
     };
 }
@@ -246,9 +252,9 @@ fn name_of<'a>(names: &[&'a str], file: usize) -> &'a str {
 }
 
 /// The name of the acknowledgement of a file, by its number from 0.
-fn answer_of<'a>(pairs: &'a [FilePair], file: usize) -> &'a str {
-    match pairs.get(file) {
-        Some(pair) => &pair.answer,
+fn answer_of<'a>(answers: &'a [Answer], file: usize) -> &'a str {
+    match answers.get(file) {
+        Some(answer) => &answer.name,
         None => "",
     }
 }

@@ -2,6 +2,7 @@
 
 use crate::arguments::CommandWords;
 use crate::printing::StandardOutput;
+use crate::status::status_of;
 use std::io::Write;
 use std::process::ExitCode;
 
@@ -18,9 +19,5 @@ pub(crate) const VERSION_WORD: CommandWords = CommandWords {
 
 /// Tells the version on standard output.
 pub(crate) fn tell_version<R: Print + Eprint>(rt: &R) -> ExitCode {
-    let mut out = StandardOutput::of(rt);
-    match write!(out, "purvilgo {VERSION}\n") {
-        Ok(()) => ExitCode::SUCCESS,
-        Err(_) => ExitCode::FAILURE,
-    }
+    status_of(write!(StandardOutput::of(rt), "purvilgo {VERSION}\n").is_ok())
 }

@@ -8,30 +8,33 @@ use work_registry::Status;
 /// What the words want of a table, or what is wrong with them: of several, the first in this order.
 pub(crate) fn wanted_in(given: &ArgMatches) -> Result<Wanted, &'static str> {
     Ok(Wanted {
-        work: wanted_work(given)?,
-        submitter: wanted_submitter(given)?,
-        number: wanted_number(given)?,
+        work: number_given(given, "work", "bad --work")?,
+        submitter: text_given(given, "submitter", "bad --submitter")?,
+        number: text_given(given, "number", "bad --number")?,
         status: wanted_status(given)?,
     })
 }
 
-fn wanted_work(given: &ArgMatches) -> Result<Option<u32>, &'static str> {
-    match given.get_str("work") {
-        Some(word) => Ok(Some(number_in(word.as_bytes()).ok_or("bad --work")?)),
+/// The number of a work, or of an entry, that an option has where it is given, or the fault of one that is none.
+pub(crate) fn number_given(
+    given: &ArgMatches,
+    option: &str,
+    fault: &'static str,
+) -> Result<Option<u32>, &'static str> {
+    match given.get_str(option) {
+        Some(word) => Ok(Some(number_in(word.as_bytes()).ok_or(fault)?)),
         None => Ok(None),
     }
 }
 
-fn wanted_submitter(given: &ArgMatches) -> Result<Option<[u8; 11]>, &'static str> {
-    match given.get_str("submitter") {
-        Some(word) => Ok(Some(text_in(word.as_bytes()).ok_or("bad --submitter")?)),
-        None => Ok(None),
-    }
-}
-
-fn wanted_number(given: &ArgMatches) -> Result<Option<[u8; 14]>, &'static str> {
-    match given.get_str("number") {
-        Some(word) => Ok(Some(text_in(word.as_bytes()).ok_or("bad --number")?)),
+/// The text of this width that an option has where it is given, or the fault of one that is none.
+fn text_given<const N: usize>(
+    given: &ArgMatches,
+    option: &str,
+    fault: &'static str,
+) -> Result<Option<[u8; N]>, &'static str> {
+    match given.get_str(option) {
+        Some(word) => Ok(Some(text_in(word.as_bytes()).ok_or(fault)?)),
         None => Ok(None),
     }
 }
@@ -43,8 +46,8 @@ fn wanted_status(given: &ArgMatches) -> Result<Option<Status>, &'static str> {
     }
 }
 
-/// The number of a work, or of an entry: one to eight digits, and not 0.
-pub(crate) fn number_in(word: &[u8]) -> Option<u32> {
+/// A number of one to eight digits that is not 0.
+fn number_in(word: &[u8]) -> Option<u32> {
     if word.is_empty() || word.len() > 8 {
         return None;
     }

@@ -6,7 +6,7 @@ ghost use Rattle.cwr_acknowledgement.specs.Acknowledgement.{FitsItem};
 use crate::control_records::text;
 use byte_streams::Room;
 use cwr_acknowledgement::{AckItem, AckStopped, ack_file, send_ack};
-use cwr_call::{Fault, Faults};
+use cwr_call::Fault;
 use cwr_record::{Header, Stamp, Status, WorkKind, read_header};
 use cwr_sheets::{SENDER, acknowledgement, decision, header, same_bytes, stamp};
 use refusing::{Ended, Refusing, Sweep, answered, refuse_each, refused};
@@ -21,7 +21,7 @@ const SHARE: Fault = Fault {
 };
 
 /// The first transaction, a work that was accepted.
-fn accepted<'m>(memory: &'m Refusing) -> AckItem<&'m Refusing>
+fn accepted() -> AckItem<'static>
     ensures fits { FitsItem result }
     ensures told { told_faults result ≡ [] }
 {
@@ -33,13 +33,12 @@ fn accepted<'m>(memory: &'m Refusing) -> AckItem<&'m Refusing>
         number: text(b"W1"),
         status: Status::Accepted,
         work: Some(1),
-        faults: Faults::new(Vec::new(memory)),
+        faults: &[],
     }
 }
 
 /// The second one, which was rejected for a share.
-fn rejected<'m>(faults: Vec<Fault, &'m Refusing>) -> AckItem<&'m Refusing>
-    requires { faults.items ≡ SHARE ∷ [] }
+fn rejected() -> AckItem<'static>
     ensures fits { FitsItem result }
     ensures told { told_faults result ≡ SHARE ∷ [] }
 {
@@ -51,7 +50,7 @@ fn rejected<'m>(faults: Vec<Fault, &'m Refusing>) -> AckItem<&'m Refusing>
         number: text(b"W2"),
         status: Status::Rejected,
         work: None,
-        faults: Faults::new(faults),
+        faults: &[SHARE],
     }
 }
 
@@ -64,11 +63,7 @@ struct AckFile<'a> {
 
 impl Sweep for AckFile<'_> {
     fn ends(&self, memory: &Refusing) -> Ended {
-        let mut faults = Vec::new(memory);
-        if faults.push(SHARE).is_err() {
-            return Ok(true);
-        }
-        let items = [accepted(memory), rejected(faults)];
+        let items = [accepted(), rejected()];
         match ack_file(memory, &self.stamp, &self.header, &items) {
             Ok(answer) => answered(same_bytes("the acknowledgement", &answer, self.wanted)),
             Err(_) => Ok(true),
@@ -87,11 +82,7 @@ struct SendAck<'a> {
 
 impl Sweep for SendAck<'_> {
     fn ends(&self, memory: &Refusing) -> Ended {
-        let mut faults = Vec::new(memory);
-        if faults.push(SHARE).is_err() {
-            return Ok(true);
-        }
-        let items = [accepted(memory), rejected(faults)];
+        let items = [accepted(), rejected()];
         let mut room = Room::new(self.alloc, self.wanted.len(), true)?;
         match send_ack(memory, &mut room, &self.stamp, &self.header, &items) {
             Ok(()) => answered(same_bytes("the acknowledgement", room.bytes(), self.wanted)),

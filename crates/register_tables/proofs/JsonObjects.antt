@@ -6,10 +6,10 @@ use Rattle.json.specs.Token.{Token, begin_object, end_object, key}
 use Rattle.json.specs.Print.{print}
 use Rattle.json.specs.Tree.{members_tokens}
 use Rattle.json.specs.Written.{Written}
-use Rattle.serde_json.specs.Data.{Data, Members, no_members, member, object}
+use Rattle.serde_json.specs.Data.{Data}
 use Rattle.serde_json.specs.Written.{members_outline}
 use Rattle.serde_json.proofs.Texts.{print-outline}
-use Rattle.register_tables.specs.JsonValues.{json_line, member_tokens, value_tokens, Adds}
+use Rattle.register_tables.specs.JsonValues.{json_line, member_tokens, members_of, object_data, value_tokens, Adds}
 
 -- a piece behind a piece
 pub adds_then : (old mid new : Written) (xs ys : List Token) → Adds old mid xs → Adds mid new ys → Adds old new (xs ++ ys)
@@ -22,17 +22,12 @@ adds_then old mid new xs ys a b = record {
 pub adds_same : (old new : Written) (xs ys : List Token) → xs ≡ ys → Adds old new xs → Adds old new ys
 adds_same old new xs ys same a = record { tokens = a.tokens ∙ ap (λ (ts : List Token). old.tokens ++ ts) same; before = a.before }
 
--- members, and those behind them
-abbrev pub and_then : List (List ℕ × Data) → Members → Members
-and_then [] ms = ms
-and_then (m ∷ rest) ms = member m.0 m.1 (and_then rest ms)
-
-pub members_then : (front : List (List ℕ × Data)) (ms : Members)
-    → flat_map member_tokens front ++ members_tokens (members_outline ms) ≡ members_tokens (members_outline (and_then front ms))
-members_then [] ms = refl
-members_then (m ∷ rest) ms =
-    append_assoc (member_tokens m) (flat_map member_tokens rest) (members_tokens (members_outline ms))
-    ∙ ap (λ (ts : List Token). member_tokens m ++ ts) (members_then rest ms)
+-- members, and the end of their object
+members_ended : (ps : List (List ℕ × Data)) → flat_map member_tokens ps ++ (end_object ∷ []) ≡ members_tokens (members_outline (members_of ps))
+members_ended [] = refl
+members_ended (p ∷ ps) =
+    append_assoc (member_tokens p) (flat_map member_tokens ps) (end_object ∷ [])
+    ∙ ap (λ (ts : List Token). member_tokens p ++ ts) (members_ended ps)
 
 -- members behind members
 pub groups : (a b c : Written) (ps qs : List (List ℕ × Data)) → Adds a b (flat_map member_tokens ps) → Adds b c (flat_map member_tokens qs)
@@ -46,10 +41,10 @@ named a b c name value x y = adds_same a c (key name ∷ value_tokens value) (fl
 
 -- members between braces
 pub object_of : (old a b new : Written) (ps : List (List ℕ × Data)) → Adds old a (begin_object ∷ []) → Adds a b (flat_map member_tokens ps) → Adds b new (end_object ∷ [])
-    → Adds old new (value_tokens (object (and_then ps no_members)))
+    → Adds old new (value_tokens (object_data ps))
 object_of old a b new ps begin members end =
-    adds_same old new (((begin_object ∷ []) ++ flat_map member_tokens ps) ++ (end_object ∷ [])) (value_tokens (object (and_then ps no_members)))
-    (ap (λ (ts : List Token). begin_object ∷ ts) (members_then ps no_members))
+    adds_same old new (((begin_object ∷ []) ++ flat_map member_tokens ps) ++ (end_object ∷ [])) (value_tokens (object_data ps))
+    (ap (λ (ts : List Token). begin_object ∷ ts) (members_ended ps))
     (adds_then old b new ((begin_object ∷ []) ++ flat_map member_tokens ps) (end_object ∷ []) (adds_then old a b (begin_object ∷ []) (flat_map member_tokens ps) begin members) end)
 
 -- one token

@@ -53,7 +53,5 @@ kept (Some x) (Some y) None xs f k = absurd k
 kept (Some x) (Some y) (Some z) xs f k = k ∙ f
 
 -- a header, and then the rows
-pub table : (to start a b told : Option (List ℕ)) (header rows : List ℕ) → Appends to start [] → Appends start a header → Appends a b rows → Keeps b told
-    → Appends to told (header ++ rows)
-table to start a b told header rows none head body k =
-    kept to b told (header ++ rows) (in_turn to a b header rows (in_turn to start a [] header none head) body) k
+pub table : (to a b told : Option (List ℕ)) (header rows : List ℕ) → Appends to a header → Appends a b rows → Keeps b told → Appends to told (header ++ rows)
+table to a b told header rows head body k = kept to b told (header ++ rows) (in_turn to a b header rows head body) k

@@ -4,7 +4,7 @@ use Rattle.std.specs.Str.{encode_utf8_all}
 use Rattle.json.specs.Token.{Token, key}
 use Rattle.json.specs.Tree.{json_tokens}
 use Rattle.json.specs.Written.{Written}
-use Rattle.serde_json.specs.Data.{Data, null, number, unsigned, string}
+use Rattle.serde_json.specs.Data.{Data, Members, null, number, unsigned, string, object, no_members, member}
 use Rattle.serde_json.specs.Written.{compact_text, outline}
 use Rattle.register_tables.specs.declared.json_values.Shown.{Shown}
 use Rattle.register_tables.specs.declared.json_values.Shown.TheVariants as shown
@@ -20,6 +20,14 @@ count_data n = number (unsigned n)
 abbrev pub option_data : Option ℕ → Data
 option_data None = null
 option_data (Some n) = count_data n
+
+-- an object of these members
+abbrev pub members_of : List (List ℕ × Data) → Members
+members_of [] = no_members
+members_of (m ∷ ms) = member m.0 m.1 (members_of ms)
+
+abbrev pub object_data : List (List ℕ × Data) → Data
+object_data ms = object (members_of ms)
 
 -- a value as a text without blanks between its parts, and LF
 abbrev pub json_line : Data → List ℕ

@@ -1,7 +1,7 @@
 pub mod CsvRows
 pub mod Wanted
 pub mod Fields
-pub mod PlainTexts
+pub mod RowTexts
 pub mod ClaimsTable
 pub mod HistoryTable
 pub mod WorksTable

@@ -48,15 +48,20 @@ pub(crate) fn synchronization_name(form: Form) -> &'static [u8]
     }
 }
 
-/// Makes a field a text as it stands in a plain table.
-pub(crate) fn set_plain<A: Allocator + Copy + Drop>(
+/// Makes a field a text as it stands in a table of this form.
+pub(crate) fn set_text<A: Allocator + Copy + Drop>(
     field: &mut Vec<u8, A>,
+    form: Form,
     text: &[u8],
 ) -> Result<(), Memory>
-    ensures { OnOk result (field.new.items ≡ text_field Plain text.now) }
+    ensures { OnOk result (field.new.items ≡ text_field form text.now) }
 {
     field.clear();
-    put_guarded(field, unpadded(text))
+    match form {
+        Form::Exact => field.extend_from_slice(text)?,
+        Form::Plain => put_guarded(field, unpadded(text))?,
+    }
+    Ok(())
 }
 
 /// Appends a text, with an apostrophe before it where it else were taken for a formula.
@@ -94,16 +99,26 @@ fn is_formula(text: &[u8]) -> bool
     }
 }
 
-/// Makes a field a share as it stands in a plain table.
-pub(crate) fn set_percent<A: Allocator + Copy + Drop>(
+/// Makes a field a share as it stands in a table of this form.
+pub(crate) fn set_share<A: Allocator + Copy + Drop>(
     field: &mut Vec<u8, A>,
+    form: Form,
     share: u64,
 ) -> Result<(), Memory>
-    ensures { OnOk result (field.new.items ≡ share_field Plain share) }
+    ensures { OnOk result (field.new.items ≡ share_field form share) }
 {
     field.clear();
+    match form {
+        Form::Exact => put_decimal(field, share),
+        Form::Plain => put_percent(field, share),
+    }
+}
+
+/// Appends a share in per cent, with two places.
+fn put_percent<A: Allocator + Copy + Drop>(field: &mut Vec<u8, A>, share: u64) -> Result<(), Memory>
+    ensures { OnOk result (field.new.items ≡ field.old.items ++ share_field Plain share) }
+{
     put_decimal(field, share / 100)?;
     field.extend_from_slice(b".")?;
-    put_digits(field, share % 100, 2)?;
-    Ok(())
+    put_digits(field, share % 100, 2)
 }

@@ -3,16 +3,16 @@
 ghost use Rattle.std.specs.Prelude.{◌≡◌, ◌++◌, if◌then◌else◌, IfOk, OnOk};
 ghost use Rattle.std.specs.Io.KnownBytes.{Appends};
 ghost use Rattle.csv.specs.Writing.{text_written};
-ghost use Rattle.register_tables.specs.CsvRows.{csv_line, iswc_field, IsAtRow};
-ghost use Rattle.register_tables.specs.declared.form.Form.TheVariants.{Exact, Plain};
-ghost use Rattle.register_tables.specs.PlainTexts.{HasCall};
-ghost use Rattle.register_tables.specs.HistoryTable.{fault_text, more_fault_text, faults_field, history_header, entry_line, entry_row, entry_rows, history_text};
+ghost use Rattle.register_tables.specs.CsvRows.{IsAtRow};
+ghost use Rattle.register_tables.specs.declared.form.Form.TheVariants.{Exact};
+ghost use Rattle.register_tables.specs.RowTexts.{HasCall};
+ghost use Rattle.register_tables.specs.HistoryTable.{fault_text, more_fault_text, faults_field, entry_line, entry_row, entry_rows, history_text};
 ghost use Rattle.register_tables.specs.Summary.{count};
 ghost use Rattle.register_tables.specs.Wanted.{is_wanted};
 ghost use Rattle.std.specs.List.{flat_map};
 
 use crate::form::{Form, mechanical_name, performing_name, synchronization_name};
-use crate::rows::{Told, Unwritten, ended, number_field, put_row, rows_to, set_iswc};
+use crate::rows::{Told, Unwritten, ended, number_field, put_row, rows_to};
 use crate::texts::Texts;
 use crate::wanted::{Wanted, is_wanted};
 use csv::Writer;
@@ -39,32 +39,8 @@ pub fn history_table<W: Write + Drop, A: Allocator + Copy + Drop>(
     ensures text { IfOk result (λ told. Appends (W.contents to) (W.contents told.to) (history_text form wanted.now book.now.history)) }
     ensures rows { IfOk result (λ told. told.rows ≡ count (is_wanted wanted.now) book.now.history) }
 {
-    let mut out = rows_to(to);
-    put_header(&mut out, form)?;
-    let rows = put_entries(alloc, &mut out, book.history(), wanted, form)?;
-    ended(out, rows)
-}
-
-/// Writes the entries of a book that are wanted, as the register has them: [`history_table`] in the form [`Form::Exact`].
-pub fn history_text<W: Write + Drop, A: Allocator + Copy + Drop>(
-    alloc: A,
-    to: W,
-    book: &Book<A>,
-    wanted: &Wanted,
-) -> Result<W, Unwritten>
-    ensures { IfOk result (λ told. Appends (W.contents to) (W.contents told) (history_text Exact wanted.now book.now.history)) }
-{
-    let Told { to, rows: _ } = history_table(alloc, to, book, wanted, Form::Exact)?;
-    Ok(to)
-}
-
-fn put_header<W: Write + Drop>(out: &mut Writer<W>, form: Form) -> Result<(), Unwritten>
-    requires { IsAtRow out.old }
-    ensures ready { OnOk result (IsAtRow out.new) }
-    ensures text { OnOk result (Appends (text_written W.contents out.old) (text_written W.contents out.new) (csv_line (history_header form))) }
-{
-    put_row(
-        out,
+    let mut out = rows_to(
+        to,
         &[
             b"entry",
             b"submitter",
@@ -80,7 +56,22 @@ fn put_header<W: Write + Drop>(out: &mut Writer<W>, form: Form) -> Result<(), Un
             b"version",
             b"faults",
         ],
-    )
+    )?;
+    let rows = put_entries(alloc, &mut out, book.history(), wanted, form)?;
+    ended(out, rows)
+}
+
+/// Writes the entries of a book that are wanted, as the register has them: [`history_table`] in the form [`Form::Exact`].
+pub fn history_text<W: Write + Drop, A: Allocator + Copy + Drop>(
+    alloc: A,
+    to: W,
+    book: &Book<A>,
+    wanted: &Wanted,
+) -> Result<W, Unwritten>
+    ensures { IfOk result (λ told. Appends (W.contents to) (W.contents told) (history_text Exact wanted.now book.now.history)) }
+{
+    let Told { to, rows: _ } = history_table(alloc, to, book, wanted, Form::Exact)?;
+    Ok(to)
 }
 
 /// Writes the entries that are wanted, and tells how many there are.
@@ -120,116 +111,46 @@ fn put_wanted<W: Write + Drop, A: Allocator + Copy + Drop>(
     ensures rows { IfOk result (λ rows. rows ≡ (if is_wanted wanted.now entry.now then 1 else 0)) }
 {
     if is_wanted(wanted, entry) {
-        put_in_form(out, index, entry, form, texts)?;
+        set_faults(&mut texts.faults, entry.call().faults())?;
+        texts.set_call(form, entry.call())?;
+        put_entry(out, index, entry, form, texts)?;
         return Ok(1);
     }
     Ok(0)
 }
 
-/// Writes an entry.
-fn put_in_form<W: Write + Drop, A: Allocator + Copy + Drop>(
+/// Writes an entry, with the fields that are put together in this form.
+fn put_entry<W: Write + Drop, A: Allocator + Copy + Drop>(
     out: &mut Writer<W>,
     index: u64,
     entry: &Entry<A>,
     form: Form,
-    texts: &mut Texts<A>,
-) -> Result<(), Unwritten>
-    requires { IsAtRow out.old }
-    ensures ready { OnOk result (IsAtRow out.new) }
-    ensures text { OnOk result (Appends (text_written W.contents out.old) (text_written W.contents out.new) (entry_line form index entry.now)) }
-{
-    set_iswc(&mut texts.iswc, entry.call().iswc())?;
-    set_faults(&mut texts.faults, entry.call().faults())?;
-    match form {
-        Form::Exact => put_entry(out, index, entry, &texts.iswc, &texts.faults),
-        Form::Plain => {
-            texts.plain.set(entry.call())?;
-            put_plain_entry(out, index, entry, texts)
-        }
-    }
-}
-
-/// Writes an entry as the register has it, with the fields of its ISWC and of its faults.
-fn put_entry<'t, W: Write + Drop, A: Allocator>(
-    out: &mut Writer<W>,
-    index: u64,
-    entry: &Entry<A>,
-    iswc: &'t [u8],
-    faults: &'t [u8],
-) -> Result<(), Unwritten>
-    requires ready { IsAtRow out.old }
-    requires iswc { iswc.now ≡ iswc_field entry.now.call.iswc }
-    requires faults { faults.now ≡ faults_field entry.now.call.faults }
-    ensures ready { OnOk result (IsAtRow out.new) }
-    ensures text { OnOk result (Appends (text_written W.contents out.old) (text_written W.contents out.new) (entry_line Exact index entry.now)) }
-{
-    let (mut place, mut work, mut version) = (Buffer::new(), Buffer::new(), Buffer::new());
-    let (mut performing, mut mechanical, mut synchronization) = (
-        Buffer::new(),
-        Buffer::new(),
-        Buffer::new(),
-    );
-    let (call, reply) = (entry.call(), entry.reply());
-    let (submitter, number, title) = (call.submitter(), call.number(), call.title());
-    let (kind, status) = (*call.kind().code(), *reply.status().code());
-    let control = call.control();
-    put_row(
-        out,
-        &[
-            place.format(index).as_bytes(),
-            &submitter,
-            &kind,
-            &number,
-            &title,
-            iswc,
-            performing.format(control[0]).as_bytes(),
-            mechanical.format(control[1]).as_bytes(),
-            synchronization.format(control[2]).as_bytes(),
-            &status,
-            number_field(&mut work, reply.work()),
-            number_field(&mut version, reply.version()),
-            faults,
-        ],
-    )
-}
-
-/// Writes an entry, plain, with the fields that are put together.
-fn put_plain_entry<W: Write + Drop, A: Allocator + Copy + Drop>(
-    out: &mut Writer<W>,
-    index: u64,
-    entry: &Entry<A>,
     texts: &Texts<A>,
 ) -> Result<(), Unwritten>
     requires ready { IsAtRow out.old }
-    requires iswc { texts.now.iswc.items ≡ iswc_field entry.now.call.iswc }
+    requires call { HasCall form entry.now.call texts.now }
     requires faults { texts.now.faults.items ≡ faults_field entry.now.call.faults }
-    requires plain { HasCall entry.now.call texts.now.plain }
     ensures ready { OnOk result (IsAtRow out.new) }
-    ensures text { OnOk result (Appends (text_written W.contents out.old) (text_written W.contents out.new) (entry_line Plain index entry.now)) }
+    ensures text { OnOk result (Appends (text_written W.contents out.old) (text_written W.contents out.new) (entry_line form index entry.now)) }
 {
-    let plain = &texts.plain;
-    let (mut place_digits, mut work_digits, mut version_digits) = (
-        Buffer::new(),
-        Buffer::new(),
-        Buffer::new(),
-    );
+    let (mut place, mut work, mut version) = (Buffer::new(), Buffer::new(), Buffer::new());
     let reply = entry.reply();
     let (kind, status) = (*entry.call().kind().code(), *reply.status().code());
     put_row(
         out,
         &[
-            place_digits.format(index).as_bytes(),
-            &plain.submitter,
+            place.format(index).as_bytes(),
+            &texts.submitter,
             &kind,
-            &plain.number,
-            &plain.title,
+            &texts.number,
+            &texts.title,
             &texts.iswc,
-            &plain.performing,
-            &plain.mechanical,
-            &plain.synchronization,
+            &texts.performing,
+            &texts.mechanical,
+            &texts.synchronization,
             &status,
-            number_field(&mut work_digits, reply.work()),
-            number_field(&mut version_digits, reply.version()),
+            number_field(&mut work, reply.work()),
+            number_field(&mut version, reply.version()),
             &texts.faults,
         ],
     )
@@ -239,27 +160,15 @@ fn put_plain_entry<W: Write + Drop, A: Allocator + Copy + Drop>(
 fn set_faults<A: Allocator + Copy + Drop>(
     text: &mut Vec<u8, A>,
     faults: &[Fault],
-) -> Result<(), Unwritten>
+) -> Result<(), Memory>
     ensures { OnOk result (text.new.items ≡ faults_field faults.now) }
 {
     text.clear();
-    match put_faults(text, faults) {
-        Ok(()) => Ok(()),
-        Err(Memory) => Err(Unwritten::Memory),
-    }
-}
-
-fn put_faults<A: Allocator + Copy + Drop>(
-    out: &mut Vec<u8, A>,
-    faults: &[Fault],
-) -> Result<(), Memory>
-    ensures { OnOk result (out.new.items ≡ out.old.items ++ faults_field faults.now) }
-{
     let Some((first, others)) = faults.split_first() else {
         return Ok(());
     };
-    put_fault(out, first)?;
-    put_more_faults(out, others)
+    put_fault(text, first)?;
+    put_more_faults(text, others)
 }
 
 fn put_more_faults<A: Allocator + Copy + Drop>(

@@ -1,7 +1,6 @@
 //! Every entry as an object of JSON.
 
-ghost use Rattle.std.specs.Prelude.{◌≡◌, ◌++◌, if◌then◌else◌, codes, IfOk, OnOk};
-ghost use Rattle.std.specs.Fmt.{decimal};
+ghost use Rattle.std.specs.Prelude.{◌≡◌, if◌then◌else◌, codes, IfOk, OnOk};
 ghost use Rattle.std.specs.List.{flat_map};
 ghost use Rattle.std.specs.Io.KnownBytes.{Appends};
 ghost use Rattle.register_tables.specs.CsvRows.{iswc_field};
@@ -11,10 +10,10 @@ ghost use Rattle.register_tables.specs.JsonValues.{member_tokens, shown_data, va
 ghost use Rattle.register_tables.specs.Summary.{count};
 ghost use Rattle.register_tables.specs.Wanted.{is_wanted};
 
-use crate::json_values::{Shown, line_of, number_or_null, put_members};
+use crate::json_values::{Shown, line_of, number_or_null, put_members, put_object, set_rule};
 use crate::rows::{Told, Unwritten, set_iswc};
 use crate::wanted::{Wanted, is_wanted};
-use cwr_field::{Memory, put_decimal};
+use cwr_field::Memory;
 use json::Writer;
 use std::alloc::Allocator;
 use std::io::{BufWriter, Write};
@@ -161,7 +160,7 @@ fn put_fault<A: Allocator + Copy + Drop>(
 ) -> Result<(), Memory>
     ensures { OnOk result (Adds out.old out.new (value_tokens (fault_data fault))) }
 {
-    set_rule(&mut rooms.bytes, fault.number)?;
+    set_rule(&mut rooms.bytes, b'J', fault.number)?;
     put_named(
         out,
         &mut rooms.text,
@@ -181,8 +180,7 @@ fn put_named<'t, A: Allocator + Copy + Drop>(
 ) -> Result<(), Memory>
     ensures { OnOk result (Adds out.old out.new (value_tokens (named_data rtype.now rule.now sequence))) }
 {
-    out.begin_object()?;
-    put_members(
+    put_object(
         out,
         room,
         &[
@@ -190,18 +188,7 @@ fn put_named<'t, A: Allocator + Copy + Drop>(
             ("rule", Shown::Text(rule)),
             ("sequence", Shown::Number(sequence as u64)),
         ],
-    )?;
-    out.end_object()?;
-    Ok(())
-}
-
-/// Makes a text the name of a rule of transactions.
-fn set_rule<A: Allocator + Copy + Drop>(text: &mut Vec<u8, A>, number: u8) -> Result<(), Memory>
-    ensures { OnOk result (text.new.items ≡ codes "J" ++ decimal number) }
-{
-    text.clear();
-    text.push(b'J')?;
-    put_decimal(text, number as u64)
+    )
 }
 
 /// Writes what is behind the faults of an entry.
@@ -212,9 +199,7 @@ fn put_others<A: Allocator + Copy + Drop>(
 ) -> Result<(), Memory>
     ensures { OnOk result (Adds out.old out.new (flat_map member_tokens (other_members entry.now))) }
 {
-    let Ok(()) = set_iswc(&mut rooms.bytes, entry.call().iswc()) else {
-        return Err(Memory);
-    };
+    set_iswc(&mut rooms.bytes, entry.call().iswc())?;
     put_iswc(out, &mut rooms.text, entry.call().iswc(), &rooms.bytes)?;
     put_told(out, &mut rooms.text, entry)?;
     put_reply(out, &mut rooms.text, entry.reply())

@@ -1,12 +1,13 @@
 //! Values of JSON, which the kit's writer of JSON writes.
 
 ghost use Rattle.std.specs.Prelude.{◌≡◌, ◌++◌, ◌∷◌, [], map, IfOk, OnOk, string_bytes};
+ghost use Rattle.std.specs.Fmt.{decimal};
 ghost use Rattle.std.specs.List.{flat_map};
 ghost use Rattle.std.specs.Str.{encode_utf8_all};
 ghost use Rattle.json.specs.Print.{print};
-ghost use Rattle.register_tables.specs.JsonValues.{member_tokens, option_data, shown_data, value_tokens, Adds};
+ghost use Rattle.register_tables.specs.JsonValues.{member_tokens, object_data, option_data, shown_data, value_tokens, Adds};
 
-use cwr_field::Memory;
+use cwr_field::{Memory, put_decimal};
 use json::Writer;
 use std::alloc::Allocator;
 
@@ -29,6 +30,20 @@ pub(crate) fn number_or_null<'t>(number: Option<u32>) -> Shown<'t>
         Some(number) => Shown::Number(number as u64),
         None => Shown::Null,
     }
+}
+
+/// Writes an object of members, each a name and a value. `room` is room for a text.
+pub(crate) fn put_object<A: Allocator + Copy + Drop>(
+    out: &mut Writer<A>,
+    room: &mut String<A>,
+    members: &[(&str, Shown<'_>)],
+) -> Result<(), Memory>
+    ensures { OnOk result (Adds out.old out.new (value_tokens (object_data (map (λ m. (m.0.now, shown_data m.1)) members.now)))) }
+{
+    out.begin_object()?;
+    put_members(out, room, members)?;
+    out.end_object()?;
+    Ok(())
 }
 
 /// Writes members, each a name and a value. `room` is room for a text.
@@ -86,6 +101,19 @@ fn set_latin<A: Allocator + Copy + Drop>(text: &mut String<A>, bytes: &[u8]) -> 
         text.push(*byte as char)?;
     }
     Ok(())
+}
+
+/// Makes a text the name of a rule.
+pub(crate) fn set_rule<A: Allocator + Copy + Drop>(
+    text: &mut Vec<u8, A>,
+    letter: u8,
+    number: u8,
+) -> Result<(), Memory>
+    ensures { OnOk result (text.new.items ≡ letter ∷ decimal number) }
+{
+    text.clear();
+    text.push(letter)?;
+    put_decimal(text, number as u64)
 }
 
 /// What was written as a text, and LF.

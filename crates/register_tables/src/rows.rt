@@ -1,8 +1,8 @@
 //! Rows, which the kit's writer of CSV writes.
 
-ghost use Rattle.std.specs.Prelude.{◌≡◌, [], IfOk, OnOk, map, IsTrue};
+ghost use Rattle.std.specs.Prelude.{◌≡◌, IfOk, OnOk, map, IsTrue};
 ghost use Rattle.std.specs.Io.KnownBytes.{Appends, Keeps};
-ghost use Rattle.csv.specs.Writing.{text_written, writer_pending, writer_under};
+ghost use Rattle.csv.specs.Writing.{text_written, writer_pending};
 ghost use Rattle.cwr_call.specs.Lawful.{is_iswc};
 ghost use Rattle.register_tables.specs.CsvRows.{csv_line, number_field, iswc_field, IsAtRow};
 ghost use Rattle.register_tables.specs.declared.rows.Unwritten.TheVariants.{Memory as refused};
@@ -40,13 +40,14 @@ pub struct Told<W: Drop> {
     pub rows: u64,
 }
 
-/// A writer of rows.
-pub(crate) fn rows_to<W: Write + Drop>(to: W) -> Writer<W>
-    ensures ready { IsAtRow result }
-    ensures under { writer_under result ≡ to }
-    ensures empty { Appends (W.contents to) (text_written W.contents result) [] }
+/// A writer of rows, behind their header.
+pub(crate) fn rows_to<W: Write + Drop>(to: W, header: &[&[u8]]) -> Result<Writer<W>, Unwritten>
+    ensures ready { IfOk result (λ out. IsAtRow out) }
+    ensures text { IfOk result (λ out. Appends (W.contents to) (text_written W.contents out) (csv_line (map (λ f. f.now) header.now))) }
 {
-    WriterBuilder::new().from_writer(to)
+    let mut out = WriterBuilder::new().from_writer(to);
+    put_row(&mut out, header)?;
+    Ok(out)
 }
 
 /// Writes a row.
@@ -89,16 +90,13 @@ pub(crate) fn number_field(digits: &mut Buffer, number: Option<u32>) -> &[u8]
 pub(crate) fn set_iswc<A: Allocator + Copy + Drop>(
     text: &mut Vec<u8, A>,
     iswc: Option<u64>,
-) -> Result<(), Unwritten>
+) -> Result<(), Memory>
     requires { IsTrue (is_iswc iswc) }
     ensures { OnOk result (text.new.items ≡ iswc_field iswc) }
 {
     text.clear();
     if iswc.is_some() {
-        match put_line(text, &[Piece::Code(iswc)]) {
-            Ok(()) => {}
-            Err(Memory) => return Err(Unwritten::Memory),
-        }
+        put_line(text, &[Piece::Code(iswc)])?;
     }
     Ok(())
 }

@@ -32,9 +32,7 @@ pub fn summary_text<W: Write + Drop, A: Allocator + Copy + Drop>(
 ) -> Result<W, Unwritten>
     ensures { IfOk result (λ told. Appends (W.contents to) (W.contents told) (summary_text book.now.history)) }
 {
-    let Ok(page) = page_of(alloc, book) else {
-        return Err(Unwritten::Memory);
-    };
+    let page = page_of(alloc, book)?;
     match to.write_all(&page) {
         Ok(()) => Ok(to),
         Err(_) => Err(Unwritten::Write),

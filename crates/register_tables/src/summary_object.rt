@@ -10,7 +10,7 @@ ghost use Rattle.register_tables.specs.SummaryJson.{bands_data, conflict_data, c
 ghost use Rattle.register_tables.specs.WorksTable.{last_work};
 
 use crate::conflicts::{Conflicted, largest};
-use crate::json_values::{Shown, line_of, put_members};
+use crate::json_values::{Shown, line_of, put_members, put_object};
 use crate::rows::Unwritten;
 use crate::shares::{Bands, bands_of};
 use crate::tally::{Tally, submitter_count, tally_of};
@@ -35,9 +35,7 @@ pub fn summary_json<W: Write + Drop, A: Allocator + Copy + Drop>(
 ) -> Result<W, Unwritten>
     ensures { IfOk result (λ told. Appends (W.contents to) (W.contents told) (summary_json book.now.history)) }
 {
-    let Ok(text) = text_of(alloc, book) else {
-        return Err(Unwritten::Memory);
-    };
+    let text = text_of(alloc, book)?;
     match to.write_all(&text) {
         Ok(()) => Ok(to),
         Err(_) => Err(Unwritten::Write),
@@ -147,17 +145,14 @@ fn put_conflict<A: Allocator + Copy + Drop>(
 ) -> Result<(), Memory>
     ensures { OnOk result (Adds out.old out.new (value_tokens (conflict_data one))) }
 {
-    out.begin_object()?;
-    put_members(
+    put_object(
         out,
         room,
         &[
             ("conflicts", Shown::Number(one.conflicts)),
             ("work", Shown::Number(one.work as u64)),
         ],
-    )?;
-    out.end_object()?;
-    Ok(())
+    )
 }
 
 /// Writes the works by what is left of each right.
@@ -189,8 +184,7 @@ fn put_bands<A: Allocator + Copy + Drop>(
 ) -> Result<(), Memory>
     ensures { OnOk result (Adds out.old out.new (value_tokens (bands_data bands))) }
 {
-    out.begin_object()?;
-    put_members(
+    put_object(
         out,
         room,
         &[
@@ -200,7 +194,5 @@ fn put_bands<A: Allocator + Copy + Drop>(
             ("up_to_half", Shown::Number(bands.half)),
             ("up_to_quarter", Shown::Number(bands.quarter)),
         ],
-    )?;
-    out.end_object()?;
-    Ok(())
+    )
 }

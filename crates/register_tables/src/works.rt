@@ -7,9 +7,9 @@ ghost use Rattle.cwr_call.specs.Lawful.{is_iswc};
 ghost use Rattle.work_registry.specs.Rows.{rows_of};
 ghost use Rattle.work_registry.specs.Works.{control_of};
 ghost use Rattle.register_tables.specs.CsvRows.{csv_line, iswc_field, IsAtRow};
-ghost use Rattle.register_tables.specs.declared.form.Form.TheVariants.{Exact, Plain};
-ghost use Rattle.register_tables.specs.PlainTexts.{HasControl};
-ghost use Rattle.register_tables.specs.WorksTable.{is_wanted_work, last_work, wanted_line, work_fields, work_lines, works_header, works_text};
+ghost use Rattle.register_tables.specs.declared.form.Form.TheVariants.{Exact};
+ghost use Rattle.register_tables.specs.RowTexts.{HasControl};
+ghost use Rattle.register_tables.specs.WorksTable.{is_wanted_work, last_work, wanted_line, work_fields, work_lines, works_text};
 ghost use Rattle.register_tables.specs.Summary.{count, works as numbers};
 ghost use Rattle.register_tables.specs.Gathered.{AreGathered, AreKept, blank_work, grown, noted};
 
@@ -50,8 +50,17 @@ pub fn works_table<W: Write + Drop, A: Allocator + Copy + Drop>(
     let Ok(works) = kept_works(alloc, book) else {
         return Err(Unwritten::Memory);
     };
-    let mut out = rows_to(to);
-    put_header(&mut out, form)?;
+    let mut out = rows_to(
+        to,
+        &[
+            b"work",
+            b"iswc",
+            performing_name(form),
+            mechanical_name(form),
+            synchronization_name(form),
+            b"claims",
+        ],
+    )?;
     let rows = put_works(alloc, &mut out, book, &works, wanted, form)?;
     ended(out, rows)
 }
@@ -149,24 +158,6 @@ fn grown(kept: KeptWork, iswc: Option<u64>, version: u32) -> KeptWork
     }
 }
 
-fn put_header<W: Write + Drop>(out: &mut Writer<W>, form: Form) -> Result<(), Unwritten>
-    requires { IsAtRow out.old }
-    ensures ready { OnOk result (IsAtRow out.new) }
-    ensures text { OnOk result (Appends (text_written W.contents out.old) (text_written W.contents out.new) (csv_line (works_header form))) }
-{
-    put_row(
-        out,
-        &[
-            b"work",
-            b"iswc",
-            performing_name(form),
-            mechanical_name(form),
-            synchronization_name(form),
-            b"claims",
-        ],
-    )
-}
-
 /// Writes the works that are wanted, and tells how many there are.
 fn put_works<W: Write + Drop, A: Allocator + Copy + Drop>(
     alloc: A,
@@ -210,92 +201,39 @@ fn put_wanted<W: Write + Drop, A: Allocator + Copy + Drop>(
     ensures rows { IfOk result (λ rows. rows ≡ (if is_wanted_work wanted.now work then 1 else 0)) }
 {
     if fits_number(wanted.work, Some(work)) {
-        put_in_form(out, work, kept, book.control_of(work), form, texts)?;
+        let control = book.control_of(work);
+        set_iswc(&mut texts.iswc, kept.iswc)?;
+        texts.set_control(form, control)?;
+        put_work(out, work, kept, control, form, texts)?;
         return Ok(1);
     }
     Ok(0)
 }
 
-/// Writes a work.
-fn put_in_form<W: Write + Drop, A: Allocator + Copy + Drop>(
+/// Writes a work, with the fields that are put together in this form.
+fn put_work<W: Write + Drop, A: Allocator + Copy + Drop>(
     out: &mut Writer<W>,
     work: u32,
     kept: KeptWork,
     control: [u64; 3],
     form: Form,
-    texts: &mut Texts<A>,
-) -> Result<(), Unwritten>
-    requires ready { IsAtRow out.old }
-    requires iswc { IsTrue (is_iswc kept.iswc) }
-    ensures ready { OnOk result (IsAtRow out.new) }
-    ensures text { OnOk result (Appends (text_written W.contents out.old) (text_written W.contents out.new) (csv_line (work_fields form work kept control))) }
-{
-    set_iswc(&mut texts.iswc, kept.iswc)?;
-    match form {
-        Form::Exact => put_work(out, work, kept, control, &texts.iswc),
-        Form::Plain => {
-            texts.plain.set_control(control)?;
-            put_plain_work(out, work, kept, control, texts)
-        }
-    }
-}
-
-/// Writes a work, its control in hundredths of one per cent, with its ISWC's field.
-fn put_work<W: Write + Drop>(
-    out: &mut Writer<W>,
-    work: u32,
-    kept: KeptWork,
-    control: [u64; 3],
-    iswc: &[u8],
-) -> Result<(), Unwritten>
-    requires ready { IsAtRow out.old }
-    requires iswc { iswc.now ≡ iswc_field kept.iswc }
-    ensures ready { OnOk result (IsAtRow out.new) }
-    ensures text { OnOk result (Appends (text_written W.contents out.old) (text_written W.contents out.new) (csv_line (work_fields Exact work kept control))) }
-{
-    let (mut number, mut claims) = (Buffer::new(), Buffer::new());
-    let (mut performing, mut mechanical, mut synchronization) = (
-        Buffer::new(),
-        Buffer::new(),
-        Buffer::new(),
-    );
-    put_row(
-        out,
-        &[
-            number.format(work as u64).as_bytes(),
-            iswc,
-            performing.format(control[0]).as_bytes(),
-            mechanical.format(control[1]).as_bytes(),
-            synchronization.format(control[2]).as_bytes(),
-            claims.format(kept.claims).as_bytes(),
-        ],
-    )
-}
-
-/// Writes a work, its control in per cent, with the fields that are put together.
-fn put_plain_work<W: Write + Drop, A: Allocator + Copy + Drop>(
-    out: &mut Writer<W>,
-    work: u32,
-    kept: KeptWork,
-    control: [u64; 3],
     texts: &Texts<A>,
 ) -> Result<(), Unwritten>
     requires ready { IsAtRow out.old }
     requires iswc { texts.now.iswc.items ≡ iswc_field kept.iswc }
-    requires plain { HasControl control texts.now.plain }
+    requires control { HasControl form control texts.now }
     ensures ready { OnOk result (IsAtRow out.new) }
-    ensures text { OnOk result (Appends (text_written W.contents out.old) (text_written W.contents out.new) (csv_line (work_fields Plain work kept control))) }
+    ensures text { OnOk result (Appends (text_written W.contents out.old) (text_written W.contents out.new) (csv_line (work_fields form work kept control))) }
 {
-    let plain = &texts.plain;
     let (mut number, mut claims) = (Buffer::new(), Buffer::new());
     put_row(
         out,
         &[
             number.format(work as u64).as_bytes(),
             &texts.iswc,
-            &plain.performing,
-            &plain.mechanical,
-            &plain.synchronization,
+            &texts.performing,
+            &texts.mechanical,
+            &texts.synchronization,
             claims.format(kept.claims).as_bytes(),
         ],
     )

@@ -3,7 +3,7 @@ use Rattle.std.specs.Prelude.{ℕ, List, ◌++◌, codes}
 use Rattle.cwr_record.specs.Kinds.{status_text}
 use Rattle.cwr_record.specs.declared.status.Status.{Status}
 use Rattle.cwr_record.specs.declared.status.Status.TheVariants.{Accepted, Duplicate, Conflict, Rejected}
-use Rattle.rule_pages.specs.Pages.{line_text}
+use Rattle.rule_pages.specs.Pages.{heading_text, line_text}
 
 -- what an answer is called
 abbrev pub answer_title : Status → List ℕ
@@ -33,14 +33,10 @@ done_then Duplicate = codes "nothing, where it was sent twice; to change the cla
 done_then Conflict = codes "ask the society which claims meet, by the work number of the ACK record (purvilgo history --work N REGISTER tells it); settle it with the other submitter, and send it again"
 done_then Rejected = codes "see what the numbers of the MSG records ask (purvilgo explain 011) and what stands in the file (purvilgo check --long FILE); mend it, and send it again"
 
--- the first line of an answer's page
-abbrev pub answer_heading : Status → List ℕ
-answer_heading s = status_text s ++ codes " " ++ answer_title s ++ codes "\n"
-
 -- an answer's page: four lines, each with LF at its end
 abbrev pub answer_text : Status → List ℕ
 answer_text s =
-    answer_heading s
+    heading_text (status_text s) (answer_title s)
     ++ line_text (codes "means") (meaning_of s)
     ++ line_text (codes "given for") (given_for s)
     ++ line_text (codes "then") (done_then s)

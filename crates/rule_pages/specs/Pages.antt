@@ -221,14 +221,14 @@ mended_of rule.G4 = codes "read it with a higher limit; in purvilgo it is 99,999
 abbrev pub line_text : List ℕ → List ℕ → List ℕ
 line_text label text = codes "  " ++ label ++ codes ": " ++ text ++ codes "\n"
 
--- the first line of a page
-abbrev pub heading_text : Rule → List ℕ
-heading_text r = name_of r ++ codes " " ++ title_of r ++ codes "\n"
+-- the first line of a page: a name, and what it is called
+abbrev pub heading_text : List ℕ → List ℕ → List ℕ
+heading_text name title = name ++ codes " " ++ title ++ codes "\n"
 
 -- a rule's page: four lines, each with LF at its end
 abbrev pub page_text : Rule → List ℕ
 page_text r =
-    heading_text r
+    heading_text (name_of r) (title_of r)
     ++ line_text (codes "asks") (asks_of r)
     ++ line_text (codes "broken by") (broken_of r)
     ++ line_text (codes "mended by") (mended_of r)

@@ -26,20 +26,24 @@ pub fn pages_text<A: Allocator>(alloc: A, rules: &[Rule]) -> Result<Vec<u8, A>, 
 pub(crate) fn put_page<A: Allocator>(out: &mut Vec<u8, A>, rule: Rule) -> Result<(), Memory>
     ensures { OnOk result (out.new.items ≡ out.old.items ++ page_text rule) }
 {
-    put_heading(out, rule)?;
+    put_heading(out, name_of(rule), title(rule))?;
     put_line(out, b"asks", asks(rule))?;
     put_line(out, b"broken by", broken(rule))?;
     put_line(out, b"mended by", mended(rule))?;
     Ok(())
 }
 
-/// Appends the name of a rule, and what a fault of it is called.
-fn put_heading<A: Allocator>(out: &mut Vec<u8, A>, rule: Rule) -> Result<(), Memory>
-    ensures { OnOk result (out.new.items ≡ out.old.items ++ heading_text rule) }
+/// Appends the first line of a page: a name, and what it is called.
+pub(crate) fn put_heading<A: Allocator>(
+    out: &mut Vec<u8, A>,
+    name: &[u8],
+    title: &[u8],
+) -> Result<(), Memory>
+    ensures { OnOk result (out.new.items ≡ out.old.items ++ heading_text name.now title.now) }
 {
-    out.extend_from_slice(name_of(rule))?;
+    out.extend_from_slice(name)?;
     out.extend_from_slice(b" ")?;
-    out.extend_from_slice(title(rule))?;
+    out.extend_from_slice(title)?;
     out.extend_from_slice(b"\n")?;
     Ok(())
 }

@@ -1,12 +1,12 @@
 //! The texts of pages, of rules and of answers.
 
 ghost use Rattle.std.specs.Prelude.{◌≡◌, ◌++◌, IfOk, OnOk};
-ghost use Rattle.rule_pages.specs.Answers.{answer_heading, answer_text};
+ghost use Rattle.rule_pages.specs.Answers.{answer_text};
 ghost use Rattle.rule_pages.specs.Texts.{page_text, texts_of_pages};
 
 use crate::answers::{answer_title, done_then, given_for, meaning_of};
 use crate::page::Page;
-use crate::pages::{put_line, put_page};
+use crate::pages::{put_heading, put_line, put_page};
 use cwr_field::Memory;
 use cwr_record::Status;
 use std::alloc::Allocator;
@@ -40,20 +40,9 @@ fn put_text<A: Allocator>(out: &mut Vec<u8, A>, page: Page) -> Result<(), Memory
 fn put_answer<A: Allocator>(out: &mut Vec<u8, A>, status: Status) -> Result<(), Memory>
     ensures { OnOk result (out.new.items ≡ out.old.items ++ answer_text status) }
 {
-    put_answer_heading(out, status)?;
+    put_heading(out, status.code(), answer_title(status))?;
     put_line(out, b"means", meaning_of(status))?;
     put_line(out, b"given for", given_for(status))?;
     put_line(out, b"then", done_then(status))?;
-    Ok(())
-}
-
-/// Appends the code of an answer, and what it is called.
-fn put_answer_heading<A: Allocator>(out: &mut Vec<u8, A>, status: Status) -> Result<(), Memory>
-    ensures { OnOk result (out.new.items ≡ out.old.items ++ answer_heading status) }
-{
-    out.extend_from_slice(status.code())?;
-    out.extend_from_slice(b" ")?;
-    out.extend_from_slice(answer_title(status))?;
-    out.extend_from_slice(b"\n")?;
     Ok(())
 }

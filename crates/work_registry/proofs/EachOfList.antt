@@ -1,7 +1,7 @@
 -- What holds of each of a list, and the whole of it at the end of a loop.
 use Rattle.std.proofs.Common.{◌≡◌, ◌∙◌, ℕ, zero, suc, ◌+◌, ◌-◌, ◌<◌, ◌≤◌, List, [], ◌∷◌, ◌++◌, length, take, drop, get_or, arith, ap, sym, subst, length-append}
-use Rattle.std.specs.List.{flat_map, AllByRecursion}
-use Rattle.std.proofs.lemmas.List.{drop_at, take_all, take_more, flat_map_more}
+use Rattle.std.specs.List.{AllByRecursion}
+use Rattle.std.proofs.lemmas.List.{drop_at, take_all, take_more}
 use Rattle.work_registry.proofs.RegisterSteps.{all_push}
 
 pub at_index : {X : Type 0} (P : X → Type 0) (xs : List X) (i : ℕ) (d : X) → i < length xs → AllByRecursion P xs → P (get_or xs i d)
@@ -21,12 +21,6 @@ pub all_of_take : {X : Type 0} (P : X → Type 0) (xs : List X) (i : ℕ) → le
 all_of_take {X} P xs i le all =
     let Q : List X → Type 0 = λ ys. AllByRecursion P ys in
     subst Q (take_all i xs le) all
-
--- one more piece of a text
-pub text_more : {X : Type 0} (f : X → List ℕ) (xs : List X) (i : ℕ) (d : X) (out so_far new : List ℕ) → i < length xs
-    → so_far ≡ out ++ flat_map f (take i xs) → new ≡ so_far ++ f (get_or xs i d) → new ≡ out ++ flat_map f (take (i + 1) xs)
-text_more {X} f xs i d out so_far new lt before wrote =
-    wrote ∙ ap (λ (text : List ℕ). text ++ f (get_or xs i d)) before ∙ flat_map_more f out (take i xs) (get_or xs i d) ∙ ap (λ (ys : List X). out ++ flat_map f ys) (sym (take_more xs i d lt))
 
 -- what stands behind the front of a text
 pub behind : (text front rest : List ℕ) → text ≡ front ++ rest → drop (length text - length rest) text ≡ rest

@@ -1,7 +1,8 @@
 -- A register that is made piece after piece: how long it is, and what each part leaves of it.
 use Rattle.std.proofs.Common.{◌≡◌, ◌∙◌, ℕ, suc, ◌+◌, ◌*◌, ◌<◌, ◌≤◌, ◌^◌, List, [], ◌∷◌, ◌++◌, length, arith, ap, sym, subst, refl, append_assoc}
-use Rattle.std.specs.List.{AllByRecursion}
+use Rattle.std.specs.List.{AllByRecursion, sum_by}
 use Rattle.std.proofs.lemmas.List.{length-append}
+use Rattle.std.proofs.lemmas.List.Sums.{sum_by-cons}
 use Rattle.cwr_call.specs.declared.transaction_fault.Fault.{Fault}
 use Rattle.cwr_call.specs.Lawful.{most_faults}
 use Rattle.cwr_record.specs.Lines.{Fits, line_of}
@@ -23,19 +24,25 @@ use Rattle.work_registry.proofs.RegisterFaultTexts.{faults_text, length-faults}
 abbrev most_line : ℕ
 most_line = column.head_width + 1 + column.fault_width * most_faults
 
-line_sum : (front faults : List ℕ) (n : ℕ) → length front ≡ column.head_width → length faults ≡ column.fault_width * n → n ≤ most_faults
-    → length (front ++ faults ++ 10 ∷ []) ≤ most_line
-line_sum front faults n first more few = omega (arith, first, more, few, length-append (front ++ faults) (10 ∷ []), length-append front faults)
+line_sum : (front faults : List ℕ) (n : ℕ) → length front ≡ column.head_width → length faults ≡ column.fault_width * n
+    → length (front ++ faults ++ 10 ∷ []) ≡ column.head_width + 1 + column.fault_width * n
+line_sum front faults n first more = omega (arith, first, more, length-append (front ++ faults) (10 ∷ []), length-append front faults)
 
-line_long : (x : EntryLine) → IsEntryLine (line_text x) x → length (line_text x) ≤ most_line
-line_long x says =
-    let lawful = lawful_parts x.call says.call.lawful in
+line_length : (x : EntryLine) → IsEntryLine (line_text x) x → length (line_text x) ≡ column.head_width + 1 + column.fault_width * length x.call.faults
+line_length x says =
     line_sum (line_of head (head_of x)) (faults_text x.call.faults) (length x.call.faults)
-    (length-line_of head (head_of x) refl (line_whole (line_text x) x says)) (length-faults x.call.faults says.call.types) (faults_few x.call.faults lawful.faults)
+    (length-line_of head (head_of x) refl (line_whole (line_text x) x says)) (length-faults x.call.faults says.call.types)
+
+entry_length : (index : ℕ) (e : EntryValue) → index < 10 ^ 8 → IsWholeEntry e
+    → length (entry_line index e.call e.reply) ≡ column.head_width + 1 + column.fault_width * length e.call.faults
+entry_length index e lt h =
+    line_length (line_for index e.call e.reply) (record { text = refl; index = lt; work = h.fits.work; version = h.fits.version; call = h.call })
 
 entry_long : (index : ℕ) (e : EntryValue) → index < 10 ^ 8 → IsWholeEntry e → length (entry_line index e.call e.reply) ≤ most_line
 entry_long index e lt h =
-    line_long (line_for index e.call e.reply) (record { text = refl; index = lt; work = h.fits.work; version = h.fits.version; call = h.call })
+    let len = entry_length index e lt h in
+    let few = faults_few e.call.faults (lawful_parts e.call h.call.lawful).faults in
+    omega (arith, len, few)
 
 entries_sum : (first more : List ℕ) (n : ℕ) → length first ≤ most_line → length more ≤ most_line * n → length (first ++ more) ≤ most_line * suc n
 entries_sum first more n one others = omega (arith, one, others, length-append first more)
@@ -45,6 +52,33 @@ entries_long index [] few whole = omega arith
 entries_long index (e ∷ es) few whole =
     entries_sum (entry_line index e.call e.reply) (entry_lines (index + 1) es) (length es) (entry_long index e (omega (arith, few)) whole.0)
     (entries_long (index + 1) es (omega (arith, few)) whole.1)
+
+-- the faults of these entries
+abbrev pub faults_of : List EntryValue → ℕ
+faults_of es = sum_by (λ e. length e.call.faults) es
+
+entries_total : (first more : List ℕ) (n faults others sum : ℕ) → sum ≡ faults + others → length first ≡ column.head_width + 1 + column.fault_width * faults
+    → length more ≡ (column.head_width + 1) * n + column.fault_width * others
+    → length (first ++ more) ≡ (column.head_width + 1) * suc n + column.fault_width * sum
+entries_total first more n faults others sum is one rest = omega (arith, is, one, rest, length-append first more)
+
+entries_length : (index : ℕ) (es : List EntryValue) → index + length es ≤ 10 ^ 8 → AllByRecursion IsWholeEntry es
+    → length (entry_lines index es) ≡ (column.head_width + 1) * length es + column.fault_width * faults_of es
+entries_length index [] few whole = refl
+entries_length index (e ∷ es) few whole =
+    entries_total (entry_line index e.call e.reply) (entry_lines (index + 1) es) (length es) (length e.call.faults) (faults_of es) _
+    (sum_by-cons (λ (x : EntryValue). length x.call.faults) e es) (entry_length index e (omega (arith, few)) whole.0) (entries_length (index + 1) es (omega (arith, few)) whole.1)
+
+text_total : (count first more : List ℕ) (n : ℕ) → first ≡ count ++ 10 ∷ [] → length count ≡ column.count_width → length more ≡ n
+    → length (first ++ more) ≡ column.count_width + 1 + n
+text_total count first more n is one others =
+    let len = ap length is in omega (arith, len, one, others, length-append first more, length-append count (10 ∷ []))
+
+pub text_length : (es : List EntryValue) → length es < 10 ^ 8 → AllByRecursion IsWholeEntry es
+    → length (register_text es) ≡ column.count_width + 1 + ((column.head_width + 1) * length es + column.fault_width * faults_of es)
+text_length es few whole =
+    text_total (line_of entry_count (length es)) (count_line (length es)) (entry_lines 1 es) _ refl
+    (length-line_of entry_count (length es) refl ((refl, refl), (few, tt))) (entries_length 1 es (omega (arith, few)) whole)
 
 text_sum : (count first more : List ℕ) (n : ℕ) → first ≡ count ++ 10 ∷ [] → length count ≡ column.count_width → length more ≤ most_line * n → n < 10 ^ 8 → length (first ++ more) < 2 ^ 63
 text_sum count first more n is one others few =

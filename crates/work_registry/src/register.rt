@@ -33,10 +33,10 @@ use crate::book::Book;
 pub use auditor::Auditor;
 use cwr_field::{MOST_COUNT, Memory};
 pub use pieces::RegisterPieces;
+use pieces::register_of;
 pub use refusal::RegisterRefusal;
 pub use register_reader::RegisterReader;
 use std::alloc::Allocator;
-use writing::register_of;
 
 impl<A: Allocator + Copy + Drop> Book<A> {
     /// The register of this book: the text of its history.

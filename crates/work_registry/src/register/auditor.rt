@@ -63,6 +63,6 @@ impl<A: Allocator + Copy + Drop> Auditor<A> {
         ensures fault { IfErr result (λ refusal. (text : List ℕ) → IsRest self text rest.now → IsRefusal most_entries text refusal) }
     {
         let lines = self.lines.finish(rest)?;
-        Ok(lines.len() as u64)
+        Ok(lines.ledger.len() as u64)
     }
 }

@@ -72,7 +72,7 @@ fn entry_from<A: Allocator>(head: &HeadInLine, faults: Faults<A>) -> Option<Read
     ensures value { IfSome result (λ x. x ≡ line_from head.now faults) }
 {
     Some(ReadEntry {
-        told: head.told(),
+        told: head.told,
         call: call_from(head, faults)?,
     })
 }

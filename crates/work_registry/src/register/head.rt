@@ -40,13 +40,11 @@ pub(crate) struct Head {
 #[derive(Drop)]
 pub(super) struct HeadInLine<'a> {
     line: &'a [u8],
-    pub(super) index: u32,
     pub(super) kind: WorkKind,
     pub(super) iswc: Option<u64>,
     pub(super) control: [u64; 3],
-    pub(super) status: Status,
-    pub(super) work: u32,
-    pub(super) version: u32,
+    /// What it tells beside the call.
+    pub(super) told: Told,
     pub(super) faults: u32,
 }
 
@@ -57,23 +55,10 @@ impl<'a> Model for HeadInLine<'a> {
 
     ghost Value = { Head };
 
-    ghost view = { λ h. record { index = h.index; submitter = field_at h.line.now column.submitter; kind = h.kind; title = field_at h.line.now column.title; number = field_at h.line.now column.number; iswc = h.iswc; control = h.control; status = h.status; work = h.work; version = h.version; faults = h.faults } };
+    ghost view = { λ h. record { index = h.told.index; submitter = field_at h.line.now column.submitter; kind = h.kind; title = field_at h.line.now column.title; number = field_at h.line.now column.number; iswc = h.iswc; control = h.control; status = h.told.status; work = h.told.work; version = h.told.version; faults = h.faults } };
 }
 
 impl HeadInLine<'_> {
-    /// What it tells beside the call.
-    #[inline(always)]
-    pub(super) fn told(&self) -> Told
-        ensures { result ≡ record { index = self.now.index; status = self.now.status; work = self.now.work; version = self.now.version } }
-    {
-        Told {
-            index: self.index,
-            status: self.status,
-            work: self.work,
-            version: self.version,
-        }
-    }
-
     #[inline(always)]
     pub(super) fn submitter(&self) -> [u8; 11]
         ensures { result ≡ self.now.submitter }
@@ -109,7 +94,6 @@ pub(super) fn read_head(line: &[u8]) -> Option<HeadInLine<'_>>
     }
     Some(HeadInLine {
         line,
-        index: digits_at(line, columns::INDEX)? as u32,
         kind: WorkKind::named(&field_at(line, columns::KIND).bytes())?,
         iswc: code_at(line, columns::ISWC)?,
         control: [
@@ -117,9 +101,12 @@ pub(super) fn read_head(line: &[u8]) -> Option<HeadInLine<'_>>
             digits_at(line, columns::MECHANICAL_CONTROL)?,
             digits_at(line, columns::SYNCHRONIZATION_CONTROL)?,
         ],
-        status: Status::named(&field_at(line, columns::STATUS).bytes())?,
-        work: digits_at(line, columns::WORK)? as u32,
-        version: digits_at(line, columns::VERSION)? as u32,
+        told: Told {
+            index: digits_at(line, columns::INDEX)? as u32,
+            status: Status::named(&field_at(line, columns::STATUS).bytes())?,
+            work: digits_at(line, columns::WORK)? as u32,
+            version: digits_at(line, columns::VERSION)? as u32,
+        },
         faults: digits_at(line, columns::FAULTS)? as u32,
     })
 }

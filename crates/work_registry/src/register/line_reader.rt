@@ -25,7 +25,7 @@ use std::marker::Model;
 #[derive(Drop)]
 pub(super) struct LineReader<A: Allocator + Copy + Drop> {
     alloc: A,
-    ledger: Ledger<A>,
+    pub(super) ledger: Ledger<A>,
     /// How many entries the first line tells, once it was read.
     count: Option<u32>,
     /// How many entries there may be.
@@ -86,48 +86,24 @@ impl<A: Allocator + Copy + Drop> LineReader<A> {
         ensures text { IfOk result (λ lines. (text : List ℕ) → IsRest self.read text rest.now → text ≡ register_text lines.read.history) }
         ensures whole { IfOk result (λ lines. (text : List ℕ) → IsRest self.read text rest.now → AllByRecursion IsWholeEntry lines.read.history) }
         ensures lawful { IfOk result (λ lines. IsHistory lines.read.history) }
+        ensures opening { IfOk result (λ lines. is_opening lines.read.history ≡ true) }
         ensures limit { IfOk result (λ lines. lines.read.limit ≡ self.read.limit) }
         ensures keeps { IfOk result (λ lines. lines.keeps ≡ self.keeps) }
         ensures fault { IfErr result (λ refusal. (text : List ℕ) → IsRest self.read text rest.now → IsRefusal self.read.limit text refusal) }
     {
         let taken = self.take_lines(rest)?;
-        self.end(&rest[taken..])?;
-        Ok(self)
-    }
-
-    /// How many entries there are so far.
-    pub(super) fn len(&self) -> u32
-        ensures value { result ≡ length self.now.read.history }
-        ensures opening { is_opening self.now.read.history ≡ true }
-        ensures few { result ≤ most_entries }
-    {
-        self.ledger.len()
-    }
-
-    /// How many entries the first line told, where a line, which has no LF at its end here, can be that of one more; `None`
-    /// for the first line. With a refusal nothing is changed.
-    #[inline(always)]
-    fn count_before(&mut self, line: &[u8]) -> Result<Option<u32>, RegisterRefusal>
-        requires { has_end line.now ≡ false }
-        ensures first { IfOk result (λ o. o ≡ None → (text more : List ℕ) → IsRest self.old.read text (line.now ++ 10 ∷ more) → IsRest self.new.read text more) }
-        ensures same { IfOk result (λ o. IfSome o (λ count. self.new ≡ self.old)) }
-        ensures counted { IfOk result (λ o. IfSome o (λ count. self.old.read.count ≡ Some count)) }
-        ensures more { IfOk result (λ o. IfSome o (λ count. length self.old.read.history < count)) }
-        ensures few { IfOk result (λ o. IfSome o (λ count. count ≤ most_entries)) }
-        ensures history { self.new.read.history ≡ self.old.read.history }
-        ensures limit { self.new.read.limit ≡ self.old.read.limit }
-        ensures keeps { self.new.keeps ≡ self.old.keeps }
-        ensures unchanged { OnErr result (self.new ≡ self.old) }
-        ensures fault { IfErr result (λ refusal. (text more : List ℕ) → IsRest self.old.read text (line.now ++ 10 ∷ more) → IsRefusal self.old.read.limit text refusal) }
-    {
+        let left = &rest[taken..];
         let Some(count) = self.count else {
-            self.count = Some(first_count(line, self.limit)?);
-            return Ok(None);
+            return Err(no_line(left, 1));
         };
-        if self.ledger.len() == count {
-            return Err(fault(2, next_number(&self.ledger)));
+        let number = next_number(&self.ledger);
+        if self.ledger.len() != count {
+            return Err(no_line(left, number));
         }
-        Ok(Some(count))
+        if !left.is_empty() {
+            return Err(fault(2, number));
+        }
+        Ok(self)
     }
 
     /// Reads a line, which has no LF at its end here. With a refusal nothing is changed.
@@ -139,9 +115,13 @@ impl<A: Allocator + Copy + Drop> LineReader<A> {
         ensures unchanged { OnErr result (self.new ≡ self.old) }
         ensures fault { IfErr result (λ refusal. (text more : List ℕ) → IsRest self.old.read text (line.now ++ 10 ∷ more) → IsRefusal self.old.read.limit text refusal) }
     {
-        let Some(_count) = self.count_before(line)? else {
+        let Some(count) = self.count else {
+            self.count = Some(first_count(line, self.limit)?);
             return Ok(());
         };
+        if self.ledger.len() == count {
+            return Err(fault(2, next_number(&self.ledger)));
+        }
         read_line(
             self.alloc,
             &mut self.ledger,
@@ -149,27 +129,6 @@ impl<A: Allocator + Copy + Drop> LineReader<A> {
             self.keeps,
             &mut self.history,
         )?;
-        Ok(())
-    }
-
-    /// Sees the end, before which these bytes stand that no LF ends.
-    fn end(&self, left: &[u8]) -> Result<(), RegisterRefusal>
-        requires { has_end left.now ≡ false }
-        ensures text { OnOk result ((text : List ℕ) → IsRest self.now.read text left.now → text ≡ register_text self.now.read.history) }
-        ensures whole { OnOk result ((text : List ℕ) → IsRest self.now.read text left.now → AllByRecursion IsWholeEntry self.now.read.history) }
-        ensures lawful { OnOk result (IsHistory self.now.read.history) }
-        ensures fault { IfErr result (λ refusal. (text : List ℕ) → IsRest self.now.read text left.now → IsRefusal self.now.read.limit text refusal) }
-    {
-        let Some(count) = self.count else {
-            return Err(no_line(left, 1));
-        };
-        let number = next_number(&self.ledger);
-        if self.ledger.len() != count {
-            return Err(no_line(left, number));
-        }
-        if !left.is_empty() {
-            return Err(fault(2, number));
-        }
         Ok(())
     }
 

@@ -10,7 +10,7 @@ ghost use Rattle.work_registry.specs.Register.{entry_line, entry_lines, count_li
 ghost use Rattle.work_registry.specs.RegisterInPieces.{text_from, FitsNext};
 
 use super::columns::HEAD_WIDTH;
-use super::writing::{fault_line, first_line, head_for, head_line};
+use super::writing::{fault_line, first_line, head_for, head_line, room_for};
 use crate::book::Book;
 use crate::entry::Entry;
 use cwr_call::Fault;
@@ -121,6 +121,7 @@ impl<A: Allocator> Rest<'_, A> {
         requires room { head_width ≤ vec_capacity held.old }
         ensures text { self.old ≡ held.new.items ++ self.new }
         ensures none { held.new.items ≡ [] → self.old ≡ [] }
+        ensures all { vec_len held.new + head_width ≤ vec_capacity held.new → self.new ≡ [] }
         ensures room { vec_capacity held.old ≤ vec_capacity held.new }
     {
         while held.capacity() - held.len() >= HEAD_WIDTH {
@@ -212,6 +213,27 @@ fn append<A: Allocator>(held: &mut Vec<u8, A>, bytes: &[u8])
     let Ok(()) = held.extend_from_slice(bytes) else {
         unreachable!()
     };
+}
+
+/// The register of these entries. All memory is asked for at once.
+pub(super) fn register_of<A: Allocator>(
+    alloc: A,
+    entries: &[Entry<A>],
+) -> Result<Vec<u8, A>, Memory>
+    requires few { length entries.now < 10 ^ 8 }
+    requires fit { AllByRecursion FitsEntry entries.now }
+    ensures text { IfOk result (λ text. text.items ≡ register_text entries.now) }
+    ensures whole { OnOk result (AllByRecursion IsWholeEntry entries.now) }
+{
+    see_entries(entries);
+    let mut held = Vec::with_capacity(alloc, room_for(entries))?;
+    let mut rest = Rest {
+        next: Next::Count,
+        entries,
+        index: 1,
+    };
+    rest.fill(&mut held);
+    Ok(held)
 }
 
 /// Looks at each entry, which tells the check what is true of all.

@@ -155,7 +155,7 @@ pub(super) fn read_line<A: Allocator + Copy + Drop>(
         return Ok(());
     };
     let call = call_alone(alloc, &head);
-    let reply = enter_told(ledger, line, head.told(), &call)?;
+    let reply = enter_told(ledger, line, head.told, &call)?;
     if keeps {
         store_entry(
             history,

@@ -1,19 +1,17 @@
 //! The text of a history.
 
-ghost use Rattle.std.specs.Prelude.{◌≡◌, ◌++◌, ℕ, List, ◌<◌, ◌≤◌, ◌^◌, ◌*◌, ◌+◌, ◌-◌, OnOk, IfOk, IsTrue, length, sum_by};
-ghost use Rattle.std.specs.List.{flat_map, AllByRecursion};
+ghost use Rattle.std.specs.Prelude.{◌≡◌, ◌++◌, ℕ, List, ◌<◌, ◌≤◌, ◌^◌, ◌*◌, ◌+◌, ◌-◌, IsTrue, length, sum_by};
 ghost use Rattle.cwr_call.specs.Lawful.{is_lawful};
 ghost use Rattle.cwr_field.specs.Number.{number_text};
 ghost use Rattle.cwr_record.specs.Lines.{Fits, line_of};
 ghost use Rattle.work_registry.specs.RegisterColumns.{count_width, head_width, fault_width};
 ghost use Rattle.work_registry.specs.RegisterLine.{entry_count, head, fault, head_of, IsTyped};
-ghost use Rattle.work_registry.specs.Register.{line_for, entry_line, entry_lines, count_line, register_text, FitsEntry, IsWholeEntry};
+ghost use Rattle.work_registry.specs.Register.{line_for};
 
 use super::columns::{self, COUNT_WIDTH, FAULT_WIDTH, HEAD_WIDTH};
 use super::head::Head;
 use crate::entry::Entry;
 use cwr_call::Fault;
-use cwr_field::Memory;
 use cwr_record::{Column, LineRoom, Piece};
 use std::alloc::Allocator;
 
@@ -143,91 +141,15 @@ pub(super) fn first_line(count: usize) -> LineRoom<COUNT_WIDTH>
     line
 }
 
-fn put_head<A: Allocator>(out: &mut Vec<u8, A>, x: &Head) -> Result<(), Memory>
-    requires { Fits head x.now }
-    ensures { OnOk result (out.new.items ≡ out.old.items ++ line_of head x.now) }
-{
-    out.extend_from_slice(head_line(x).bytes())?;
-    Ok(())
-}
-
-fn put_fault<A: Allocator>(out: &mut Vec<u8, A>, x: &Fault) -> Result<(), Memory>
-    requires { Fits fault x.now }
-    ensures text { OnOk result (out.new.items ≡ out.old.items ++ line_of fault x.now) }
-    ensures typed { IsTyped x.now }
-{
-    out.extend_from_slice(fault_line(x).bytes())?;
-    Ok(())
-}
-
-fn put_faults<A: Allocator>(out: &mut Vec<u8, A>, faults: &[Fault]) -> Result<(), Memory>
-    requires { AllByRecursion (Fits fault) faults.now }
-    ensures text { OnOk result (out.new.items ≡ out.old.items ++ flat_map (line_of fault) faults.now) }
-    ensures typed { OnOk result (AllByRecursion IsTyped faults.now) }
-{
-    for fault in faults {
-        put_fault(out, fault)?;
-    }
-    Ok(())
-}
-
-fn put_entry<A: Allocator>(out: &mut Vec<u8, A>, index: u32, entry: &Entry<A>) -> Result<(), Memory>
-    requires index { index < 10 ^ 8 }
-    requires fits { FitsEntry entry.now }
-    ensures text { OnOk result (out.new.items ≡ out.old.items ++ entry_line index entry.now.call entry.now.reply) }
-    ensures whole { OnOk result (IsWholeEntry entry.now) }
-{
-    put_head(out, &head_for(index, entry))?;
-    put_faults(out, entry.call().faults())?;
-    out.push(b'\n')?;
-    Ok(())
-}
-
-fn put_entries<A: Allocator>(out: &mut Vec<u8, A>, entries: &[Entry<A>]) -> Result<(), Memory>
-    requires few { length entries.now < 10 ^ 8 }
-    requires fit { AllByRecursion FitsEntry entries.now }
-    ensures text { OnOk result (out.new.items ≡ out.old.items ++ entry_lines 1 entries.now) }
-    ensures whole { OnOk result (AllByRecursion IsWholeEntry entries.now) }
-{
-    for (before, entry) in entries.iter().enumerate() {
-        put_entry(out, before as u32 + 1, entry)?;
-    }
-    Ok(())
-}
-
-fn put_count<A: Allocator>(out: &mut Vec<u8, A>, count: usize) -> Result<(), Memory>
-    requires { count < 10 ^ 8 }
-    ensures { OnOk result (out.new.items ≡ out.old.items ++ count_line count) }
-{
-    out.extend_from_slice(first_line(count).bytes())?;
-    out.push(b'\n')?;
-    Ok(())
-}
-
-/// The length of the text. A line is its fields, its faults and LF.
-fn text_len<A: Allocator>(entries: &[Entry<A>]) -> usize
+/// The room that the text is written in: its length, and that of the fields of fixed place, for which there is room up to
+/// the end. A line is its fields, its faults and LF.
+pub(super) fn room_for<A: Allocator>(entries: &[Entry<A>]) -> usize
     requires { length entries.now < 10 ^ 8 }
-    ensures { result ≡ count_width + 1 + (head_width + 1) * length entries.now + fault_width * sum_by (λ e. length e.call.faults) entries.now }
+    ensures { result ≡ count_width + 1 + (head_width + 1) * length entries.now + fault_width * sum_by (λ e. length e.call.faults) entries.now + head_width }
 {
     let mut faults = 0;
     for entry in entries {
         faults += entry.call().faults().len();
     }
-    COUNT_WIDTH + 1 + (HEAD_WIDTH + 1) * entries.len() + FAULT_WIDTH * faults
-}
-
-/// The register of these entries. All memory is asked for at once.
-pub(super) fn register_of<A: Allocator>(
-    alloc: A,
-    entries: &[Entry<A>],
-) -> Result<Vec<u8, A>, Memory>
-    requires few { length entries.now < 10 ^ 8 }
-    requires fit { AllByRecursion FitsEntry entries.now }
-    ensures text { IfOk result (λ text. text.items ≡ register_text entries.now) }
-    ensures whole { OnOk result (AllByRecursion IsWholeEntry entries.now) }
-{
-    let mut out = Vec::with_capacity(alloc, text_len(entries))?;
-    put_count(&mut out, entries.len())?;
-    put_entries(&mut out, entries)?;
-    Ok(out)
+    COUNT_WIDTH + 1 + (HEAD_WIDTH + 1) * entries.len() + FAULT_WIDTH * faults + HEAD_WIDTH
 }

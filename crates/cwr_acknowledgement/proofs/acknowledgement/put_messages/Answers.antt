@@ -1,10 +1,10 @@
-use Rattle.std.proofs.Common.{arith, rules, refl}
+use Rattle.std.proofs.Common.{◌∙◌, arith, rules, refl}
 use Rattle.cwr_acknowledgement.proofs.AckSteps.{message_next}
 use Rattle.cwr_acknowledgement.proofs.Puts.{front_none, front_more, front_cut, cut_put, size_after}
 use Rattle.cwr_acknowledgement.proofs.acknowledgement.put_messages.Goals as goal
 
 pub loop-before-init : goal.loop-before-init
-loop-before-init g c = record { works = search rules; put = front_none _ _ _ }
+loop-before-init g c = record { form = refl; works = search rules; put = front_none _ _ _ }
 
 pub put_message-requires-clause-size : goal.put_message-requires-clause-size
 put_message-requires-clause-size g c =
@@ -19,6 +19,7 @@ returns-in_err-put_message-clause-put g c =
 
 pub loop-before-preserved : goal.loop-before-preserved
 loop-before-preserved g c = record {
+  form = c.in_ok-put_message.ensures.same ∙ c.loop-before.invariant.form;
   works = search rules;
   put =
       front_more _ _ _ _ _ _ _ 1 _ _ _ _ _ c.loop-before.invariant.put

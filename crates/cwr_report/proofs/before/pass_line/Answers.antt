@@ -6,4 +6,4 @@ returns-in-None c = λ all index so_far. passed_end c.args.before.now c.args.lin
 
 pub returns-in-Some : goal.returns-in-Some
 returns-in-Some c = λ all index so_far.
-    passed_more c.args.before.now c.add.new.self c.args.lines.now c.next.new.self all index c.in-Some.line c.in-Some.ensures.steps c.add.ensures so_far
+    passed_more c.args.before.now c.add_record.new.self c.args.lines.now c.next.new.self all index c.in-Some.line c.in-Some.ensures.steps c.add_record.ensures so_far

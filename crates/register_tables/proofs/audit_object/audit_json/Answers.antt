@@ -3,14 +3,14 @@ use Rattle.std.proofs.lemmas.Result.{IfOk-weaker}
 use Rattle.register_tables.specs.AuditJson.{audited_data}
 use Rattle.register_tables.specs.JsonValues.{value_tokens, Adds}
 use Rattle.register_tables.proofs.JsonObjects.{line_is}
-use Rattle.register_tables.proofs.audit_object.audit_json.Goals.{in-Entries+in_ok-put_entries-in-Entries, in-Fault+in_ok-put_fault-in-Fault}
+use Rattle.register_tables.proofs.audit_object.audit_json.Goals.{in-Entries+in_ok-put_object-in-Entries, in-Fault+in_ok-put_fault-in-Fault}
 use Rattle.register_tables.proofs.audit_object.audit_json.Goals as goal
 
 pub returns : goal.returns
 returns g c =
     let adds : Adds c.new-out.result c.match-audited.out (value_tokens (audited_data c.args.audited)) =
     elim c.match-audited.branch [
-      | in-Entries+in_ok-put_entries-in-Entries w ↦ rw (w.out-is, w.in-Entries.is) w.in_ok-put_entries-in-Entries.ensures
+      | in-Entries+in_ok-put_object-in-Entries w ↦ rw (w.out-is, w.in-Entries.is) w.in_ok-put_object-in-Entries.ensures
       | in-Fault+in_ok-put_fault-in-Fault w ↦ rw (w.out-is, w.in-Fault.is) w.in_ok-put_fault-in-Fault.ensures
     ] in
     IfOk-weaker c.line_of.result _ _

@@ -1,6 +1,6 @@
-use Rattle.std.proofs.Common.{◌≡◌, ◌∙◌, ℕ, List, ◌++◌, ap}
+use Rattle.std.proofs.Common.{◌∙◌, ℕ, List, ◌++◌, ap, ap₂}
 use Rattle.std.specs.Prelude.{codes}
-use Rattle.rule_pages.specs.Pages.{line_text}
+use Rattle.rule_pages.specs.Pages.{heading_text, line_text}
 use Rattle.rule_pages.proofs.Steps.{four}
 use Rattle.rule_pages.proofs.pages.put_page.Goals as goal
 
@@ -11,7 +11,7 @@ returns g c =
     let broken : List ℕ = c.put_line-2.new.out.items in
     four c.args.out.now.items heading asks broken c.put_line-3.new.out.items
     _ _ _ _
-    c.in_ok-put_heading.ensures
+    (c.in_ok-put_heading.ensures ∙ ap₂ (λ (name title : List ℕ). c.args.out.now.items ++ heading_text name title) c.name_of.ensures c.title.ensures)
     (c.in_ok-put_line.ensures ∙ ap (λ (text : List ℕ). heading ++ line_text (codes "asks") text) c.asks.ensures)
     (c.in_ok-put_line-2.ensures ∙ ap (λ (text : List ℕ). asks ++ line_text (codes "broken by") text) c.broken.ensures)
     (c.in_ok-put_line-3.ensures ∙ ap (λ (text : List ℕ). broken ++ line_text (codes "mended by") text) c.mended.ensures)

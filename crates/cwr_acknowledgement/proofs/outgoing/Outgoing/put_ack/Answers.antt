@@ -8,7 +8,7 @@ pub returns-clause-put : goal.returns-clause-put
 returns-clause-put g c =
     let inside = c.self.inside in
     let items = inside.bytes.items in
-    let line = c.fill.new.line in
+    let line = c.fill_ack.new.line in
     let width : length line ≡ 161 = search rules in
     let held = ap (λ (s : OutgoingState). s.held) c.self.view_is in
     let size = ap length held in
@@ -18,4 +18,4 @@ returns-clause-put g c =
     omega (arith, width, size, ready, all, length-take inside.end items, c.self.invariant.0, c.in_ok-make_room.ensures.ready) in
     line_put _ _ _ c.make_room.new.self _ line _ c.in_ok-make_room.ensures.put
     (held_behind c.deref_mut.result.now items line c.make_room.new.self.held inside.end _ _ inside.bytes.len c.deref_mut.ensures.value held (omega (arith, width)) (omega (arith, within, width)) all)
-    (ap (λ (s : OutgoingState). s.sent) c.self.view_is) c.fill.ensures.line (omega (arith, width))
+    (ap (λ (s : OutgoingState). s.sent) c.self.view_is) c.fill_ack.ensures.line (omega (arith, width))

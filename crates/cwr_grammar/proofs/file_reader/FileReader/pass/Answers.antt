@@ -8,7 +8,7 @@ use Rattle.cwr_grammar.specs.Roles.{role_of}
 use Rattle.cwr_grammar.proofs.NextDetail.{open_goes_on}
 use Rattle.cwr_grammar.proofs.Numbers.{clear_role}
 use Rattle.cwr_grammar.proofs.ReadFurther.{valid_header}
-use Rattle.cwr_grammar.proofs.Small.{small_from}
+use Rattle.cwr_grammar.proofs.lemmas.Small.{small_from}
 use Rattle.cwr_grammar.proofs.file_reader.FileReader.pass.Goals as goal
 
 pub keep_header-requires-clause-valid : goal.keep_header-requires-clause-valid

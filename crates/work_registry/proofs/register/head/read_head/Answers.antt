@@ -14,23 +14,23 @@ returns-then-ne-clause-none c = λ x stands.
     let no : true ≡ false = rw named at c.if-ne.ensures in
     cc
 
-pub returns-in_err-digits_at-clause-none : goal.returns-in_err-digits_at-clause-none
-returns-in_err-digits_at-clause-none c = if_none c.from_residual.result _ (λ x stands. no_number (field_at c.args.line.now column.index) x.index c.in_err-digits_at.ensures.value stands.1.0)
+pub returns-in_err-digits_at-4-clause-none : goal.returns-in_err-digits_at-4-clause-none
+returns-in_err-digits_at-4-clause-none c = if_none c.from_residual-in_err-digits_at-4.result _ (λ x stands. no_number (field_at c.args.line.now column.index) x.index c.in_err-digits_at-4.ensures.value stands.1.0)
 
 pub returns-in_err-named-clause-none : goal.returns-in_err-named-clause-none
-returns-in_err-named-clause-none c = if_none c.from_residual-in_err-named.result _ (λ x stands. no_kind c.bytes-2.result _ x.kind (c.bytes-2.ensures ∙ c.field_at-2.ensures.value) c.in_err-named.ensures stands.1.1.1.0)
+returns-in_err-named-clause-none c = if_none c.from_residual.result _ (λ x stands. no_kind c.bytes-2.result _ x.kind (c.bytes-2.ensures ∙ c.field_at-2.ensures.value) c.in_err-named.ensures stands.1.1.1.0)
 
-pub returns-in_err-digits_at-2-clause-none : goal.returns-in_err-digits_at-2-clause-none
-returns-in_err-digits_at-2-clause-none c = if_none c.from_residual-in_err-digits_at-2.result _ (λ x stands. no_number (field_at c.args.line.now column.performing_control) (slice_index x.control 0) c.in_err-digits_at-2.ensures.value stands.1.1.1.1.1.1.1.0)
+pub returns-in_err-digits_at-clause-none : goal.returns-in_err-digits_at-clause-none
+returns-in_err-digits_at-clause-none c = if_none c.from_residual-in_err-digits_at.result _ (λ x stands. no_number (field_at c.args.line.now column.performing_control) (slice_index x.control 0) c.in_err-digits_at.ensures.value stands.1.1.1.1.1.1.1.0)
 
 pub returns-in_err-code_at-clause-none : goal.returns-in_err-code_at-clause-none
 returns-in_err-code_at-clause-none c = if_none c.from_residual-in_err-code_at.result _ (λ x stands. no_code (code_value (iswc_of (field_at c.args.line.now column.iswc))) _ x.iswc refl c.in_err-code_at.ensures.value stands.1.1.1.1.1.1.0)
 
-pub returns-in_err-digits_at-3-clause-none : goal.returns-in_err-digits_at-3-clause-none
-returns-in_err-digits_at-3-clause-none c = if_none c.from_residual-in_err-digits_at-3.result _ (λ x stands. no_number (field_at c.args.line.now column.mechanical_control) (slice_index x.control 1) c.in_err-digits_at-3.ensures.value stands.1.1.1.1.1.1.1.1.0)
+pub returns-in_err-digits_at-2-clause-none : goal.returns-in_err-digits_at-2-clause-none
+returns-in_err-digits_at-2-clause-none c = if_none c.from_residual-in_err-digits_at-2.result _ (λ x stands. no_number (field_at c.args.line.now column.mechanical_control) (slice_index x.control 1) c.in_err-digits_at-2.ensures.value stands.1.1.1.1.1.1.1.1.0)
 
-pub returns-in_err-digits_at-4-clause-none : goal.returns-in_err-digits_at-4-clause-none
-returns-in_err-digits_at-4-clause-none c = if_none c.from_residual-in_err-digits_at-4.result _ (λ x stands. no_number (field_at c.args.line.now column.synchronization_control) (slice_index x.control 2) c.in_err-digits_at-4.ensures.value stands.1.1.1.1.1.1.1.1.1.0)
+pub returns-in_err-digits_at-3-clause-none : goal.returns-in_err-digits_at-3-clause-none
+returns-in_err-digits_at-3-clause-none c = if_none c.from_residual-in_err-digits_at-3.result _ (λ x stands. no_number (field_at c.args.line.now column.synchronization_control) (slice_index x.control 2) c.in_err-digits_at-3.ensures.value stands.1.1.1.1.1.1.1.1.1.0)
 
 pub returns-in_err-named-2-clause-none : goal.returns-in_err-named-2-clause-none
 returns-in_err-named-2-clause-none c = if_none c.from_residual-in_err-named-2.result _ (λ x stands. no_status c.bytes-3.result _ x.status (c.bytes-3.ensures ∙ c.field_at-3.ensures.value) c.in_err-named-2.ensures stands.1.1.1.1.1.1.1.1.1.1.0)
@@ -45,7 +45,7 @@ pub returns-in_err-digits_at-7-clause-none : goal.returns-in_err-digits_at-7-cla
 returns-in_err-digits_at-7-clause-none c = if_none c.from_residual-in_err-digits_at-7.result _ (λ x stands. no_number (field_at c.args.line.now column.faults) x.faults c.in_err-digits_at-7.ensures.value stands.1.1.1.1.1.1.1.1.1.1.1.1.1.0)
 
 pub returns-clause-some : goal.returns-clause-some
-returns-clause-some c = (mark_read c.bytes.result _ (codes "ENT") (c.bytes.ensures ∙ c.field_at.ensures.value) c.if-ne.ensures, (number_read (field_at c.args.line.now column.index) c.in_ok-digits_at.field-0 c.in_ok-digits_at.ensures.value, (refl, (kind_read c.bytes-2.result _ c.in_ok-named.field-0 (c.bytes-2.ensures ∙ c.field_at-2.ensures.value) c.in_ok-named.ensures, (refl, (refl, (c.in_ok-code_at.ensures.value, (number_read (field_at c.args.line.now column.performing_control) c.in_ok-digits_at-2.field-0 c.in_ok-digits_at-2.ensures.value, (number_read (field_at c.args.line.now column.mechanical_control) c.in_ok-digits_at-3.field-0 c.in_ok-digits_at-3.ensures.value, (number_read (field_at c.args.line.now column.synchronization_control) c.in_ok-digits_at-4.field-0 c.in_ok-digits_at-4.ensures.value, (status_read c.bytes-3.result _ c.in_ok-named-2.field-0 (c.bytes-3.ensures ∙ c.field_at-3.ensures.value) c.in_ok-named-2.ensures, (number_read (field_at c.args.line.now column.work) c.in_ok-digits_at-5.field-0 c.in_ok-digits_at-5.ensures.value, (number_read (field_at c.args.line.now column.version) c.in_ok-digits_at-6.field-0 c.in_ok-digits_at-6.ensures.value, (number_read (field_at c.args.line.now column.faults) c.in_ok-digits_at-7.field-0 c.in_ok-digits_at-7.ensures.value, tt))))))))))))))
+returns-clause-some c = (mark_read c.bytes.result _ (codes "ENT") (c.bytes.ensures ∙ c.field_at.ensures.value) c.if-ne.ensures, (number_read (field_at c.args.line.now column.index) c.in_ok-digits_at-4.field-0 c.in_ok-digits_at-4.ensures.value, (refl, (kind_read c.bytes-2.result _ c.in_ok-named.field-0 (c.bytes-2.ensures ∙ c.field_at-2.ensures.value) c.in_ok-named.ensures, (refl, (refl, (c.in_ok-code_at.ensures.value, (number_read (field_at c.args.line.now column.performing_control) c.in_ok-digits_at.field-0 c.in_ok-digits_at.ensures.value, (number_read (field_at c.args.line.now column.mechanical_control) c.in_ok-digits_at-2.field-0 c.in_ok-digits_at-2.ensures.value, (number_read (field_at c.args.line.now column.synchronization_control) c.in_ok-digits_at-3.field-0 c.in_ok-digits_at-3.ensures.value, (status_read c.bytes-3.result _ c.in_ok-named-2.field-0 (c.bytes-3.ensures ∙ c.field_at-3.ensures.value) c.in_ok-named-2.ensures, (number_read (field_at c.args.line.now column.work) c.in_ok-digits_at-5.field-0 c.in_ok-digits_at-5.ensures.value, (number_read (field_at c.args.line.now column.version) c.in_ok-digits_at-6.field-0 c.in_ok-digits_at-6.ensures.value, (number_read (field_at c.args.line.now column.faults) c.in_ok-digits_at-7.field-0 c.in_ok-digits_at-7.ensures.value, tt))))))))))))))
 
 pub returns-clause-fits : goal.returns-clause-fits
-returns-clause-fits c = (tt, (c.in_ok-digits_at.ensures.bound, (c.in_ok-code_at.ensures.fits, (c.in_ok-digits_at-2.ensures.bound, (c.in_ok-digits_at-3.ensures.bound, (c.in_ok-digits_at-4.ensures.bound, (c.in_ok-digits_at-5.ensures.bound, (c.in_ok-digits_at-6.ensures.bound, (c.in_ok-digits_at-7.ensures.bound, tt)))))))))
+returns-clause-fits c = (tt, (c.in_ok-digits_at-4.ensures.bound, (c.in_ok-code_at.ensures.fits, (c.in_ok-digits_at.ensures.bound, (c.in_ok-digits_at-2.ensures.bound, (c.in_ok-digits_at-3.ensures.bound, (c.in_ok-digits_at-5.ensures.bound, (c.in_ok-digits_at-6.ensures.bound, (c.in_ok-digits_at-7.ensures.bound, tt)))))))))

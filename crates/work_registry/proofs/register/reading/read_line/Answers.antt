@@ -1,14 +1,20 @@
-use Rattle.std.proofs.Common.{◌∷◌, ◌++◌, ℕ, List, refl}
+use Rattle.std.proofs.Common.{◌∷◌, ◌++◌, ℕ, List, refl, ap}
 use Rattle.work_registry.specs.RegisterReading.{IsStop}
+use Rattle.work_registry.specs.declared.register.entry_line.Told.{Told}
+use Rattle.work_registry.specs.declared.register.head.Head.{Head}
 use Rattle.work_registry.proofs.HandedOn.{handed_on}
 use Rattle.work_registry.proofs.OneMoreEntry.{longer, still_opening}
 use Rattle.work_registry.proofs.register.reading.read_line.Goals as goal
 
+-- what the fields of fixed place tell beside the call
+abbrev told_in : Head → Told
+told_in h = record { index = h.index; status = h.status; work = h.work; version = h.version }
+
 pub enter_told-requires-clause-says : goal.enter_told-requires-clause-says
-enter_told-requires-clause-says g c = rw (c.told.ensures, c.call_alone-call.ensures) c.in-Some.ensures.says
+enter_told-requires-clause-says g c = rw (ap told_in c.head.view_is, c.call_alone-call.ensures) c.in-Some.ensures.says
 
 pub enter_told-requires-clause-only : goal.enter_told-requires-clause-only
-enter_told-requires-clause-only g c = rw (c.told.ensures, c.call_alone-call.ensures) c.in-Some.ensures.only
+enter_told-requires-clause-only g c = rw (ap told_in c.head.view_is, c.call_alone-call.ensures) c.in-Some.ensures.only
 
 pub returns-in_err-entry-clause-fault : goal.returns-in_err-entry-clause-fault
 returns-in_err-entry-clause-fault g c = handed_on c.from_residual-in_err-entry.result c.in_err-entry.field-0.0 (λ r. (more : List ℕ) → IsStop c.args.ledger.now (c.args.line.now ++ 10 ∷ more) r) c.from_residual-in_err-entry.ensures.1 c.in_err-entry.ensures.fault

@@ -1,7 +1,7 @@
-use Rattle.std.proofs.Common.{ℕ, List, sym, subst}
+use Rattle.std.proofs.Common.{◌∙◌, ℕ, List, length, ap, sym, subst}
 use Rattle.work_registry.specs.Numbers.{most_entries}
 use Rattle.work_registry.specs.RegisterFaults.{IsRefusal}
-use Rattle.work_registry.specs.RegisterReader.{ReaderState, IsRest}
+use Rattle.work_registry.specs.RegisterReader.{LinesState, ReaderState, IsRest}
 use Rattle.work_registry.proofs.HandedOn.{handed_on}
 use Rattle.work_registry.proofs.register.auditor.Auditor.finish.Goals as goal
 
@@ -22,8 +22,8 @@ returns-clause-entries g c = λ text left.
       history = c.in_ok-lines.lines.read.history;
       register = c.in_ok-lines.ensures.text text start;
       lawful = c.in_ok-lines.ensures.lawful;
-      opening = c.len.ensures.opening;
+      opening = c.in_ok-lines.ensures.opening;
       whole = c.in_ok-lines.ensures.whole text start;
-      entries = sym c.len.ensures.value;
+      entries = ap (λ (s : LinesState). length s.read.history) (sym c.lines.view_is) ∙ sym c.len.ensures.value;
       few = c.len.ensures.few;
     }

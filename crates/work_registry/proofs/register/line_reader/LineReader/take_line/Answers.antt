@@ -1,40 +1,78 @@
-use Rattle.std.proofs.Common.{◌≡◌, ◌∙◌, ◌<◌, ◌∷◌, ◌++◌, ℕ, List, Option, Some, length, ap, sym, subst}
+use Rattle.std.proofs.Common.{◌≡◌, ◌∙◌, ◌<◌, ◌+◌, ◌∷◌, ◌++◌, ℕ, List, Option, length, length-append, arith, ap, sym, subst}
 use Rattle.work_registry.specs.EntryValue.{EntryValue}
-use Rattle.work_registry.specs.RegisterReader.{LinesState, IsRest, IsRestAfter}
+use Rattle.work_registry.specs.RegisterReader.{LinesState, HasCounted, IsRest, IsRestAfter}
 use Rattle.work_registry.specs.RegisterFaults.{IsRefusal}
-use Rattle.work_registry.proofs.Audited.{rest_later}
+use Rattle.work_registry.specs.RegisterReading.{IsReadTo}
+use Rattle.work_registry.proofs.Audited.{rest_first, rest_later, counted_later}
 use Rattle.work_registry.proofs.HandedOn.{handed_on}
+use Rattle.work_registry.proofs.RegisterNextLine.{tail_line}
 use Rattle.work_registry.proofs.register.line_reader.LineReader.take_line.Goals as goal
+
+pub returns-in_err-first_count-clause-fault : goal.returns-in_err-first_count-clause-fault
+returns-in_err-first_count-clause-fault g c =
+    let line = c.args.line.now in
+    let refusal = c.in_err-first_count.field-0.0 in
+    let limit = ap (λ (s : LinesState). s.read.limit) c.self.view_is in
+    handed_on c.from_residual.result refusal (λ r. (text more : List ℕ) → IsRest c.args.self.now.read text (line ++ 10 ∷ more) → IsRefusal c.args.self.now.read.limit text r) c.from_residual.ensures.1
+    (λ text more left.
+    let P : LinesState → Type 0 = λ s. IsRest s.read text (line ++ 10 ∷ more) in
+    let Q : List ℕ → Type 0 = λ xs. IsRefusal c.args.self.now.read.limit xs refusal in
+    let R : ℕ → Type 0 = λ n. IsRefusal n (line ++ 10 ∷ more) refusal in
+    subst Q (sym (rest_first _ text (line ++ 10 ∷ more) c.in_default.is (subst P (sym c.self.view_is) left))) (subst R limit (c.in_err-first_count.ensures.fault more)))
+
+pub invariant_of-self : goal.invariant_of-self
+invariant_of-self g c =
+    let P : Option ℕ → Type 0 = λ o. HasCounted c.self.inside.limit o c.self.inside.ledger in
+    let none = subst P c.in_default.is c.self.invariant.0.counted in
+    (record { counted = (omega (arith, ap length none), c.in_ok-first_count.ensures.within); least = c.self.invariant.0.least; most = c.self.invariant.0.most; opening = c.self.invariant.0.opening }, c.self.invariant.1)
+
+pub returns-in_default-clause-read : goal.returns-in_default-clause-read
+returns-in_default-clause-read g c = λ text more left.
+    let line = c.args.line.now in
+    let count = c.in_ok-first_count.field-0 in
+    let P : Option ℕ → Type 0 = λ o. HasCounted c.self.inside.limit o c.self.inside.ledger in
+    let Q : LinesState → Type 0 = λ s. IsRest s.read text (line ++ 10 ∷ more) in
+    let R : List ℕ → Type 0 = λ xs. IsReadTo c.self.inside.limit xs count c.self.inside.ledger more in
+    let S : List EntryValue → Type 0 = λ h. IsReadTo c.self.inside.limit (line ++ 10 ∷ more) count h more in
+    let none = subst P c.in_default.is c.self.invariant.0.counted in
+    subst R (sym (rest_first _ text (line ++ 10 ∷ more) c.in_default.is (subst Q (sym c.self.view_is) left))) (subst S (sym none) (c.in_ok-first_count.ensures.count more))
+
+pub returns-then-len-count-clause-fault : goal.returns-then-len-count-clause-fault
+returns-then-len-count-clause-fault g c = λ text more left.
+    let line = c.args.line.now in
+    let P : LinesState → Type 0 = λ s. IsRest s.read text (line ++ 10 ∷ more) in
+    let R : ℕ → Type 0 = λ n. IsRefusal n text c.fault.result in
+    let limit = ap (λ (s : LinesState). s.read.limit) c.self.view_is in
+    let read = rest_later _ c.in-Some.count text (line ++ 10 ∷ more) c.in-Some.is (subst P (sym c.self.view_is) left) in
+    let size = length-append line (10 ∷ more) in
+    let full : length c.self.inside.ledger ≡ c.in-Some.count = sym c.len.ensures.value ∙ c.if-len-count.true in
+    subst R limit (rw c.fault.ensures (tail_line c.self.inside.limit c.in-Some.count c.next_number.result text (line ++ 10 ∷ more) c.self.inside.ledger read (omega (arith, size)) full (c.next_number.ensures ∙ ap (λ (n : ℕ). n + 2) full)))
+
+pub read_line-requires-clause-room : goal.read_line-requires-clause-room
+read_line-requires-clause-room g c =
+    let counted = counted_later c.self.inside.limit c.self.inside.count c.self.inside.ledger c.in-Some.count c.in-Some.is c.self.invariant.0.counted in
+    omega (arith, counted.0, counted.1, c.self.invariant.0.most, c.len.ensures.value, c.if-len-count.false)
 
 pub returns-in_err-read_line-clause-fault : goal.returns-in_err-read_line-clause-fault
 returns-in_err-read_line-clause-fault g c =
     let line = c.args.line.now in
-    let count = c.in-Some._count in
+    let count = c.in-Some.count in
     let refusal = c.in_err-read_line.field-0.0 in
-    let same : c.count_before.new.self ≡ c.args.self.now = rw c.in-Some.is at c.in_ok-_count.ensures.same in
-    let state = c.self.view_is ∙ same in
-    let now : c.args.self.now.read.count ≡ Some count = rw c.in-Some.is at c.in_ok-_count.ensures.counted in
-    let counted = ap (λ (s : LinesState). s.read.count) state ∙ now in
-    let more_now : length c.args.self.now.read.history < count = rw c.in-Some.is at c.in_ok-_count.ensures.more in
-    let M : List EntryValue → Type 0 = λ h. length h < count in
-    let room = subst M (sym (ap (λ (s : LinesState). s.read.history) state)) more_now in
+    let most = (counted_later c.self.inside.limit c.self.inside.count c.self.inside.ledger count c.in-Some.is c.self.invariant.0.counted).0 in
+    let room : length c.self.inside.ledger < count = omega (arith, most, c.len.ensures.value, c.if-len-count.false) in
     handed_on c.from_residual-in_err-read_line.result refusal (λ r. (text more : List ℕ) → IsRest c.args.self.now.read text (line ++ 10 ∷ more) → IsRefusal c.args.self.now.read.limit text r) c.from_residual-in_err-read_line.ensures.1
     (λ text more left.
     let P : LinesState → Type 0 = λ s. IsRest s.read text (line ++ 10 ∷ more) in
     let R : ℕ → Type 0 = λ n. IsRefusal n text refusal in
-    subst R (ap (λ (s : LinesState). s.read.limit) state) (c.in_err-read_line.ensures.fault more c.self.inside.limit text count room (rest_later _ count text (line ++ 10 ∷ more) counted (subst P (sym state) left))))
+    subst R (ap (λ (s : LinesState). s.read.limit) c.self.view_is)
+    (c.in_err-read_line.ensures.fault more c.self.inside.limit text count room (rest_later _ count text (line ++ 10 ∷ more) c.in-Some.is (subst P (sym c.self.view_is) left))))
 
 pub returns-clause-read : goal.returns-clause-read
 returns-clause-read g c = λ text more left.
     let line = c.args.line.now in
-    let count = c.in-Some._count in
-    let same : c.count_before.new.self ≡ c.args.self.now = rw c.in-Some.is at c.in_ok-_count.ensures.same in
-    let state = c.self.view_is ∙ same in
-    let now : c.args.self.now.read.count ≡ Some count = rw c.in-Some.is at c.in_ok-_count.ensures.counted in
-    let counted = ap (λ (s : LinesState). s.read.count) state ∙ now in
-    let more_now : length c.args.self.now.read.history < count = rw c.in-Some.is at c.in_ok-_count.ensures.more in
-    let M : List EntryValue → Type 0 = λ h. length h < count in
-    let room = subst M (sym (ap (λ (s : LinesState). s.read.history) state)) more_now in
+    let count = c.in-Some.count in
+    let most = (counted_later c.self.inside.limit c.self.inside.count c.self.inside.ledger count c.in-Some.is c.self.invariant.0.counted).0 in
+    let room : length c.self.inside.ledger < count = omega (arith, most, c.len.ensures.value, c.if-len-count.false) in
     let P : LinesState → Type 0 = λ s. IsRest s.read text (line ++ 10 ∷ more) in
     let Q : Option ℕ → Type 0 = λ o. IsRestAfter c.self.inside.limit o c.read_line.new.ledger text more in
-    subst Q (sym counted) (c.in_ok-read_line.ensures.read more c.self.inside.limit text count room (rest_later _ count text (line ++ 10 ∷ more) counted (subst P (sym state) left)))
+    subst Q (sym c.in-Some.is) (c.in_ok-read_line.ensures.read more c.self.inside.limit text count room (rest_later _ count text (line ++ 10 ∷ more) c.in-Some.is (subst P (sym c.self.view_is) left)))
