@@ -1,5 +1,5 @@
 #!/usr/bin/env python3
-"""Prints the manual page docs/purvilgo.1, made from what the program tells as help.
+"""Prints the manual page docs/purvilgo.1, made from what the program prints as help.
 
     docs/manual.py [--program PROGRAM] > docs/purvilgo.1
 
@@ -15,9 +15,9 @@ import sys
 TOP = os.path.dirname(os.path.dirname(os.path.abspath(__file__)))
 
 STATUSES = [
-    ("0", "all that was asked for is done and told: each file acknowledged and in place, no fault found, all of it printed"),
+    ("0", "all that was asked for is done and reported: each file acknowledged and in place, no fault found, all of it printed"),
     ("1", "else: a file is refused or stopped, a fault is found, memory is refused, or a read or a write failed"),
-    ("2", "the words are not taken, and nothing was read; or help is asked for"),
+    ("2", "the arguments are not taken, and nothing was read; or help is asked for"),
 ]
 
 FILES = [
@@ -31,7 +31,7 @@ FILES = [
 
 
 def help_of(program, *words):
-    """What the program tells of itself, or of a command."""
+    """What the program prints of itself, or of a command."""
     ran = subprocess.run([program, "help", *words], stdout=subprocess.PIPE, stderr=subprocess.STDOUT, check=False)
     return ran.stdout.decode()
 
@@ -101,7 +101,7 @@ def main():
         return 2
     about, usage, lists, rest = parts_of(help_of(program))
     commands = [(name, parts_of(help_of(program, name))) for name, _ in lists["Commands"] if name != "help"]
-    out = '.\\" Made by docs/manual.py from what `purvilgo help` tells.\n.TH PURVILGO 1\n'
+    out = '.\\" Made by docs/manual.py from what `purvilgo help` prints.\n.TH PURVILGO 1\n'
     out += ".SH NAME\npurvilgo \\- a registry of musical works\n.SH SYNOPSIS\n.nf\n"
     for line in [usage, *(parts[1] for _, parts in commands), "purvilgo help [COMMAND]"]:
         out += escaped(line) + "\n"

@@ -4,18 +4,19 @@
     --program FILE   the built program; else crates/purvilgo/out/purvilgo
     --lines          first writes the line numbers of definitions anew, in links and in what docs/reading.py prints, for
                      files that have moved them
-    PAGE..           these pages alone; else README.md and each page of docs, docs/guide, examples and benches
+    PAGE..           these pages alone; else README.md, CONTRIBUTING.md, and each page of docs, docs/guide, examples, bench
+                     and trials
 
 What is tried of a page:
 
 - A block marked `console` is what a terminal shows. A line that begins with `$ ` is a command, lines that begin with
   `> ` go on with it, and what follows is what it prints, on standard output and standard error together. The commands
-  of a page are run in order by one bash, in a fresh folder that holds docs, examples, benches, and of the crates the
+  of a page are run in order by one bash, in a fresh folder that holds docs, examples, bench, trials, and of the crates the
   code and the definitions, with the program as `purvilgo`. Each must print what the page says, byte for byte.
 - A block after a line `<!-- file: PATH -->` is that file of the repository, byte for byte.
 - Any other block of commands (`sh`, `bash`) must say why nobody runs it: `<!-- not run: REASON -->`.
 - A link leads to a file that is there; one with `#L20` to a line that has its text, and any other `#` to a heading.
-- The tables of rules and answers in the guides have a row for each, with what `purvilgo explain` tells of it.
+- The tables of rules and answers in the guides have a row for each, with what `purvilgo explain` prints of it.
 - The manual page docs/purvilgo.1 is the one that docs/manual.py makes of what `purvilgo help` and `purvilgo help COMMAND` print.
 
 It says what differs, and the status is 1 then; 2 where there is nothing to try with; else 0."""
@@ -176,7 +177,7 @@ def try_page(page, program):
     if commands:
         with tempfile.TemporaryDirectory() as folder, tempfile.TemporaryDirectory() as tools:
             shutil.copy2(program, os.path.join(tools, "purvilgo"))
-            for part in ("docs", "examples", "benches", "crates"):
+            for part in ("docs", "examples", "bench", "trials", "crates"):
                 unneeded = shutil.ignore_patterns("out", "proofs", "must-fail", "__pycache__")
                 shutil.copytree(os.path.join(TOP, part), os.path.join(folder, part), ignore=unneeded)
             for (number, command, wanted), found in zip(commands, run_all(commands, folder, tools)):
@@ -216,7 +217,7 @@ def mend_lines(page):
 
 
 def manual_faults(program):
-    """How the manual page docs/purvilgo.1 differs from the one that docs/manual.py makes of what the program tells as help."""
+    """How the manual page docs/purvilgo.1 differs from the one that docs/manual.py makes of what the program prints as help."""
     made = subprocess.run([os.path.join(TOP, "docs/manual.py"), "--program", program], stdout=subprocess.PIPE, check=True).stdout.decode()
     kept = open(os.path.join(TOP, "docs/purvilgo.1"), encoding="utf-8").read()
     differing = [line for line in difflib.ndiff(kept.splitlines(), made.splitlines()) if line[0] in "-+"]
@@ -224,7 +225,7 @@ def manual_faults(program):
 
 
 def rule_faults(program):
-    """The rules and answers of which the guides' tables have no row, more than one, or another than `purvilgo explain` tells."""
+    """The rules and answers of which the guides' tables have no row, more than one, or another than `purvilgo explain` prints."""
     told, rows, rule = {}, {}, None
     pages = subprocess.run([program, "explain"], stdout=subprocess.PIPE, stderr=subprocess.STDOUT).stdout.decode()
     for line in pages.splitlines():
@@ -240,7 +241,7 @@ def rule_faults(program):
                 cells = [LINK.sub(r"\1", cell).replace("`", "") for cell in row.groups()[1:]]
                 rows.setdefault(row[1], []).append(cells)
     names = sorted(set(told) | set(rows))
-    faults = [f"the tables of the guides have {rows.get(name)} of {name}, and purvilgo explain tells {told.get(name)}"
+    faults = [f"the tables of the guides have {rows.get(name)} of {name}, and purvilgo explain prints {told.get(name)}"
               for name in names if rows.get(name) != [told.get(name)]]
     return told, faults
 
@@ -256,8 +257,8 @@ def main():
         return 2
     pages = [os.path.relpath(os.path.abspath(page), TOP) for page in words.pages]
     if not pages:
-        pages = ["README.md"]
-        for place in ("docs", "docs/guide", "examples", "benches"):
+        pages = ["README.md", "CONTRIBUTING.md"]
+        for place in ("docs", "docs/guide", "examples", "bench", "trials"):
             pages += sorted(os.path.relpath(page, TOP) for page in glob.glob(os.path.join(TOP, place, "*.md")))
     every_fault, all_commands = [], 0
     for page in pages:

@@ -1,5 +1,5 @@
 #!/usr/bin/env python3
-"""Says whether an acknowledgement answers a file and tells what a register decided: belongs.py REGISTER FILE ACK
+"""Says whether an acknowledgement answers a file and contains what a register decided: belongs.py REGISTER FILE ACK
 
 FILE is the submission, ACK its acknowledgement. Each transaction of FILE has one ACK record, in file order, with its
 group, sequence, type, title and number; and these records, in their order, are entries of the register, in its order,
@@ -54,5 +54,5 @@ def main(register, file, ack):
 if len(sys.argv) != 4:
     sys.exit(__doc__)
 wrong = main(*sys.argv[1:])
-print(wrong or "the acknowledgement tells what the register decided")
+print(wrong or "the acknowledgement contains what the register decided")
 sys.exit(1 if wrong else 0)

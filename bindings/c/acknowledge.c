@@ -1,14 +1,15 @@
-/* Acknowledges files, each into an empty registry: writes FILE.ack, and tells what became of FILE as `purvilgo run` does.
+/* Acknowledges files, each into an empty registry: writes FILE.ack, and prints how that ended, as `purvilgo run`
+ * does.
  *
  *     acknowledge SOCIETY NAME YYYYMMDD HHMMSS FILE..
  *
- * What cannot be read or written, and want of memory, is told on standard error. The status is 0 where all files were
- * acknowledged, 2 where the words are no stamp, else 1. */
+ * What cannot be read or written, and an allocation that fails, is reported on standard error. The status is 0 if all
+ * files were acknowledged, 2 if the words are no stamp, else 1. */
 #include "files.h"
 #include "purvilgo.h"
 #include "stamps.h"
 
-/* Writes an acknowledgement. 0 where all of it is written. */
+/* Writes an acknowledgement. 0 if all of it is written. */
 static int write_answer(const char *path, const uint8_t *at, size_t length) {
     char name[4096];
     snprintf(name, sizeof name, "%s.ack", path);
@@ -18,7 +19,7 @@ static int write_answer(const char *path, const uint8_t *at, size_t length) {
     return -1;
 }
 
-/* Acknowledges a file, and tells what became of it. 0 where it was acknowledged, and its acknowledgement is written. */
+/* Acknowledges a file, and prints how that ended. 0 if it was acknowledged, and its acknowledgement is written. */
 static int answer(const char *path, struct bytes file, const struct purvilgo_stamp *stamp) {
     struct purvilgo_outcome outcome;
     size_t size = 2 * file.length + 4096, length = 0;

@@ -1,13 +1,13 @@
-/* Audits a register: tells what `purvilgo audit` tells of it.
+/* Audits a register: prints what `purvilgo audit` prints of it.
  *
  *     audit REGISTER
  *
- * The status is 0 where it is the register of one registry, else 1. */
+ * The status is 0 if it is the register of one registry, else 1. */
 #include "files.h"
 #include "purvilgo.h"
 #include <inttypes.h>
 
-/* Tells what an audit finds. 0 where it finds no fault. */
+/* Prints what an audit finds. 0 if it finds no fault. */
 static int audit(struct bytes text) {
     struct purvilgo_register_fault fault;
     uint64_t entries;

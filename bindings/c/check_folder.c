@@ -2,14 +2,14 @@
  *
  *     check_folder FOLDER
  *
- * The status is 0 where all files are clean, 1 where one has a fault, 2 for want of memory or a folder or file that
- * cannot be read. */
+ * The status is 0 if all files are clean, 1 if one has a fault, 2 if an allocation fails or a folder or file cannot be
+ * read. */
 #include "files.h"
 #include "purvilgo.h"
 #include <dirent.h>
 #include <string.h>
 
-/* Prints what is told of a file. 0 where it is clean, 1 where it is not, 2 where memory is refused. */
+/* Prints the check of a file. 0 if it is clean, 1 if it is not, 2 if an allocation fails. */
 static int check(const char *name, struct bytes file) {
     size_t size = 4096, length = 0;
     bool clean = false;

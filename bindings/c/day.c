@@ -1,19 +1,19 @@
-/* Carries a register on for a day: runs files, one after the other, against the registry that REGISTER tells.
+/* Continues a register for a day: runs files, one after the other, against the registry of REGISTER.
  *
  *     day [--begin] REGISTER SOCIETY NAME YYYYMMDD HHMMSS FILE..
  *
- * With --begin it runs them against an empty one, and REGISTER may not be there; else it must be, so that no wrong word
- * begins a second history. Tells what became of each FILE as `purvilgo run` does, and writes REGISTER anew and FILE.ack of
- * each that was acknowledged. The register takes its name first, so that nobody finds an answer that it does not know;
- * where it cannot be kept, no answer is left, and where an answer then cannot take its name, it stays in FILE.ack.new.
- * It does not wait for the disk, as `purvilgo run` does: a crash of the system may take what was written back.
+ * With --begin it runs them against an empty one, and REGISTER may not exist. Otherwise it must exist, so that no wrong
+ * name begins a second history. It prints how the work on each FILE ended, as `purvilgo run` does, and writes REGISTER
+ * again and FILE.ack of each that was acknowledged. The register takes its name first, so that nobody finds an answer
+ * that it does not have. If it cannot be kept, no answer is left. If an answer then cannot take its name, it stays in
+ * FILE.ack.new. Unlike `purvilgo run` it does not wait for the disk: a crash of the system may undo what was written.
  *
- * REGISTER.lock is locked from before REGISTER is read until all is in place, so that of two at one register, this one or
- * `purvilgo run`, the second tells that it is in use, and reads and writes nothing. Where REGISTER is a link, the file
- * that it leads to is locked and replaced.
+ * REGISTER.lock is locked from before REGISTER is read until all is in place. So of two programs at one register, this
+ * one or `purvilgo run`, the second prints that it is in use, and reads and writes nothing. If REGISTER is a link, the
+ * file that it leads to is locked and replaced.
  *
- * What cannot be read or kept is told on standard error. The status is 0 where all files were acknowledged and all was
- * written; 2 where the words are no stamp, or name one file twice; else 1. */
+ * What cannot be read or kept is reported on standard error. The status is 0 if all files were acknowledged and all was
+ * written; 2 if the words are no stamp, or name one file twice; else 1. */
 #include "files.h"
 #include "names.h"
 #include "purvilgo.h"
@@ -23,8 +23,8 @@
 /* A call that gives a text of a registry. */
 typedef uint32_t text_call(struct purvilgo_registry *, uint8_t *, size_t, size_t *);
 
-/* The text of a call, which is given a room of `size` bytes and, where that is too small, one that is not. `at` is null
- * for want of memory. */
+/* The text of a call, which is given a buffer of `size` bytes and, if that is too small, one that suffices. `at` is null
+ * if an allocation fails. */
 static struct bytes text_of(struct purvilgo_registry *registry, text_call *call, size_t size) {
     struct bytes text = {malloc(size + 1), 0};
     uint32_t status = text.at ? call(registry, text.at, size, &text.length) : PURVILGO_NO_MEMORY;
@@ -41,7 +41,7 @@ static struct bytes text_of(struct purvilgo_registry *registry, text_call *call,
     return text;
 }
 
-/* Writes a text as a draft, PATH with `ending` and ".new", and frees it. 0 where all of it is written. */
+/* Writes a text as a draft, PATH with `ending` and ".new", and frees it. 0 if all of it is written. */
 static int draft(const char *path, const char *ending, struct bytes text) {
     char name[4096];
     int written = -1;
@@ -60,14 +60,14 @@ static int take_name(const char *path, const char *ending) {
     return rename(before, after);
 }
 
-/* Takes a draft away. */
+/* Removes a draft. */
 static void drop(const char *path, const char *ending) {
     char name[4096];
     snprintf(name, sizeof name, "%s%s.new", path, ending);
     unlink(name);
 }
 
-/* Tells on standard error what is wrong with a file. -1 for whoever answers it. */
+/* Prints on standard error what is wrong with a file. Returns -1, for a caller that returns it. */
 static int tell_wrong(const char *path, const char *what) {
     fprintf(stderr, "%s%s\n", path, what);
     return -1;
@@ -98,7 +98,7 @@ static int open_registry(struct purvilgo_registry *registry, const char *path, i
     return status == PURVILGO_DONE ? 0 : -1;
 }
 
-/* Runs one file, and leaves its acknowledgement as a draft. 0 where it was acknowledged. */
+/* Runs one file, and leaves its acknowledgement as a draft. 0 if it was acknowledged. */
 static int run(struct purvilgo_registry *registry, const char *path, const struct purvilgo_stamp *stamp) {
     struct purvilgo_outcome outcome;
     struct bytes file = read_file(path);
@@ -119,7 +119,7 @@ static int run(struct purvilgo_registry *registry, const char *path, const struc
     return 0;
 }
 
-/* Keeps the register of a registry. 0 where it has its name. */
+/* Keeps the register of a registry. 0 if it has its name. */
 static int keep(struct purvilgo_registry *registry, const char *kept) {
     uint64_t entries = 0;
     purvilgo_registry_entries(registry, &entries);
@@ -154,7 +154,7 @@ static int day(struct purvilgo_registry *registry, const char *kept, const struc
     return worst;
 }
 
-/* Locks the register, opens its registry, and carries it on. */
+/* Locks the register, opens its registry, and continues it. */
 static int locked_day(const char *kept, int begin, const struct purvilgo_stamp *stamp, char **files, int count) {
     struct purvilgo_registry registry = PURVILGO_REGISTRY_SHUT;
     int told = 1, lock = lock_register(kept);

@@ -1,4 +1,4 @@
-/* Whole files in memory, for the examples. */
+/* Complete files in memory, for the examples. */
 #ifndef FILES_H
 #define FILES_H
 
@@ -11,7 +11,7 @@ struct bytes {
     size_t length;
 };
 
-/* The bytes of a file; `at` is null where it cannot be read or memory is refused. */
+/* The bytes of a file; `at` is null if it cannot be read or an allocation fails. */
 static inline struct bytes read_file(const char *path) {
     struct bytes none = {NULL, 0}, read = {NULL, 0};
     FILE *file = fopen(path, "rb");
@@ -36,7 +36,7 @@ static inline struct bytes read_file(const char *path) {
     return none;
 }
 
-/* Writes bytes to a file. 0 where all of them are written. */
+/* Writes bytes to a file. 0 if all of them are written. */
 static inline int write_file(const char *path, const uint8_t *at, size_t length) {
     FILE *file = fopen(path, "wb");
     if (!file)

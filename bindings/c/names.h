@@ -12,7 +12,7 @@
 #include <sys/stat.h>
 #include <unistd.h>
 
-/* Where a name leads: to a file, or, where there is none, to the folder in which it would be made, under this name. */
+/* Where a name leads: to a file, or, if there is none, to the folder in which it would be made, under this name. */
 struct place {
     dev_t device;
     ino_t number;
@@ -20,8 +20,8 @@ struct place {
     char *path;
 };
 
-/* Finds where PATH with an ending leads. Of a folder that is not there either the whole path counts. False for want of
- * memory. */
+/* Finds where PATH with an ending leads. If the folder does not exist either, the complete path counts. False if an
+ * allocation fails. */
 static inline bool find_place(struct place *place, const char *path, const char *ending) {
     struct stat found = {0};
     char *at = malloc(strlen(path) + strlen(ending) + 1);
@@ -45,7 +45,7 @@ static inline bool is_one_place(const struct place *a, const struct place *b) {
 }
 
 /* Whether one file would be read or written under two names: each FILE, FILE.ack, REGISTER, their drafts and the lock are
- * different ones, but that a draft may be one with what it is to replace. -1 for want of memory. */
+ * different ones, except that a draft may be one with what it is to replace. -1 if an allocation fails. */
 static inline int is_named_twice(const char *kept, char **files, int count) {
     static const char *of_file[] = {"", ".ack", ".ack.new"}, *of_register[] = {".lock", "", ".new"};
     int all = 3 * (count + 1), found = 0, twice = 0;
@@ -66,7 +66,7 @@ static inline int is_named_twice(const char *kept, char **files, int count) {
 }
 
 /* Locks a register as `purvilgo run` does, by REGISTER.lock, an empty file that stays. It does not wait. The lock is held
- * until what is answered is closed, or the process ends; -1 where it cannot be had, with EWOULDBLOCK in errno where
+ * until the returned descriptor is closed, or the process ends. -1 if it cannot be had, with EWOULDBLOCK in errno if
  * another process has it. */
 static inline int lock_register(const char *path) {
     char name[4096];

@@ -1,5 +1,6 @@
-/* Refuses memory: the n-th request of a run fails, for each n until a run asks for less. Each call must answer so, leave
- * what it says it leaves, and give all memory back; what it did not refuse must be as in a run that nothing was refused.
+/* Refuses memory: the n-th request of a run fails, for each n until a run makes fewer requests. A call whose request
+ * fails must report that, leave what it says it leaves, and give all memory back. Every other result must be as in a run
+ * without a failure.
  *
  *     refused FILE REGISTER ACKNOWLEDGEMENT
  *
@@ -11,7 +12,7 @@ void *__real_malloc(size_t size);
 void *__real_realloc(void *at, size_t size);
 void __real_free(void *at);
 
-/* How many requests were made, which of them fails (0: none), how many blocks are held, and whether they count. */
+/* The number of requests made, the one that fails (0: none), the number of blocks held, and whether they count. */
 static size_t asked, fails_at, held;
 static bool counts, failed;
 
@@ -54,7 +55,7 @@ static void must(bool holds, const char *what) {
     }
 }
 
-/* A call is made; its room is filled with 0xA5 before. */
+/* A call is made; its buffer is filled with 0xA5 before. */
 static void fill(size_t *length) {
     memset(room, 0xA5, ROOM);
     *length = 12345;
@@ -62,7 +63,7 @@ static void fill(size_t *length) {
     counts = true;
 }
 
-/* Whether the room is as it was. */
+/* Whether the buffer is as it was. */
 static bool is_filled(void) {
     for (size_t i = 0; i < ROOM; i++)
         if (room[i] != 0xA5)
@@ -70,8 +71,8 @@ static bool is_filled(void) {
     return true;
 }
 
-/* A call that gives text k has answered. Where it was refused memory all is as it was. Where it was not, the text is that
- * of the first run, and behind it the room is as it was; `same` is false where the text may be another. */
+/* A call that gives text k has returned. If an allocation failed all is as it was. If not, the text is that of the first
+ * run, and behind it the buffer is as it was; `same` is false if the text may be another. */
 static void told(int k, uint32_t status, size_t length, bool same) {
     counts = false;
     must((status == PURVILGO_NO_MEMORY) == failed, "want of memory was not told, or told without need");
@@ -113,7 +114,7 @@ static void explain(int k, const char *name) {
 
 typedef uint32_t table_call(const uint8_t *, size_t, uint8_t *, size_t, size_t *, struct purvilgo_register_fault *);
 
-/* A table of a register, or its fault: then nothing else is told. */
+/* A table of a register, or its fault: then nothing else is set. */
 static void table(int k, table_call *call, struct bytes text) {
     struct purvilgo_register_fault fault = {77, 77};
     size_t length;
@@ -131,7 +132,7 @@ static void table(int k, table_call *call, struct bytes text) {
     must(fault.number == 77 && fault.line == 77, "a fault was told beside a table");
 }
 
-/* What is told of a file and its acknowledgement in a first run is told in each other, or nothing is. */
+/* What is set for a file and its acknowledgement in a first run is set in each other, or nothing is. */
 static void verify(struct bytes text, struct bytes file, struct bytes answer) {
     static struct purvilgo_misfit first;
     static uint64_t first_transactions;
@@ -188,7 +189,7 @@ static void tell_line(const struct purvilgo_outcome *outcome) {
     must(held == 0, "the line kept memory");
 }
 
-/* What an audit tells in a first run is told in each other, or nothing is. */
+/* What an audit sets in a first run is set in each other, or nothing is. */
 static void audit(struct bytes text) {
     static uint64_t first_entries;
     static struct purvilgo_register_fault first_fault;
@@ -215,8 +216,8 @@ static void audit(struct bytes text) {
          "an audit told something else");
 }
 
-/* A registry is opened: of the text where that is a register, else an empty one. What is refused memory leaves it shut,
- * and is done again, which nothing refuses. True where it was refused. */
+/* A registry is opened: of the text if that is a register, else an empty one. An allocation failure leaves it closed,
+ * and it is opened again, which does not fail. True if an allocation failed. */
 static bool open_registry(struct purvilgo_registry *registry, struct bytes text) {
     struct purvilgo_register_fault fault = {77, 77};
     uint32_t status;
@@ -238,14 +239,14 @@ static bool open_registry(struct purvilgo_registry *registry, struct bytes text)
     return true;
 }
 
-/* How many entries a registry has. */
+/* The number of entries of a registry. */
 static uint64_t entries_of(struct purvilgo_registry *registry) {
     uint64_t entries = 77;
     must(purvilgo_registry_entries(registry, &entries) == PURVILGO_DONE, "the entries were not told");
     return entries;
 }
 
-/* A file is run: it is stopped where memory was refused, and what was decided of it is there. True where it was. */
+/* A file is run: it is stopped if an allocation failed, and what was decided of it is there. True if one failed. */
 static bool run(struct purvilgo_registry *registry, struct bytes file, const struct purvilgo_stamp *stamp) {
     uint64_t before = entries_of(registry);
     struct purvilgo_outcome outcome;
@@ -262,7 +263,7 @@ static bool run(struct purvilgo_registry *registry, struct bytes file, const str
     return failed;
 }
 
-/* The acknowledgement of the last run is told, without a request: no bytes where it was stopped. */
+/* The acknowledgement of the last run is given, without a request: no bytes if it was stopped. */
 static void tell_last(struct purvilgo_registry *registry, bool stopped, bool same) {
     size_t length, requests = asked;
     uint32_t status;
@@ -276,7 +277,7 @@ static void tell_last(struct purvilgo_registry *registry, bool stopped, bool sam
     counts = false;
 }
 
-/* The register is told, and is that of as many entries as there are. */
+/* The register is given, with all entries that there are. */
 static void tell_register(struct purvilgo_registry *registry, bool same) {
     struct purvilgo_register_fault fault;
     uint64_t entries = 0;
@@ -291,8 +292,8 @@ static void tell_register(struct purvilgo_registry *registry, bool same) {
     }
 }
 
-/* A registry is opened, a file is run twice, and all is told and freed. What is told is that of the first run as long as
- * no run was refused memory. */
+/* A registry is opened, a file is run twice, and all is given and freed. What is given is that of the first run as
+ * long as no allocation of a run failed. */
 static void carry_on(struct bytes file, struct bytes text, const struct purvilgo_stamp *stamp) {
     struct purvilgo_registry registry = PURVILGO_REGISTRY_SHUT;
     bool stopped, any = false;
@@ -309,7 +310,7 @@ static void carry_on(struct bytes file, struct bytes text, const struct purvilgo
     must(held == 0 && registry.at == NULL, "a registry that was closed holds memory");
 }
 
-/* What the library is and what a status means are told without a request. */
+/* What the library is and what a status means are given without a request. */
 static void about(void) {
     size_t length, requests = asked;
     fill(&length);

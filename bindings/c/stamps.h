@@ -7,7 +7,7 @@
 #include <stdlib.h>
 #include <string.h>
 
-/* Fills a stamp from a society's number and name, a date and a time. 0 where the number is one of at most 999, and each
+/* Fills a stamp from a society's number and name, a date and a time. 0 if the number is one of at most 999, and each
  * other part has its width. */
 static inline int set_stamp(struct purvilgo_stamp *stamp, char **words) {
     size_t digits = strspn(words[0], "0123456789");
@@ -24,7 +24,7 @@ static inline int set_stamp(struct purvilgo_stamp *stamp, char **words) {
     return 0;
 }
 
-/* Whether the library takes a stamp: it answers that before it looks at the file, which has no bytes here. */
+/* Whether the library takes a stamp: it checks that before it looks at the file, which has no bytes here. */
 static inline bool is_stamp(const struct purvilgo_stamp *stamp) {
     struct purvilgo_outcome outcome;
     uint8_t none[1] = {0};
@@ -41,7 +41,7 @@ static inline void tell(const char *path, const struct purvilgo_outcome *outcome
         fwrite(line, 1, length, stdout);
 }
 
-/* Tells what a status means on standard error, behind the name of what it is said of. */
+/* Prints what a status means on standard error, behind a name. */
 static inline void tell_status(const char *name, uint32_t status) {
     uint8_t text[64];
     size_t length = 0;

@@ -1,4 +1,4 @@
-/* Tells a text of the library, as the program's command of that name prints it.
+/* Prints a text of the library, as the program's command of that name prints it.
  *
  *     tell check FILE, or check-long FILE, or check-json FILE
  *     tell explain [RULE]
@@ -6,7 +6,7 @@
  *     tell verify REGISTER FILE..      each with its acknowledgement, FILE.ack
  *     tell version
  *
- * The status is 0 where a file is clean, a register has no fault, and files are verified; 2 for words that are not taken
+ * The status is 0 if a file is clean, a register has no fault, and files are verified; 2 for words that are not taken
  * and files that cannot be read; else 1. */
 #include "files.h"
 #include "purvilgo.h"
@@ -15,7 +15,7 @@
 #include <stdlib.h>
 #include <string.h>
 
-/* A call that gives a text, what it reads, and what it tells beside the text. */
+/* A call that gives a text, what it reads, and what it sets beside the text. */
 struct question {
     const char *call;
     struct bytes text;
@@ -23,7 +23,7 @@ struct question {
     struct purvilgo_register_fault fault;
 };
 
-/* Makes the call of a question, with this room for its text. */
+/* Makes the call of a question, with this buffer for its text. */
 static uint32_t ask(struct question *q, uint8_t *out, size_t size, size_t *length) {
     const uint8_t *at = q->text.at;
     size_t n = q->text.length;
@@ -45,19 +45,19 @@ static uint32_t ask(struct question *q, uint8_t *out, size_t size, size_t *lengt
     return purvilgo_summary(at, n, out, size, length, &q->fault);
 }
 
-/* Tells what a status means on standard error. */
+/* Prints what a status means on standard error. */
 static int wrong(uint32_t status) {
     tell_status("tell", status);
     return 1;
 }
 
-/* Tells the first fault of a register. */
+/* Prints the first fault of a register. */
 static int faulty(const struct purvilgo_register_fault *fault) {
     printf("refused G%" PRIu32 " at line %" PRIu64 "\n", fault->number, fault->line);
     return 1;
 }
 
-/* Asks with a room that may do, and again with one that does. */
+/* Makes the call with a buffer that is likely to suffice, and again with one that does. */
 static int answer(struct question *q) {
     size_t size = q->text.length + 4096, length = 0;
     uint8_t *out = malloc(size);
@@ -75,7 +75,7 @@ static int answer(struct question *q) {
     return status == PURVILGO_DONE ? !q->clean : wrong(status);
 }
 
-/* Tells which file does not fit a register, and what of it. */
+/* Prints which file does not fit a register, and what of it. */
 static int unverified(char **names, const struct purvilgo_misfit *misfit) {
     const char *name = names[misfit->file];
     if (misfit->kind == PURVILGO_FILE_TOO_LONG)
@@ -83,14 +83,14 @@ static int unverified(char **names, const struct purvilgo_misfit *misfit) {
     if (misfit->kind == PURVILGO_FILE_REFUSED)
         printf("%s: refused F%" PRIu32 " at line %" PRIu64 "\n", name, misfit->fault, misfit->line);
     if (misfit->kind == PURVILGO_OTHER_TRANSACTION)
-        printf("%s: group %" PRIu32 ", transaction %" PRIu32 ": not in the register as %s.ack tells it\n", name,
+        printf("%s: group %" PRIu32 ", transaction %" PRIu32 ": not in the register as %s.ack has it\n", name,
                misfit->group, misfit->transaction, name);
     if (misfit->kind == PURVILGO_OTHER_LINE)
         printf("%s.ack: line %" PRIu64 " is another in the register\n", name, misfit->line);
     return 1;
 }
 
-/* Reads a file, and says so on standard error where it cannot be read. */
+/* Reads a file. If it cannot be read, that is printed on standard error. */
 static struct bytes read_or_tell(const char *path) {
     struct bytes file = read_file(path);
     if (!file.at)
@@ -98,7 +98,7 @@ static struct bytes read_or_tell(const char *path) {
     return file;
 }
 
-/* Reads each file and its acknowledgement. Those that cannot be read are null. False where one is. */
+/* Reads each file and its acknowledgement. Those that cannot be read are null. False if one is. */
 static bool read_all(int count, char **names, struct purvilgo_sent *sent) {
     bool all = true;
     for (int i = 0; i < count; i++) {
@@ -137,7 +137,7 @@ static int verify(struct bytes text, int count, char **names) {
     return told;
 }
 
-/* Tells the version, as the program does. */
+/* Prints the version, as the program does. */
 static int version(void) {
     uint8_t text[64];
     size_t length = 0;

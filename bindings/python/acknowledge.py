@@ -1,9 +1,9 @@
 #!/usr/bin/env python3
-"""Acknowledges files, each into an empty registry: writes FILE.ack, and tells what became of FILE.
+"""Acknowledges files, each into an empty registry: writes FILE.ack, and prints how that ended.
 
     acknowledge.py SOCIETY NAME YYYYMMDD HHMMSS FILE..
 
-The status is 0 where all files were acknowledged, else 1.
+The status is 0 if all files were acknowledged, else 1.
 """
 
 import datetime

@@ -1,9 +1,9 @@
 #!/usr/bin/env python3
-"""Audits a register: tells what `purvilgo audit` tells of it.
+"""Audits a register: prints what `purvilgo audit` prints of it.
 
     audit.py REGISTER
 
-The status is 0 where it is the register of one registry, else 1.
+The status is 0 if it is the register of one registry, else 1.
 """
 
 import pathlib

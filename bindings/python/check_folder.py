@@ -3,7 +3,7 @@
 
     check_folder.py FOLDER
 
-The status is 0 where all files are clean, else 1.
+The status is 0 if all files are clean, else 1.
 """
 
 import pathlib

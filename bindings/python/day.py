@@ -1,20 +1,20 @@
 #!/usr/bin/env python3
-"""Carries a register on for a day: runs files, one after the other, against the registry that REGISTER tells.
+"""Continues a register for a day: runs files, one after the other, against the registry of REGISTER.
 
     day.py [--begin] REGISTER SOCIETY NAME YYYYMMDD HHMMSS FILE..
 
-With --begin it runs them against an empty one, and REGISTER may not be there; else it must be, so that no wrong word
-begins a second history. Tells what became of each FILE as `purvilgo run` does, and writes REGISTER anew and FILE.ack of
-each that was acknowledged. The register takes its name first, so that nobody finds an answer that it does not know; where
-it cannot be kept, no answer is left, and where an answer then cannot take its name, it stays in FILE.ack.new. It does not
-wait for the disk, as `purvilgo run` does: a crash of the system may take what was written back.
+With --begin it runs them against an empty one, and REGISTER may not exist. Otherwise it must exist, so that no wrong name
+begins a second history. It prints how the work on each FILE ended, as `purvilgo run` does, and writes REGISTER again and
+FILE.ack of each that was acknowledged. The register takes its name first, so that nobody finds an answer that it does not
+have. If it cannot be kept, no answer is left. If an answer then cannot take its name, it stays in FILE.ack.new. Unlike
+`purvilgo run` it does not wait for the disk: a crash of the system may undo what was written.
 
-REGISTER.lock is locked from before REGISTER is read until all is in place, so that of two at one register, this one or
-`purvilgo run`, the second tells that it is in use, and reads and writes nothing. Where REGISTER is a link, the file that it
+REGISTER.lock is locked from before REGISTER is read until all is in place. So of two programs at one register, this one or
+`purvilgo run`, the second prints that it is in use, and reads and writes nothing. If REGISTER is a link, the file that it
 leads to is locked and replaced.
 
-What cannot be read or kept is told on standard error. The status is 0 where all files were acknowledged and all was
-written; 2 where the words are no stamp, or name one file twice; else 1.
+What cannot be read or kept is reported on standard error. The status is 0 if all files were acknowledged and all was
+written; 2 if the words are no stamp, or name one file twice; else 1.
 """
 
 import contextlib
@@ -37,13 +37,13 @@ def tell(text: str) -> None:
 
 
 def drop(path: str) -> None:
-    """Takes a draft away."""
+    """Removes a draft."""
     with contextlib.suppress(OSError):
         os.unlink(path + ".new")
 
 
 def place(path: str) -> Tuple[int, int, str]:
-    """Where a name leads: to a file, or, where there is none, to the folder in which it would be made, under this name."""
+    """Where a name leads: to a file, or, if there is none, to the folder in which it would be made, under this name."""
     folder, name = os.path.split(path)
     for there, name_there in ((path, ""), (folder or ".", name)):
         with contextlib.suppress(OSError):
@@ -54,7 +54,7 @@ def place(path: str) -> Tuple[int, int, str]:
 
 def is_named_twice(kept: str, files: List[str]) -> bool:
     """Whether one file would be read or written under two names: each FILE, FILE.ack, REGISTER, their drafts and the lock
-    are different ones, but that a draft may be one with what it is to replace."""
+    are different ones, except that a draft may be one with what it is to replace."""
     apart = [{place(kept + ".lock")}, {place(kept), place(kept + ".new")}]
     for path in files:
         apart += [{place(path)}, {place(path + ".ack"), place(path + ".ack.new")}]
@@ -88,8 +88,8 @@ def open_registry(path: str, begin: bool) -> purvilgo.Registry:
 
 
 def run(registry: purvilgo.Registry, path: str, stamp: purvilgo.Stamp) -> bool:
-    """Runs one file, and leaves its acknowledgement as a draft. Whether it was acknowledged, and is written. What was
-    decided of a file that is stopped stays in the registry, as in that of `purvilgo run`."""
+    """Runs one file, and leaves its acknowledgement as a draft. Returns whether it was acknowledged, and is written. What
+    was decided of a file that is stopped stays in the registry, as in that of `purvilgo run`."""
     try:
         answer = registry.run(pathlib.Path(path).read_bytes(), stamp)
     except OSError:
@@ -119,7 +119,7 @@ def keep(registry: purvilgo.Registry, path: str) -> None:
 
 
 def day(registry: purvilgo.Registry, kept: str, stamp: purvilgo.Stamp, files: List[str]) -> bool:
-    """Runs all files, and keeps the register and then the acknowledgements. Whether all of it is in place."""
+    """Runs all files, and keeps the register and then the acknowledgements. Returns whether all of it is in place."""
     written: List[str] = []
     try:
         for path in files:

@@ -17,11 +17,11 @@ file to file. Bytes in, bytes out.
 
 All of it is done by the library `libpurvilgo.so`, which is looked for at the path in the environment variable
 `PURVILGO_LIBRARY`, then beside this file, then in `bindings/out`, and then where the system keeps libraries. Calls on
-different data may run in different threads at once, and calls of one registry one after the other. Want of memory is a
-`MemoryError`, whatever memory it was.
+different data may run in different threads at once, and calls of one registry one after the other. An allocation that
+fails is a `MemoryError`, whatever it was for.
 
-Texts of a register have each byte as the character with its number, and blanks behind them, which `rstrip(" ")` takes
-off: `rstrip()` would take the bytes 85 and A0 too, which may belong to a letter of the text.
+Texts of a register have each byte as the character with its number, and blanks behind them, which `rstrip(" ")`
+removes: `rstrip()` would remove the bytes 85 and A0 too, which may belong to a letter of the text.
 """
 
 from __future__ import annotations
@@ -53,7 +53,7 @@ _DONE, _NO_ROOM, _NO_MEMORY, _BAD_STAMP, _FAULTY, _NO_OUTCOME, _SHUT, _ALREADY_O
 
 
 class Kind(enum.IntEnum):
-    """What became of a file."""
+    """How the work on a file ended."""
 
     ACKNOWLEDGED = 0
     REFUSED = 1
@@ -61,7 +61,7 @@ class Kind(enum.IntEnum):
 
 
 class Cause(enum.IntEnum):
-    """Why a file was stopped; `NONE` of any other."""
+    """Why a file was stopped; `NONE` for any other file."""
 
     NONE = 0
     MEMORY = 1
@@ -73,7 +73,7 @@ class Cause(enum.IntEnum):
 
 
 class Misfit(enum.IntEnum):
-    """What of a file and a register does not fit."""
+    """What does not fit between a file and a register."""
 
     TOO_LONG = 1
     REFUSED = 2
@@ -94,8 +94,8 @@ class RegisterError(ValueError):
 
 
 class StoppedError(MemoryError):
-    """There was no memory to run a file to its end. `outcome` tells how many of its transactions were decided: these stay
-    in the registry, and there is no acknowledgement of them."""
+    """An allocation failed before a file was run to its end. `outcome` has the number of its transactions that were
+    decided: these stay in the registry, and there is no acknowledgement of them."""
 
     def __init__(self, outcome: Outcome) -> None:
         super().__init__(str(outcome))
@@ -152,9 +152,9 @@ class _Misfit(ctypes.Structure):
 class MisfitError(ValueError):
     """Files that a register does not hold as they were answered. `file` is the number of the first such file, from 0, and
     `kind` what of it does not fit. `REFUSED`: its first fault, 1 to 12 for F1 to F12, at `line`. `TRANSACTION`: the
-    register has no entry for it, with the reply that the acknowledgement tells: its group's ID and its number in the group,
-    from 0. `LINE`: `line` of the acknowledgement is another; one whose first line is none of an acknowledgement is told so
-    before anything else of its file. What does not belong to a kind is 0."""
+    register has no entry for it, with the reply that the acknowledgement has: its group's ID and its number in the group,
+    from 0. `LINE`: `line` of the acknowledgement is another. An acknowledgement whose first line is not that of one is
+    reported as this before anything else of its file. What does not belong to a kind is 0."""
 
     def __init__(self, kind: Misfit, file: int, fault: int, line: int, group: int, transaction: int) -> None:
         told = {
@@ -195,7 +195,7 @@ def _find() -> str:
 
 
 def _load() -> ctypes.CDLL:
-    """The library; `ImportError` names what is none, or has not all of its calls."""
+    """The library; `ImportError` names a file that is not the library, or does not have all of its calls."""
     path = _find()
     try:
         return _typed(ctypes.CDLL(path))
@@ -244,7 +244,7 @@ _library = _load()
 
 
 def _answered(status: int) -> None:
-    """Raises what a status stands for, with its text. Of a fault or a misfit the caller tells more."""
+    """Raises what a status stands for, with its text. The caller adds more to a fault or a misfit."""
     if status == _NO_MEMORY:
         raise MemoryError(_status_text(status))
     if status not in (_DONE, _FAULTY, _UNVERIFIED):
@@ -252,14 +252,14 @@ def _answered(status: int) -> None:
 
 
 def _given(given: Bytes) -> bytes:
-    """The bytes of what is given. `bytes(given)` alone would make a path its name, and a number so many zeros."""
+    """The bytes of what is given. `bytes(given)` alone would make a path its name, and a number that many zeros."""
     if isinstance(given, (bytes, bytearray, memoryview)):
         return bytes(given)
     raise TypeError(f"bytes are wanted, as pathlib.Path(..).read_bytes() gives them, and not {type(given).__name__}")
 
 
 def _told(size: int, call: Callable[..., int]) -> bytes:
-    """The text of a call, which is given a room of `size` bytes and, where that is too small, one that is not."""
+    """The text of a call, which is given a buffer of `size` bytes and, if that is too small, one that suffices."""
     length = ctypes.c_size_t()
     while True:
         room = ctypes.create_string_buffer(max(size, 1))
@@ -281,8 +281,8 @@ __version__ = _told(16, _library.purvilgo_version).decode("ascii")
 
 @dataclass(frozen=True)
 class Check:
-    """What is told of a file before it is sent: the text of `purvilgo check`, of `--long` or of `--json`, and whether the
-    file has no fault."""
+    """The check of a file before it is sent: the text of `purvilgo check`, of `--long` or of `--json`, and whether the file
+    has no fault."""
 
     text: str
     clean: bool
@@ -313,7 +313,7 @@ class WrongByte:
 @dataclass(frozen=True)
 class Fault:
     """A fault: the rule that is broken, as J4 or F9, and its text; the line, from 1, and its record; and what was expected.
-    `group`, `transaction` and `sequence` are `None` where the line is in none."""
+    `group`, `transaction` and `sequence` are `None` if the line is in none."""
 
     rule: str
     text: str
@@ -345,8 +345,8 @@ class Remark:
 
 @dataclass(frozen=True)
 class Findings:
-    """What a check finds in a file: its faults, of a file that is refused the first one alone, and its remarks; whether it
-    is refused; how many transactions it has, and how many of them have faults, 0 where it is refused."""
+    """What a check finds in a file: its faults, or the first one alone if the file is refused, and its remarks; whether it
+    is refused; the number of its transactions, and of those with faults, 0 if it is refused."""
 
     faults: Tuple[Fault, ...]
     remarks: Tuple[Remark, ...]
@@ -366,7 +366,7 @@ class Findings:
 @dataclass(frozen=True)
 class Stamp:
     """Who acknowledges, and when: a society's number (CISAC), at most 999, its name, and a date and a time. A name that is
-    a `str` is written in Latin-1. `TypeError` and `ValueError` say which of them is none."""
+    a `str` is written in Latin-1. `TypeError` and `ValueError` say which of them is not valid."""
 
     society: int
     name: Union[str, bytes]
@@ -403,15 +403,15 @@ class Stamp:
 
 @dataclass(frozen=True)
 class Outcome:
-    """What became of a file. What does not belong to its kind is 0."""
+    """How the work on a file ended. What does not belong to its kind is 0."""
 
     kind: Kind
     #: refused: the first fault, 1 to 12 for F1 to F12, and its line, from 1
     fault: int
     line: int
-    #: acknowledged: how many transactions the file has; stopped: how many were decided
+    #: acknowledged: the number of transactions of the file; stopped: the number of those that were decided
     transactions: int
-    #: stopped: why, and for a write how many bytes of the acknowledgement were written
+    #: stopped: why, and for a write the number of bytes of the acknowledgement that were written
     cause: Cause
     sent: int
 
@@ -433,8 +433,8 @@ class Outcome:
 
 @dataclass(frozen=True)
 class Acknowledgement:
-    """What became of a file, and its acknowledgement file; the bytes are empty where it was not acknowledged, and it is
-    false then."""
+    """How the work on a file ended, and its acknowledgement file. The bytes are empty if it was not acknowledged, and the
+    object is false then."""
 
     outcome: Outcome
     file: bytes
@@ -450,7 +450,7 @@ def _outcome(numbers: _Outcome) -> Outcome:
 
 
 def _checked(call: Callable[..., int], file: Bytes, bytes_of_one: int, encoding: str) -> Check:
-    """What a call that checks a file tells of it, mostly a byte for so many of the file."""
+    """The result of a call that checks a file. Its text mostly has a byte for each `bytes_of_one` bytes of the file."""
     file = _given(file)
     clean = ctypes.c_bool()
     text = _told(4096 + len(file) // bytes_of_one, lambda *room: call(file, len(file), *room, ctypes.byref(clean)))
@@ -463,7 +463,7 @@ def check(file: Bytes) -> Check:
 
 
 def check_long(file: Bytes) -> Check:
-    """The same for a person: of each fault its line, its field, what stands there and what was expected, and then the
+    """The same for a person: for each fault its line, its field, what stands there and what was expected, and then the
     remarks. Each byte of the file that the text shows is the character with its number."""
     return _checked(_library.purvilgo_check_long, file, 1, "latin-1")
 
@@ -484,7 +484,7 @@ def findings(file: Bytes) -> Findings:
 
 
 def _made(kind: Type[Any], members: Dict[str, Any]) -> Any:
-    """An object of these members. Those that it has no place for are passed over: later versions may have more."""
+    """An object of these members. Those that it has no place for are skipped: later versions may have more."""
     return kind(**{name: members[name] for name in kind.__dataclass_fields__})
 
 
@@ -495,9 +495,9 @@ def _fault(members: Dict[str, Any]) -> Fault:
 
 
 def explain(word: str = "") -> str:
-    """What a rule asks, an example of what breaks it, and how to mend that, of a rule as F9, J11 or 011; or what an answer
-    means, AS, DU, CO or RJ, and what a publisher does then; without a word all of them. `ValueError` where a word names
-    neither."""
+    """For a rule as F9, J11 or 011: what it requires, an example that breaks it, and how to fix that. For an answer,
+    AS, DU, CO or RJ: what it means, and what a publisher does then. Without a word, all of them. `ValueError` if a word
+    names neither."""
     name = word.encode("utf-8")
     try:
         text = _told(2048 if word else 16384, lambda *room: _library.purvilgo_explain(name, len(name), *room))
@@ -509,7 +509,7 @@ def explain(word: str = "") -> str:
 def acknowledge(file: Bytes, stamp: Stamp) -> Acknowledgement:
     """Acknowledges one file into an empty registry.
 
-    A file that is not well-formed is no error: the outcome tells its fault. `ValueError` for a stamp that is none.
+    A file that is not well-formed is no error: the outcome has its fault. `ValueError` for a stamp that is not valid.
     """
     file = _given(file)
     who = stamp._bytes()
@@ -527,7 +527,8 @@ def acknowledge(file: Bytes, stamp: Stamp) -> Acknowledgement:
 
 
 def audit(register: Bytes) -> int:
-    """How many entries a register has, once each of its decisions is made anew; `RegisterError` where it is none."""
+    """The number of entries of a register, after each of its decisions was made again; `RegisterError` if it is no
+    register."""
     register = _given(register)
     entries = ctypes.c_uint64()
     fault = _RegisterFault()
@@ -540,8 +541,9 @@ def audit(register: Bytes) -> int:
 
 def verify(register: Bytes, files: Iterable[Tuple[Bytes, Bytes]]) -> int:
     """Checks a register against files that were sent and their acknowledgements, each a pair, in the order in which they
-    were run: how many transactions they have, once each of them is judged anew, and its entry is found with the reply that
-    was acknowledged. `MisfitError` tells the first file that does not fit; `RegisterError` where the register is none."""
+    were run. Returns the number of their transactions, after each of them was judged again, and its entry found with the
+    reply that was acknowledged. `MisfitError` has the first file that does not fit; `RegisterError` if the register is no
+    register."""
     register = _given(register)
     pairs = [(_given(file), _given(acknowledgement)) for file, acknowledgement in files]
     sent = (_Sent * max(len(pairs), 1))(*((file, len(file), answer, len(answer)) for file, answer in pairs))
@@ -562,7 +564,7 @@ def verify(register: Bytes, files: Iterable[Tuple[Bytes, Bytes]]) -> int:
 
 
 def _table(call: Callable[..., int], register: Bytes) -> bytes:
-    """What a call tells of a register; `RegisterError` where it is none."""
+    """The text that a call gives of a register; `RegisterError` if it is no register."""
     register = _given(register)
     fault = _RegisterFault()
 
@@ -581,17 +583,17 @@ def _rows(table: bytes) -> List[Dict[str, str]]:
 
 
 def claims_csv(register: Bytes) -> bytes:
-    """The current claims of a register, as `purvilgo claims` prints them; `RegisterError` where it is none."""
+    """The current claims of a register, as `purvilgo claims` prints them; `RegisterError` if it is no register."""
     return _table(_library.purvilgo_claims, register)
 
 
 def works_csv(register: Bytes) -> bytes:
-    """The works of a register, as `purvilgo works` prints them; `RegisterError` where it is none."""
+    """The works of a register, as `purvilgo works` prints them; `RegisterError` if it is no register."""
     return _table(_library.purvilgo_works, register)
 
 
 def history_csv(register: Bytes) -> bytes:
-    """Every entry of a register, as `purvilgo history` prints them; `RegisterError` where it is none."""
+    """Every entry of a register, as `purvilgo history` prints them; `RegisterError` if it is no register."""
     return _table(_library.purvilgo_history, register)
 
 
@@ -611,13 +613,13 @@ def history(register: Bytes) -> List[Dict[str, str]]:
 
 
 def summary(register: Bytes) -> str:
-    """How much of what is in a register, as `purvilgo summary` prints it; `RegisterError` where it is none."""
+    """A summary of a register, as `purvilgo summary` prints it; `RegisterError` if it is no register."""
     return _table(_library.purvilgo_summary, register).decode("ascii")
 
 
 class Registry:
     """A registry of musical works, which goes on from file to file: `Registry()` is an empty one, `Registry.open(register)`
-    the one that a register tells.
+    the one of a register.
 
     It holds all that was decided, in memory, until `close`; as a context manager it closes itself. A call of one that is
     closed is a `ValueError`. Threads may share it: their calls wait for one another. It is not copied or pickled: the copy
@@ -631,9 +633,10 @@ class Registry:
 
     @classmethod
     def open(cls, register: Bytes) -> Registry:
-        """The registry that a register tells, once each of its decisions is made anew; `RegisterError` where it is none.
+        """The registry of a register, after each of its decisions was made again; `RegisterError` if it is no register.
 
-        Who writes its register back, in place of that one, keeps others from it meanwhile: the library locks nothing.
+        A program that writes its register back, in place of that one, has to keep others from it meanwhile: the library
+        locks nothing.
         `purvilgo run --to` holds an exclusive `flock` on the empty file REGISTER.lock, and so does `day.py`.
         """
         register = _given(register)
@@ -652,8 +655,8 @@ class Registry:
     def run(self, file: Bytes, stamp: Stamp) -> Acknowledgement:
         """Runs one file: decides its transactions, in file order, after all that was decided before.
 
-        A file that is not well-formed is no error: the outcome tells its fault. `ValueError` for a stamp that is none,
-        `StoppedError` for want of memory, which is a `MemoryError`.
+        A file that is not well-formed is no error: the outcome has its fault. `ValueError` for a stamp that is not valid,
+        `StoppedError` if an allocation fails, which is a `MemoryError`.
         """
         file = _given(file)
         who = stamp._bytes()
@@ -671,7 +674,7 @@ class Registry:
 
     @property
     def entries(self) -> int:
-        """How many transactions were decided, those of the register that it was opened from among them."""
+        """The number of decided transactions, those of the register that it was opened from included."""
         with self._lock:
             return self._entries()
 

@@ -1,5 +1,5 @@
 #!/usr/bin/env python3
-"""Tells a text of the library, as the program's command of that name prints it.
+"""Prints a text of the library, as the program's command of that name prints it.
 
     tell.py check FILE, or check-long FILE, or check-json FILE
     tell.py explain [RULE]
@@ -7,7 +7,7 @@
     tell.py verify REGISTER FILE..      each with its acknowledgement, FILE.ack
     tell.py version
 
-The status is 0 where a file is clean, a register has no fault, and files are verified; 2 for words that are not taken and
+The status is 0 if a file is clean, a register has no fault, and files are verified; 2 for words that are not taken and
 files that cannot be read; else 1.
 """
 
@@ -30,13 +30,13 @@ TABLES = {
 
 
 def misfit(names: "list[str]", told: purvilgo.MisfitError) -> str:
-    """What does not fit, with the name of its file, as `purvilgo verify` tells it."""
+    """What does not fit, with the name of its file, as `purvilgo verify` prints it."""
     name = names[told.file]
     return {
         purvilgo.Misfit.TOO_LONG: f"{name}: too long",
         purvilgo.Misfit.REFUSED: f"{name}: refused F{told.fault} at line {told.line}",
         purvilgo.Misfit.TRANSACTION: f"{name}: group {told.group}, transaction {told.transaction}: "
-        f"not in the register as {name}.ack tells it",
+        f"not in the register as {name}.ack has it",
         purvilgo.Misfit.LINE: f"{name}.ack: line {told.line} is another in the register",
     }[told.kind]
 
@@ -75,7 +75,7 @@ def tell(call: str, words: "list[str]") -> int:
 
 
 def is_taken(call: str, words: "list[str]") -> bool:
-    """Whether there is a call of this name, for as many words."""
+    """Whether there is a call of this name, for this number of words."""
     if call == "version":
         return not words
     if call == "explain":

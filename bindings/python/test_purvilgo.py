@@ -31,7 +31,7 @@ def example(name: str) -> bytes:
 
 
 def file_of_works(count: int, first: int = 0) -> bytes:
-    """A submission of so many works, each with a number of its own, from `first` on, and a writer who holds all rights."""
+    """A submission of `count` works, each with a number of its own, from `first` on, and a writer who holds all rights."""
     header, group, work, writer, _, _ = example("accepted.v22").splitlines(keepends=True)
     lines = [header, group]
     for i in range(count):
@@ -115,7 +115,7 @@ class Findings(unittest.TestCase):
 class Explain(unittest.TestCase):
     def test_rules(self) -> None:
         page = purvilgo.explain("F9")
-        self.assertTrue(page.startswith("F9 the counts of GRT are not those of the group\n  asks: "))
+        self.assertTrue(page.startswith("F9 the counts of GRT are not those of the group\n  requires: "))
         self.assertEqual(page.count("\n"), 4)
         self.assertIn(page, purvilgo.explain())
 
@@ -235,7 +235,7 @@ class About(unittest.TestCase):
         registry.close()
         with self.assertRaises(ValueError) as caught:
             registry.register()
-        self.assertEqual(str(caught.exception), "the registry is shut")
+        self.assertEqual(str(caught.exception), "the registry is closed")
 
 
 class Acknowledge(unittest.TestCase):
@@ -387,7 +387,7 @@ class Registry(unittest.TestCase):
 
 
 class Day(unittest.TestCase):
-    """What `day.py` leaves where the library has no memory, in a folder of its own."""
+    """What `day.py` leaves if an allocation of the library fails, in a folder of its own."""
 
     def setUp(self) -> None:
         folder = tempfile.TemporaryDirectory()
@@ -397,7 +397,7 @@ class Day(unittest.TestCase):
             shutil.copy(EXAMPLES / name, self.folder)
 
     def day(self) -> "tuple[int, str, str]":
-        """The status, and what is told of two files on standard output and on standard error."""
+        """The status, standard output and standard error for two files."""
         files = [str(self.folder / name) for name in ("accepted.v22", "duplicate.v22")]
         out, error = io.TextIOWrapper(io.BytesIO()), io.StringIO()
         with contextlib.redirect_stdout(out), contextlib.redirect_stderr(error):

@@ -47,30 +47,30 @@ long_with s w limit a b rest i =
     omega (arith, read, within, cut, sum)
 
 -- the bytes between those that are passed and what follows, cut at another place
-cut_on : (passed held piece : List ℕ) (n : ℕ) → (passed ++ held) ++ piece ≡ (passed ++ take n held) ++ (drop n held ++ piece)
-cut_on passed held piece n =
-    ap (λ (xs : List ℕ). (passed ++ xs) ++ piece) (sym (take-append-drop n held))
-    ∙ ap (λ (xs : List ℕ). xs ++ piece) (sym (append_assoc passed (take n held) (drop n held)))
-    ∙ append_assoc (passed ++ take n held) (drop n held) piece
+cut_on : (passed held chunk : List ℕ) (n : ℕ) → (passed ++ held) ++ chunk ≡ (passed ++ take n held) ++ (drop n held ++ chunk)
+cut_on passed held chunk n =
+    ap (λ (xs : List ℕ). (passed ++ xs) ++ chunk) (sym (take-append-drop n held))
+    ∙ ap (λ (xs : List ℕ). xs ++ chunk) (sym (append_assoc passed (take n held) (drop n held)))
+    ∙ append_assoc (passed ++ take n held) (drop n held) chunk
 
-pub taking_goes : (s t : Left) (w v u : WindowState) (limit n : ℕ) (a b c : Option (List ℕ)) (piece : List ℕ) → IsTaking s w limit a b → v ≡ record w { held = drop n w.held } → HasRead v u b c piece
+pub taking_goes : (s t : Left) (w v u : WindowState) (limit n : ℕ) (a b c : Option (List ℕ)) (chunk : List ℕ) → IsTaking s w limit a b → v ≡ record w { held = drop n w.held } → HasRead v u b c chunk
     → ((text later : List ℕ) → s text (w.held ++ later) → t text (drop n w.held ++ later)) → IsTaking t u limit a c
-taking_goes s t w v u limit n a b c piece i pass h on =
-    let held : u.held ≡ drop n w.held ++ piece = h.held ∙ ap (λ (x : WindowState). x.held ++ piece) pass in
-    let cut = cut_on i.passed w.held piece n in
+taking_goes s t w v u limit n a b c chunk i pass h on =
+    let held : u.held ≡ drop n w.held ++ chunk = h.held ∙ ap (λ (x : WindowState). x.held ++ chunk) pass in
+    let cut = cut_on i.passed w.held chunk n in
     let limit_is : u.limit ≡ limit = h.limit ∙ ap (λ (x : WindowState). x.limit) pass ∙ i.limit_is in
     let passed = i.passed ++ take n w.held in
-    let whole : (i.passed ++ w.held) ++ piece ≡ passed ++ u.held = cut ∙ ap (λ (xs : List ℕ). passed ++ xs) (sym held) in
+    let whole : (i.passed ++ w.held) ++ chunk ≡ passed ++ u.held = cut ∙ ap (λ (xs : List ℕ). passed ++ xs) (sym held) in
     let P : List ℕ → Type 0 = λ xs. Consumes a c xs in
     let read = h.read in
     let read_on = ap (λ (x : WindowState). x.read) pass in
     let so_far = i.read in
-    let sum = length-append (i.passed ++ w.held) piece in
+    let sum = length-append (i.passed ++ w.held) chunk in
     let long = ap length whole in
     let within = h.within in
     record {
       passed = passed;
-      consumed = subst P whole (both a b c (i.passed ++ w.held) piece i.consumed h.consumed);
+      consumed = subst P whole (both a b c (i.passed ++ w.held) chunk i.consumed h.consumed);
       read = omega (arith, read, read_on, so_far, sum, long);
       left = left held;
       limit_is = limit_is;
@@ -78,14 +78,14 @@ taking_goes s t w v u limit n a b c piece i pass h on =
       at_end = h.at_end;
     }
   where
-    left : u.held ≡ drop n w.held ++ piece → (rest : List ℕ) → t ((i.passed ++ take n w.held) ++ (u.held ++ rest)) (u.held ++ rest)
+    left : u.held ≡ drop n w.held ++ chunk → (rest : List ℕ) → t ((i.passed ++ take n w.held) ++ (u.held ++ rest)) (u.held ++ rest)
     left held rest =
-        let ends : drop n w.held ++ (piece ++ rest) ≡ u.held ++ rest = sym (append_assoc (drop n w.held) piece rest) ∙ ap (λ (xs : List ℕ). xs ++ rest) (sym held) in
-        let text : i.passed ++ (w.held ++ (piece ++ rest)) ≡ (i.passed ++ take n w.held) ++ (u.held ++ rest) =
-        sym (append_assoc i.passed w.held (piece ++ rest)) ∙ cut_on i.passed w.held (piece ++ rest) n ∙ ap (λ (xs : List ℕ). (i.passed ++ take n w.held) ++ xs) ends in
+        let ends : drop n w.held ++ (chunk ++ rest) ≡ u.held ++ rest = sym (append_assoc (drop n w.held) chunk rest) ∙ ap (λ (xs : List ℕ). xs ++ rest) (sym held) in
+        let text : i.passed ++ (w.held ++ (chunk ++ rest)) ≡ (i.passed ++ take n w.held) ++ (u.held ++ rest) =
+        sym (append_assoc i.passed w.held (chunk ++ rest)) ∙ cut_on i.passed w.held (chunk ++ rest) n ∙ ap (λ (xs : List ℕ). (i.passed ++ take n w.held) ++ xs) ends in
         let P : List ℕ → Type 0 = λ xs. t xs (u.held ++ rest) in
-        let Q : List ℕ → Type 0 = λ xs. t (i.passed ++ (w.held ++ (piece ++ rest))) xs in
-        subst P text (subst Q ends (on (i.passed ++ (w.held ++ (piece ++ rest))) (piece ++ rest) (i.left (piece ++ rest))))
+        let Q : List ℕ → Type 0 = λ xs. t (i.passed ++ (w.held ++ (chunk ++ rest))) xs in
+        subst P text (subst Q ends (on (i.passed ++ (w.held ++ (chunk ++ rest))) (chunk ++ rest) (i.left (chunk ++ rest))))
 
 -- ---- what is answered
 

@@ -1,5 +1,5 @@
--- What a write tells of the sink. What reads and writes do to the bytes of a source and a sink is said in std's own
--- words of `Io.KnownBytes`: there `Some` bytes are told by the type, and `None` claims nothing.
+-- What the result of a write says about the sink. What reads and writes do to the bytes of a source and a sink is said
+-- in std's own words of `Io.KnownBytes`: there `Some` bytes are known, and `None` claims nothing.
 use Rattle.std.specs.Prelude.{ℕ, Bool, true, not, ◌==◌, ◌&&◌, List, length, Result, Ok, Err}
 
 -- the write of these bytes failed, or took none of some bytes

@@ -5,8 +5,8 @@ use Rattle.byte_streams.specs.declared.consuming.ConsumeError.{ConsumeError}
 use Rattle.byte_streams.specs.declared.consuming.ConsumeError.TheVariants.{Unread, Refused}
 use Rattle.byte_streams.specs.declared.reading.ReadRefused.TheVariants.{Memory, Read, TooLong}
 
--- Why the text of a reader was not consumed: memory was refused, a read failed, there are bytes past the limit, or the
--- text is refused so.
+-- Why the text of a reader was not consumed: an allocation failed, a read failed, there are bytes past the limit, or
+-- the text has this refusal.
 abbrev pub IsUnconsumed : {R : Type 0} → (R → List ℕ → Type 0) → (R → Bool) → ℕ → Option (List ℕ) → Bool → ConsumeError R → Type 0
 IsUnconsumed is_refusal is_memory limit left failed (Unread Memory) = failed ≡ false
 IsUnconsumed is_refusal is_memory limit left failed (Unread Read) = failed ≡ true
@@ -14,7 +14,8 @@ IsUnconsumed is_refusal is_memory limit left failed (Unread TooLong) = (failed �
 IsUnconsumed is_refusal is_memory limit left failed (Refused refusal) =
     (failed ≡ false) × (is_memory refusal ≡ false) × ((text : List ℕ) × IfSome left (λ bytes. text ≡ bytes) × (length text ≤ limit) × is_refusal refusal text)
 
--- what is answered of a text that is refused so, of which so much stands in a window
+-- what is answered where a text is refused with `refusal` while its first bytes stand in a window: the refusal itself,
+-- once the text was read to its end, or why reading stopped before that
 abbrev pub IsAnswerTo : {R : Type 0} → (R → Bool) → WindowState → Option (List ℕ) → Option (List ℕ) → Bool → R → ConsumeError R → Type 0
 IsAnswerTo is_memory window left_before left_after failed refusal (Unread why) = IsStopped window left_before left_after failed why
 IsAnswerTo is_memory window left_before left_after failed refusal (Refused told) =

@@ -2,6 +2,7 @@
 use Rattle.std.specs.Prelude.{ℕ, List, Option}
 use Rattle.std.specs.Io.KnownBytes.{Consumes}
 
--- it gave the first of the bytes that were left to it, where it tells them, and the others are left
+-- of the bytes left to a reader before, it gave the first ones, and the others are left; `None` where its bytes are
+-- not known
 abbrev pub HasGiven : Option (List ℕ) → Option (List ℕ) → Type 0
 HasGiven before after = (bytes : List ℕ) × Consumes before after bytes

@@ -8,39 +8,39 @@ ghost use Rattle.byte_streams.specs.GivenBytes.{HasGiven};
 use crate::{ReadRefused, Source, Window};
 use std::alloc::Allocator;
 
-/// Consumes a text that comes a piece at a time, and makes something of it.
+/// Consumes a text that comes a chunk at a time, and makes a value from it.
 pub trait Consumer: Drop {
-    /// What is made of the whole text.
+    /// The value that is made from the complete text.
     type Made;
 
-    /// Why nothing is made of it.
+    /// Why no value is made from the text.
     type Refusal: Drop;
 
-    // What it has become since it was the first of the two: of this text, these last bytes are left.
+    // The second consumer is what the first has become since: of this text, these last bytes are left.
     ghost has_left: { Self → Self → List ℕ → List ℕ → Type 0 };
 
-    // A text may have so many bytes.
+    // A text may be this many bytes long.
     ghost allows: { ℕ → Type 0 };
 
-    // This is made of this text, by what it was at first.
+    // The consumer makes this value from this text.
     ghost is_made: { Self → Self.Made → List ℕ → Type 0 };
 
-    // The text is refused so.
+    // The text is refused with this refusal.
     ghost is_refusal: { Self.Refusal → List ℕ → Type 0 };
 
-    // It is refused for want of memory, whatever the text is.
+    // The refusal is for out of memory, whatever the text is.
     ghost is_memory: { Self.Refusal → Bool };
 
-    /// Whether a text is refused for want of memory.
+    /// Whether a refusal is for out of memory.
     fn is_memory(refusal: &Self::Refusal) -> bool
         ensures { result ≡ is_memory refusal.now };
 
-    /// Consumes the whole lines of a piece, and answers how many bytes they are.
-    fn take(&mut self, piece: &[u8]) -> Result<usize, Self::Refusal>
-        requires { (first : Self) × (text later : List ℕ) × (limit : ℕ) × allows limit × (length text ≤ limit + length later) × has_left first self.old text (piece.now ++ later) }
-        ensures within { IfOk result (λ count. count ≤ length piece.now) }
-        ensures left { IfOk result (λ count. (first : Self) (text later : List ℕ) → has_left first self.old text (piece.now ++ later) → has_left first self.new text (drop count piece.now ++ later)) }
-        ensures fault { IfErr result (λ refusal. (first : Self) (text later : List ℕ) → has_left first self.old text (piece.now ++ later) → is_refusal refusal text) };
+    /// Consumes the complete lines at the front of a chunk, and returns how many bytes they are.
+    fn take(&mut self, chunk: &[u8]) -> Result<usize, Self::Refusal>
+        requires { (first : Self) × (text later : List ℕ) × (limit : ℕ) × allows limit × (length text ≤ limit + length later) × has_left first self.old text (chunk.now ++ later) }
+        ensures within { IfOk result (λ count. count ≤ length chunk.now) }
+        ensures left { IfOk result (λ count. (first : Self) (text later : List ℕ) → has_left first self.old text (chunk.now ++ later) → has_left first self.new text (drop count chunk.now ++ later)) }
+        ensures fault { IfErr result (λ refusal. (first : Self) (text later : List ℕ) → has_left first self.old text (chunk.now ++ later) → is_refusal refusal text) };
 
     /// Consumes the rest of the text.
     fn end(self, rest: &[u8]) -> Result<Self::Made, Self::Refusal>
@@ -54,19 +54,25 @@ pub trait Consumer: Drop {
 pub enum ConsumeError<R> {
     /// It was not read to its end, or memory was refused.
     Unread(ReadRefused),
-    /// Its consumer refuses it.
+    /// Its consumer refused it.
     Refused(R),
 }
 
-/// What a consumer makes of the text that a source gives, of at most `limit` bytes.
+/// What a consumer makes of the text that a source gives.
 ///
-/// The text is consumed as it comes, through a window of `room` bytes. Where the consumer refuses it, it is read to its
-/// end before that is answered, but for want of memory, which is answered at once.
+/// - `alloc` is where the window gets its memory.
+/// - `reader` is the source, and has not failed.
+/// - `limit` is the greatest number of bytes of the text.
+/// - `capacity` is the size of the window in bytes. The window grows beyond it only for a line that is longer.
+/// - `consumer` is given the text as it comes.
+///
+/// Where the consumer refuses the text, the source is read to its end before the refusal is returned. A refusal for out
+/// of memory is returned at once.
 pub fn consume<S: Source, C: Consumer, A: Allocator>(
     alloc: A,
     reader: &mut S,
     limit: usize,
-    room: usize,
+    capacity: usize,
     mut consumer: C,
 ) -> Result<C::Made, ConsumeError<C::Refusal>>
     requires going { S.has_failed reader.old ≡ false }
@@ -78,7 +84,7 @@ pub fn consume<S: Source, C: Consumer, A: Allocator>(
     ensures read_on { HasGiven (S.left reader.old) (S.left reader.new) }
     ensures few_reads { S.reads reader.new ≤ S.reads reader.old + limit + 1 }
 {
-    let Ok(mut window) = Window::new(alloc, limit, room) else {
+    let Ok(mut window) = Window::new(alloc, limit, capacity) else {
         return Err(ConsumeError::Unread(ReadRefused::Memory));
     };
     while !window.is_ended() {
@@ -97,8 +103,8 @@ pub fn consume<S: Source, C: Consumer, A: Allocator>(
     }
 }
 
-/// What is answered of a text that is refused so: want of memory at once, and any other refusal once it was read to its
-/// end.
+/// The error for a text that its consumer refused. A refusal for out of memory is returned at once; any other one once
+/// the source was read to its end.
 fn refused<S: Source, C: Consumer, A: Allocator>(
     window: &mut Window<A>,
     reader: &mut S,

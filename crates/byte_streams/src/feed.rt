@@ -4,13 +4,13 @@ ghost use Rattle.std.specs.Io.KnownBytes.{ReadConsumes};
 use crate::{Failed, ReadCount, Source};
 use std::marker::Model;
 
-/// A source over bytes in memory, which gives them a piece at a time.
+/// A source over bytes in memory, which gives them a chunk at a time.
 #[derive(Debug, Drop)]
 pub struct Feed<'a> {
     left: &'a [u8],
-    piece: usize,
+    chunk: usize,
     fail: Option<u64>,
-    /// The number of reads so far, as far as a `u64` counts.
+    /// The number of reads so far. It stops counting at the greatest `u64`.
     begun: u64,
     failed: bool,
     reads: ReadCount,
@@ -24,29 +24,31 @@ impl<'a> Model for Feed<'a> {
 
     ghost view = { λ f. record {
       left = f.left.now;
-      piece = f.piece;
+      chunk = f.chunk;
       fail = f.fail;
       reads = f.reads;
       has_failed = f.failed;
     } };
 
-    ghost invariant = { λ f. (0 < f.piece) × (f.begun ≡ min f.reads (2 ^ 64 - 1)) };
+    ghost invariant = { λ f. (0 < f.chunk) × (f.begun ≡ min f.reads (2 ^ 64 - 1)) };
 }
 
 impl<'a> Feed<'a> {
-    /// Gives the bytes, at most `piece` of them in a read, which is not 0, and fails at the read `fail`, counted from 1;
-    /// at none for `None` and for 0.
-    pub fn new(bytes: &'a [u8], piece: usize, fail: Option<u64>) -> Feed<'a>
-        requires { 0 < piece }
+    /// A source over these bytes.
+    ///
+    /// A read gives at most `chunk` bytes; `chunk` is not 0. The read with the number `fail`, counted from 1, fails.
+    /// For `None` and for 0 none fails.
+    pub fn new(bytes: &'a [u8], chunk: usize, fail: Option<u64>) -> Feed<'a>
+        requires { 0 < chunk }
         ensures left { result.left ≡ bytes.now }
-        ensures piece { result.piece ≡ piece }
+        ensures chunk { result.chunk ≡ chunk }
         ensures fail { result.fail ≡ fail }
         ensures unread { result.reads ≡ 0 }
         ensures works { result.has_failed ≡ false }
     {
         Feed {
             left: bytes,
-            piece,
+            chunk,
             fail,
             begun: 0,
             failed: false,
@@ -54,7 +56,7 @@ impl<'a> Feed<'a> {
         }
     }
 
-    /// Counts a read that begins, and answers whether it is the one that fails.
+    /// Counts a read that begins, and returns whether it is the one that fails.
     fn begin(&mut self) -> bool
         ensures counted { self.new ≡ record self.old { reads = self.old.reads + 1 } }
         ensures fails { IsTrue result ↔ (self.old.fail ≡ Some (self.old.reads + 1)) }
@@ -81,27 +83,27 @@ impl Source for Feed<'_> {
         self.failed
     }
 
-    /// Gives as many bytes as are left, at most `piece` and at most as the room has places.
-    fn read_some(&mut self, room: &mut [u8]) -> Result<usize, Failed>
+    /// Gives as many bytes as are left, at most `chunk` and at most as many as the buffer holds.
+    fn read_some(&mut self, buffer: &mut [u8]) -> Result<usize, Failed>
         requires { self.old.has_failed ≡ false }
-        ensures bound { IfOk result (λ n. n ≤ length room.new) }
-        ensures bytes { ReadConsumes (Some self.old.left) (Some self.new.left) result room.new }
+        ensures bound { IfOk result (λ n. n ≤ length buffer.new) }
+        ensures bytes { ReadConsumes (Some self.old.left) (Some self.new.left) result buffer.new }
         ensures counted { self.new.reads ≡ self.old.reads + 1 }
         ensures fails { self.new.has_failed ≡ is_err result }
 
-        // How many it gives, at which read it fails, and that both rules stay.
+        // How many bytes it gives, at which read it fails, and that both rules stay.
         ensures amount { IfOk result (λ n.
-            n ≡ min (min (length self.old.left) self.old.piece) (length room.old)) }
+            n ≡ min (min (length self.old.left) self.old.chunk) (length buffer.old)) }
         ensures fails_at { IsErr result ↔ (self.old.fail ≡ Some (self.old.reads + 1)) }
-        ensures same { (self.new.piece ≡ self.old.piece) × (self.new.fail ≡ self.old.fail) }
+        ensures same { (self.new.chunk ≡ self.old.chunk) × (self.new.fail ≡ self.old.fail) }
     {
         if self.begin() {
             self.failed = true;
             return Err(Failed);
         }
-        let n = self.left.len().min(self.piece).min(room.len());
+        let n = self.left.len().min(self.chunk).min(buffer.len());
         let (given, left) = self.left.split_at(n);
-        room[..n].copy_from_slice(given);
+        buffer[..n].copy_from_slice(given);
         self.left = left;
         Ok(n)
     }

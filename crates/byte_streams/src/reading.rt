@@ -20,13 +20,13 @@ pub enum ReadRefused {
 }
 
 /// How many bytes are asked for at a time.
-const PIECE: usize = 65536;
+const CHUNK: usize = 65536;
 
-/// Reads to the end, and at most `limit` bytes.
+/// Reads to the end, at most `limit` bytes.
 ///
-/// It asks for 65,536 bytes at a time, so up to that many past the limit may have been read. It ends after at most
-/// `limit` + 2 reads, however few bytes each of them gives. With an error the bytes that were read are dropped;
-/// the reader holds those behind them.
+/// It asks for 65,536 bytes at a time, so up to that many past the limit may have been read. It makes at most `limit` +
+/// 2 reads, however few bytes each of them gives. With an error the bytes that were read are dropped, and the source
+/// stands behind them.
 pub fn read_file<R: Source, A: Allocator>(
     alloc: A,
     reader: &mut R,
@@ -41,13 +41,13 @@ pub fn read_file<R: Source, A: Allocator>(
     ensures few_reads { R.reads reader.new ≤ R.reads reader.old + limit + 2 }
 {
     let mut text = Vec::new(alloc);
-    let mut room = [0u8; PIECE];
+    let mut buffer = [0u8; CHUNK];
     while text.len() <= limit {
-        match reader.read_some(&mut room) {
+        match reader.read_some(&mut buffer) {
             Err(_) => return Err(ReadRefused::Read),
             Ok(0) => return Ok(text),
             Ok(n) => {
-                if text.extend_from_slice(&room[..n]).is_err() {
+                if text.extend_from_slice(&buffer[..n]).is_err() {
                     return Err(ReadRefused::Memory);
                 }
             }

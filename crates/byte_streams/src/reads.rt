@@ -2,7 +2,7 @@ use std::fmt;
 use std::marker::Model;
 use std::snapshot::Snapshot;
 
-/// How often a source was read, for contracts alone: a number with no greatest value, which takes no memory.
+/// How often a source was read, for contracts alone: a number without an upper bound, which takes no memory.
 ///
 /// A source keeps one and counts each of its reads. A contract sees it as the number.
 #[derive(Drop)]

@@ -33,9 +33,10 @@ impl<A: Allocator> Model for Room<A> {
 }
 
 impl<A: Allocator> Room<A> {
-    /// A sink that takes `size` bytes in all. When it is full it fails, or takes 0 bytes where `fails` is false.
+    /// A sink that takes `size` bytes in all. When it is full it fails; where `fails` is false, it takes 0 bytes
+    /// instead.
     ///
-    /// All its memory is asked for here, and no later call takes any.
+    /// All its memory is asked for here. No later call asks for any.
     pub fn new(alloc: A, size: usize, fails: bool) -> Result<Room<A>, Memory>
         ensures empty { IfOk result (λ r. r.taken ≡ []) }
         ensures size { IfOk result (λ r. r.size ≡ size) }
@@ -76,7 +77,7 @@ impl<A: Allocator> Sink for Room<A> {
         ensures bytes { WriteAppends (Some self.old.taken) (Some self.new.taken) result bytes.now }
         ensures fails { self.new.has_failed ≡ stalls result bytes.now }
 
-        // How many it takes, when it fails, and that both rules stay.
+        // How many bytes it takes, when it fails, and that both rules stay.
         ensures amount { IfOk result (λ n.
             n ≡ min (length bytes.now) (self.old.size - length self.old.taken)) }
         ensures fails_when_full { IsErr result ↔

@@ -9,7 +9,7 @@ use thiserror::Error;
 ///
 /// Once a write failed, or took none of some bytes, the sink has failed, and no call may write to it again.
 pub trait Sink {
-    // The bytes that it took so far, where the type tells them.
+    // The bytes that it took so far; `None` for a type whose bytes contracts do not see.
     ghost taken: { Self → Option (List ℕ) };
 
     // A write failed, or took none of some bytes.
@@ -19,9 +19,9 @@ pub trait Sink {
     fn failed(&self) -> bool
         ensures { result ≡ has_failed self.now };
 
-    /// Takes the first of the bytes, and answers how many.
+    /// Takes the first of the bytes, and returns how many.
     ///
-    /// A write that answers [`Failed`] took no byte.
+    /// A write that returns [`Failed`] took no byte.
     fn write_some(&mut self, bytes: &[u8]) -> Result<usize, Failed>
         requires { has_failed self.old ≡ false }
         ensures bound { IfOk result (λ n. n ≤ length bytes.now) }
@@ -29,9 +29,9 @@ pub trait Sink {
         ensures fails { has_failed self.new ≡ stalls result bytes.now };
 }
 
-/// A text that did not go out whole: a write failed or took nothing after its first `sent` bytes.
+/// A text that did not go out completely: a write failed or took nothing after the first `sent` bytes of the text.
 ///
-/// These bytes, fewer than all, stand in the sink, and no others of the text.
+/// The sink took these bytes, which are fewer than all, and no others of the text.
 #[derive(Clone, Copy, Debug, PartialEq, Eq, Error)]
 #[error("write after {sent} bytes")]
 pub struct WriteStopped {

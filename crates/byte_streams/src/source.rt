@@ -7,7 +7,7 @@ use crate::Failed;
 ///
 /// Once a read failed the source has failed, and no call may read it again.
 pub trait Source {
-    // The bytes that reads will give from here on, where the type tells them.
+    // The bytes that reads will give from here on; `None` for a type whose bytes contracts do not see.
     ghost left: { Self → Option (List ℕ) };
 
     // The number of reads so far, the failed one included.
@@ -20,14 +20,14 @@ pub trait Source {
     fn failed(&self) -> bool
         ensures { result ≡ has_failed self.now };
 
-    /// Reads the next bytes into the front of the room, and answers how many: at most as many as the room has
-    /// places, and 0 into some room only at the end.
+    /// Reads the next bytes into the front of the buffer, and returns how many: at most as many as the buffer holds.
     ///
-    /// What then stands in the room behind them is left open. A read that answers [`Failed`] gave no byte.
-    fn read_some(&mut self, room: &mut [u8]) -> Result<usize, Failed>
+    /// It returns 0 for a buffer that is not empty only at the end of the source. What the buffer holds behind the
+    /// bytes that were read is left open. A read that returns [`Failed`] gave no byte.
+    fn read_some(&mut self, buffer: &mut [u8]) -> Result<usize, Failed>
         requires { has_failed self.old ≡ false }
-        ensures bound { IfOk result (λ n. n ≤ length room.new) }
-        ensures bytes { ReadConsumes (left self.old) (left self.new) result room.new }
+        ensures bound { IfOk result (λ n. n ≤ length buffer.new) }
+        ensures bytes { ReadConsumes (left self.old) (left self.new) result buffer.new }
         ensures counted { reads self.new ≡ reads self.old + 1 }
         ensures fails { has_failed self.new ≡ is_err result };
 }

@@ -6,9 +6,9 @@ use crate::{Failed, Memory, Sink};
 use std::alloc::{Allocator, Global};
 use std::marker::Model;
 
-/// A sink that keeps all that it takes in memory, which grows as it needs.
+/// A sink that keeps all that it takes in memory, which grows as needed.
 ///
-/// It is for a text whose size is not known beforehand; [`Room`](crate::Room) asks for all its memory at once.
+/// It is for a text whose size is not known beforehand. [`Room`](crate::Room) asks for all its memory at once.
 #[derive_where(Debug)]
 #[derive(Drop)]
 pub struct Spool<A: Allocator = Global> {
@@ -24,7 +24,7 @@ impl<A: Allocator> Model for Spool<A> {
 
     ghost view = { λ s. record {
       taken = s.bytes.items;
-      room = vec_capacity s.bytes;
+      capacity = vec_capacity s.bytes;
       has_failed = s.failed;
     } };
 }
@@ -41,15 +41,15 @@ impl<A: Allocator> Spool<A> {
         }
     }
 
-    /// A sink that takes its first `room` bytes, at least, without asking for memory.
-    pub fn with_room(alloc: A, room: usize) -> Result<Spool<A>, Memory>
+    /// A sink that takes at least its first `capacity` bytes without asking for more memory.
+    pub fn with_capacity(alloc: A, capacity: usize) -> Result<Spool<A>, Memory>
         ensures empty { IfOk result (λ s. s.taken ≡ []) }
-        ensures room { IfOk result (λ s. room ≤ s.room) }
+        ensures room { IfOk result (λ s. capacity ≤ s.capacity) }
         ensures works { IfOk result (λ s. s.has_failed ≡ false) }
-        ensures none_needed { room ≡ 0 → IsOk result }
+        ensures none_needed { capacity ≡ 0 → IsOk result }
     {
         Ok(Spool {
-            bytes: Vec::with_capacity(alloc, room)?,
+            bytes: Vec::with_capacity(alloc, capacity)?,
             failed: false,
         })
     }
@@ -79,7 +79,7 @@ impl<A: Allocator> Sink for Spool<A> {
         self.failed
     }
 
-    /// Takes all of the bytes. It fails where memory is refused, which is not asked for while there is room.
+    /// Takes all of the bytes. It fails where memory is refused. While there is room, no memory is asked for.
     fn write_some(&mut self, bytes: &[u8]) -> Result<usize, Failed>
         requires { self.old.has_failed ≡ false }
         ensures bound { IfOk result (λ n. n ≤ length bytes.now) }
@@ -88,8 +88,8 @@ impl<A: Allocator> Sink for Spool<A> {
 
         // It takes all or none, and none only where there is no room for them.
         ensures all { IfOk result (λ n. n ≡ length bytes.now) }
-        ensures takes_in_room { length self.old.taken + length bytes.now ≤ self.old.room → IsOk result }
-        ensures room { self.old.room ≤ self.new.room }
+        ensures takes_in_room { length self.old.taken + length bytes.now ≤ self.old.capacity → IsOk result }
+        ensures room { self.old.capacity ≤ self.new.capacity }
     {
         match self.bytes.extend_from_slice(bytes) {
             Ok(()) => Ok(bytes.len()),

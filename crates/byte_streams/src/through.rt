@@ -6,14 +6,14 @@ use crate::{Failed, ReadCount, Sink, Source};
 use std::io::{self, ErrorKind, Read, Write};
 use std::marker::Model;
 
-/// How many more times [`Through`] makes a call of a reader or a writer that was interrupted.
-pub const MOST_REPEATS: u32 = 8;
+/// How many times [`Through`] repeats a call of a reader or a writer that was interrupted.
+pub const MAX_REPEATS: u32 = 8;
 
 /// A source over a reader of std, and a sink over a writer of std.
 ///
-/// As a source or a sink it tells no bytes. Each of its calls makes one call of the reader or the writer. Where that is
-/// interrupted ([`ErrorKind::Interrupted`]) it makes the call again, at most [`MOST_REPEATS`] times. Any other error is a
-/// failure at once, and so is an interruption after the last repeat: the reader or the writer is not called again.
+/// Contracts do not see its bytes. Each of its calls makes one call of the reader or the writer. Where that call is
+/// interrupted ([`ErrorKind::Interrupted`]), it is made again, at most [`MAX_REPEATS`] times. An interruption after the
+/// last repeat, and any other error, is a failure: the reader or the writer is not called again.
 #[derive(Debug, Drop)]
 pub struct Through<T> {
     inner: T,
@@ -67,19 +67,19 @@ impl<T: Read> Source for Through<T> {
         self.failed
     }
 
-    /// Reads once from the reader, or again where that is interrupted.
-    fn read_some(&mut self, room: &mut [u8]) -> Result<usize, Failed>
+    /// Reads once from the reader, and again where that is interrupted.
+    fn read_some(&mut self, buffer: &mut [u8]) -> Result<usize, Failed>
         requires { self.old.has_failed ≡ false }
-        ensures bound { IfOk result (λ n. n ≤ length room.new) }
+        ensures bound { IfOk result (λ n. n ≤ length buffer.new) }
         ensures counted { self.new.reads ≡ self.old.reads + 1 }
         ensures fails { self.new.has_failed ≡ is_err result }
 
         // What is known of the reader's own bytes stays known.
         ensures inner { ReadConsumes
-            (T.remaining self.old.inner) (T.remaining self.new.inner) result room.new }
+            (T.remaining self.old.inner) (T.remaining self.new.inner) result buffer.new }
     {
         self.reads.count();
-        match read_repeatedly(&mut self.inner, room) {
+        match read_repeatedly(&mut self.inner, buffer) {
             Ok(n) => Ok(n),
             Err(_) => {
                 self.failed = true;
@@ -98,7 +98,7 @@ impl<T: Write> Sink for Through<T> {
         self.failed
     }
 
-    /// Writes once to the writer, or again where that is interrupted.
+    /// Writes once to the writer, and again where that is interrupted.
     fn write_some(&mut self, bytes: &[u8]) -> Result<usize, Failed>
         requires { self.old.has_failed ≡ false }
         ensures bound { IfOk result (λ n. n ≤ length bytes.now) }
@@ -122,17 +122,17 @@ impl<T: Write> Sink for Through<T> {
 }
 
 /// Reads once from a reader, and again as long as that is interrupted, up to the last repeat.
-fn read_repeatedly<T: Read>(reader: &mut T, room: &mut [u8]) -> io::Result<usize>
-    ensures bound { IfOk result (λ n. n ≤ length room.new) }
-    ensures bytes { ReadConsumes (T.remaining reader.old) (T.remaining reader.new) result room.new }
+fn read_repeatedly<T: Read>(reader: &mut T, buffer: &mut [u8]) -> io::Result<usize>
+    ensures bound { IfOk result (λ n. n ≤ length buffer.new) }
+    ensures bytes { ReadConsumes (T.remaining reader.old) (T.remaining reader.new) result buffer.new }
 {
-    for _ in 0..MOST_REPEATS {
-        match reader.read(room) {
+    for _ in 0..MAX_REPEATS {
+        match reader.read(buffer) {
             Err(error) if error.kind() == ErrorKind::Interrupted => {}
             answer => return answer,
         }
     }
-    reader.read(room)
+    reader.read(buffer)
 }
 
 /// Writes once to a writer, and again as long as that is interrupted, up to the last repeat.
@@ -140,7 +140,7 @@ fn write_repeatedly<T: Write>(writer: &mut T, bytes: &[u8]) -> io::Result<usize>
     ensures bound { IfOk result (λ n. n ≤ length bytes.now) }
     ensures bytes { WriteAppends (T.contents writer.old) (T.contents writer.new) result bytes.now }
 {
-    for _ in 0..MOST_REPEATS {
+    for _ in 0..MAX_REPEATS {
         match writer.write(bytes) {
             Err(error) if error.kind() == ErrorKind::Interrupted => {}
             answer => return answer,

@@ -10,19 +10,19 @@ use cwr_field::{Memory, line_end};
 use std::alloc::{Allocator, Global};
 use std::marker::Model;
 
-/// How many bytes a window has at first, where it may have so many.
+/// How many bytes a window has at first, unless its capacity is less.
 const FIRST_ROOM: usize = 8192;
 
-/// What of a source was read and not passed. Of a source that fills it, it has as many bytes as it may have, and more only
-/// for a line that is longer.
+/// The bytes of a source that were read and not passed yet.
 ///
-/// A contract sees the bytes that are held, how many were read, how many may be, and whether the source has ended.
+/// It begins small, grows to its capacity for a source that fills it, and grows beyond that only for a line that is
+/// longer. A contract sees the bytes that are held, how many were read, the limit, and whether the source has ended.
 #[derive(Drop)]
 pub struct Window<A: Allocator = Global> {
     bytes: Vec<u8, A>,
-    /// How many bytes it may have, where no line is longer.
-    room: usize,
-    /// Where the bytes begin and end that were read and not passed.
+    /// Its size in bytes, unless a line is longer.
+    capacity: usize,
+    /// Where the bytes that were read and not passed begin (`start`) and end (`end`).
     start: usize,
     end: usize,
     read: usize,
@@ -42,13 +42,14 @@ impl<A: Allocator> Model for Window<A> {
 }
 
 impl<A: Allocator> Window<A> {
-    /// A window of at most `room` bytes on a source of at most `limit`, of which none was read.
-    pub fn new(alloc: A, limit: usize, room: usize) -> Result<Window<A>, Memory>
+    /// A window on a source of at most `limit` bytes, of which none was read. It has at most `capacity` bytes, unless a
+    /// line is longer.
+    pub fn new(alloc: A, limit: usize, capacity: usize) -> Result<Window<A>, Memory>
         ensures { IfOk result (λ window. window ≡ record { held = []; read = 0; limit = limit; is_ended = false }) }
     {
         Ok(Window {
-            bytes: vec![in alloc; 0; room.min(FIRST_ROOM)]?,
-            room,
+            bytes: vec![in alloc; 0; capacity.min(FIRST_ROOM)]?,
+            capacity,
             start: 0,
             end: 0,
             read: 0,
@@ -57,7 +58,7 @@ impl<A: Allocator> Window<A> {
         })
     }
 
-    /// Reads to the end, and keeps none of it.
+    /// Reads to the end of the source, and keeps none of its bytes.
     pub fn drain<R: Source>(&mut self, reader: &mut R) -> Result<(), ReadRefused>
         requires going { R.has_failed reader.old ≡ false }
         requires at_end { self.old.is_ended ≡ true → IsAtEnd (R.left reader.old) }
@@ -90,7 +91,7 @@ impl<A: Allocator> Window<A> {
         &self.bytes[self.start..self.end]
     }
 
-    /// Passes the first of the bytes that are held.
+    /// Passes the first `count` of the bytes that are held: they are held no longer.
     pub fn pass(&mut self, count: usize)
         requires { count ≤ length self.old.held }
         ensures { self.new ≡ record self.old { held = drop count self.old.held } }
@@ -98,13 +99,14 @@ impl<A: Allocator> Window<A> {
         self.start += count;
     }
 
-    /// Reads behind the bytes that are held, up to some LF or the end: so a long line is looked through once, however
-    /// few bytes a read gives.
+    /// Reads behind the bytes that are held, until an LF was read or the source has ended.
+    ///
+    /// So a long line is searched once, however few bytes a read gives.
     pub fn fill_line<R: Source>(&mut self, reader: &mut R) -> Result<(), ReadRefused>
         requires going { R.has_failed reader.old ≡ false }
         requires open { self.old.is_ended ≡ false }
         requires within { self.old.read ≤ self.old.limit }
-        ensures read { OnOk result ((piece : List ℕ) × HasRead self.old self.new (R.left reader.old) (R.left reader.new) piece) }
+        ensures read { OnOk result ((chunk : List ℕ) × HasRead self.old self.new (R.left reader.old) (R.left reader.new) chunk) }
         ensures stopped { IfErr result (IsStopped self.old (R.left reader.old) (R.left reader.new) (R.has_failed reader.new)) }
         ensures going { OnOk result (R.has_failed reader.new ≡ false) }
         ensures read_on { HasGiven (R.left reader.old) (R.left reader.new) }
@@ -125,13 +127,13 @@ impl<A: Allocator> Window<A> {
     fn fill<R: Source>(&mut self, reader: &mut R) -> Result<(), ReadRefused>
         requires going { R.has_failed reader.old ≡ false }
         requires within { self.old.read ≤ self.old.limit }
-        ensures read { OnOk result ((piece : List ℕ) × HasRead self.old self.new (R.left reader.old) (R.left reader.new) piece) }
+        ensures read { OnOk result ((chunk : List ℕ) × HasRead self.old self.new (R.left reader.old) (R.left reader.new) chunk) }
         ensures stopped { IfErr result (IsStopped self.old (R.left reader.old) (R.left reader.new) (R.has_failed reader.new)) }
         ensures going { OnOk result (R.has_failed reader.new ≡ false) }
         ensures read_on { HasGiven (R.left reader.old) (R.left reader.new) }
         ensures counted { R.reads reader.new ≤ R.reads reader.old + 1 }
     {
-        let Ok(()) = make_room(&mut self.bytes, self.start, self.end, self.room) else {
+        let Ok(()) = make_room(&mut self.bytes, self.start, self.end, self.capacity) else {
             return Err(ReadRefused::Memory);
         };
         let end = self.end - self.start;
@@ -150,13 +152,15 @@ impl<A: Allocator> Window<A> {
     }
 }
 
-/// Moves the bytes between two positions to the front of a window, and makes it larger where there are bytes up to its
-/// end: up to `room` bytes, and above that where they fill it.
+/// Moves the bytes from `start` to `end` to the front of a window, and makes the window larger where it is full.
+///
+/// A window below `capacity` whose bytes reach its end grows to `capacity`. Any other window that is full of held bytes
+/// doubles.
 fn make_room<A: Allocator>(
     bytes: &mut Vec<u8, A>,
     start: usize,
     end: usize,
-    room: usize,
+    capacity: usize,
 ) -> Result<(), Memory>
     requires ordered { start ≤ end }
     requires inside { end ≤ vec_len bytes.old }
@@ -168,8 +172,8 @@ fn make_room<A: Allocator>(
         bytes.copy_within(start..end, 0);
     }
     let size = bytes.len();
-    if end == size && size < room {
-        bytes.resize(room, 0)?;
+    if end == size && size < capacity {
+        bytes.resize(capacity, 0)?;
     } else if end - start == size {
         bytes.resize(if size == 0 { 1 } else { 2 * size }, 0)?;
     }

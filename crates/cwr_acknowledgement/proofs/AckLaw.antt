@@ -11,9 +11,9 @@ use Rattle.cwr_record.specs.declared.control.Header.{Header}
 use Rattle.cwr_record.specs.declared.works.WorkKind.{WorkKind}
 use Rattle.cwr_record.specs.declared.status.Status.{Status}
 use Rattle.cwr_call.specs.declared.transaction_fault.Fault.{Fault}
-use Rattle.cwr_acknowledgement.specs.AckItem.{Item, told_faults}
+use Rattle.cwr_acknowledgement.specs.AckItem.{Item, reported_faults}
 use Rattle.cwr_acknowledgement.specs.Messages.{message_text}
-use Rattle.cwr_acknowledgement.specs.Acknowledgement.{file_start, group_start, group_end, file_end, told_count, ended, ack_record, message_record, message_lines, all_item_lines, ack_text, FitsFault, IsWholeItem}
+use Rattle.cwr_acknowledgement.specs.Acknowledgement.{file_header, group_header, group_trailer, file_trailer, reported_fault_count, ended, ack_record, message_record, message_lines, all_item_lines, ack_text, FitsFault, IsWholeItem}
 use Rattle.cwr_record.proofs.lemmas.Codes.{same_kind, same_status, length-work_kind_code, length-status_text}
 use Rattle.cwr_acknowledgement.proofs.AckTexts.{Fills, same_ended, same_number}
 use Rattle.cwr_acknowledgement.proofs.AckValues.{same_work, same_padded, length-padded_work, length-message_text}
@@ -142,19 +142,19 @@ whole_faults [] fits types = tt
 whole_faults (fault ∷ faults) fits types = (record { fits = fits.0; type = types.0 }, whole_faults faults fits.1 types.1)
 
 -- the faults that a whole item tells are whole
-whole_told : (item : Item) → IsWholeItem item → AllByRecursion IsWholeFault (told_faults item)
+whole_told : (item : Item) → IsWholeItem item → AllByRecursion IsWholeFault (reported_faults item)
 whole_told item whole =
     let P : List Fault → Type 0 = λ faults. AllByRecursion (λ (fault : Fault). length fault.rtype ≡ 3) faults in
-    whole_faults (told_faults item) whole.fits.faults (subst P (sym whole.told) whole.types)
+    whole_faults (reported_faults item) whole.fits.faults (subst P (sym whole.told) whole.types)
 
 -- the text of the first item, and what follows
 first_item : (stamp : StampParts) (header : Header) (i : ℕ) (item : Item) (items : List Item) (r : List ℕ)
     → flat_map ended (all_item_lines stamp header i (item ∷ items)) ++ r
     ≡ ended (line_of table.ack (ack_record stamp header i item))
-    ++ (flat_map ended (message_lines i 1 (told_faults item)) ++ (flat_map ended (all_item_lines stamp header (i + 1) items) ++ r))
+    ++ (flat_map ended (message_lines i 1 (reported_faults item)) ++ (flat_map ended (all_item_lines stamp header (i + 1) items) ++ r))
 first_item stamp header i item items r =
     let a = ended (line_of table.ack (ack_record stamp header i item)) in
-    let messages = message_lines i 1 (told_faults item) in
+    let messages = message_lines i 1 (reported_faults item) in
     let rest = all_item_lines stamp header (i + 1) items in
     ap (λ text. (a ++ text) ++ r) (flat_map-append ended messages rest)
     ∙ append_assoc a (flat_map ended messages ++ flat_map ended rest) r
@@ -179,8 +179,8 @@ told_by_lines stamp header i (a ∷ items) [] r s p q ends end e = absurd (no_ac
 told_by_lines stamp header i (a ∷ items) (b ∷ others) r s p q ends end e =
     let xs = flat_map ended (all_item_lines stamp header (i + 1) items) ++ r in
     let ys = flat_map ended (all_item_lines stamp header (i + 1) others) ++ s in
-    let of_a = told_faults a in
-    let of_b = told_faults b in
+    let of_a = reported_faults a in
+    let of_b = reported_faults b in
     let decision = told_by_ack stamp header i a b (flat_map ended (message_lines i 1 of_a) ++ xs) (flat_map ended (message_lines i 1 of_b) ++ ys) p.0 q.0
     (sym (first_item stamp header i a items r) ∙ e ∙ first_item stamp header i b others s) in
     let faults = told_by_messages i 1 of_a of_b xs ys (whole_told a p.0) (whole_told b q.0)
@@ -191,23 +191,23 @@ told_by_lines stamp header i (a ∷ items) (b ∷ others) r s p q ends end e =
 
 -- the text of the two last lines
 abbrev end_text : List Item → List ℕ
-end_text items = flat_map ended (line_of control.group_trailer (group_end (length items) (told_count items)) ∷ line_of control.file_trailer (file_end (length items) (told_count items)) ∷ [])
+end_text items = flat_map ended (line_of control.group_trailer (group_trailer (length items) (reported_fault_count items)) ∷ line_of control.file_trailer (file_trailer (length items) (reported_fault_count items)) ∷ [])
 
 -- the text, part by part
 after_start : (stamp : StampParts) (header : Header) (items : List Item)
     → ack_text stamp header items
-    ≡ ended (line_of control.header (file_start stamp)) ++ (ended (line_of control.group_head group_start) ++ (flat_map ended (all_item_lines stamp header 0 items) ++ end_text items))
+    ≡ ended (line_of control.header (file_header stamp)) ++ (ended (line_of control.group_head group_header) ++ (flat_map ended (all_item_lines stamp header 0 items) ++ end_text items))
 unfolding ack_text
 after_start stamp header items =
-    ap (λ text. ended (line_of control.header (file_start stamp)) ++ (ended (line_of control.group_head group_start) ++ text))
+    ap (λ text. ended (line_of control.header (file_header stamp)) ++ (ended (line_of control.group_head group_header) ++ text))
     (flat_map-append ended (all_item_lines stamp header 0 items) _)
 
 -- one text, one list of items
 pub one_list : (stamp : StampParts) (header : Header) (items others : List Item) → AllByRecursion IsWholeItem items → AllByRecursion IsWholeItem others
     → ack_text stamp header items ≡ ack_text stamp header others → items ≡ others
 one_list stamp header items others p q e =
-    let a = ended (line_of control.header (file_start stamp)) in
-    let b = ended (line_of control.group_head group_start) in
+    let a = ended (line_of control.header (file_header stamp)) in
+    let b = ended (line_of control.group_head group_header) in
     let x = flat_map ended (all_item_lines stamp header 0 items) ++ end_text items in
     let y = flat_map ended (all_item_lines stamp header 0 others) ++ end_text others in
     let whole : a ++ (b ++ x) ≡ a ++ (b ++ y) = sym (after_start stamp header items) ∙ e ∙ after_start stamp header others in

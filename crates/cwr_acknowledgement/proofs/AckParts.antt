@@ -7,26 +7,26 @@ use Rattle.cwr_record.specs.Stamp.{StampParts}
 use Rattle.cwr_record.specs.Control as control
 use Rattle.cwr_record.specs.declared.control.Header.{Header}
 use Rattle.cwr_acknowledgement.specs.AckItem.{Item}
-use Rattle.cwr_acknowledgement.specs.Acknowledgement.{ended, file_start, group_start, group_end, file_end, told_count, all_item_lines, ack_text}
+use Rattle.cwr_acknowledgement.specs.Acknowledgement.{ended, file_header, group_header, group_trailer, file_trailer, reported_fault_count, all_item_lines, ack_text}
 use Rattle.cwr_acknowledgement.specs.Outgoing.{OutgoingState, Puts, Cuts, IsPut}
 use Rattle.cwr_acknowledgement.proofs.AckSteps.{all_parts}
 use Rattle.cwr_acknowledgement.proofs.Puts.{cut_first, cut_second, cut_third, cut_fourth, all_put}
 
-module _ (stamp : StampParts) (header : Header) (items : List Item) (m : ℕ) (told : m ≡ told_count items) where
+module _ (stamp : StampParts) (header : Header) (items : List Item) (m : ℕ) (told : m ≡ reported_fault_count items) where
   abbrev head : List ℕ
-  head = ended (line_of control.header (file_start stamp))
+  head = ended (line_of control.header (file_header stamp))
 
   abbrev group : List ℕ
-  group = ended (line_of control.group_head group_start)
+  group = ended (line_of control.group_head group_header)
 
   abbrev middle : List ℕ
   middle = flat_map ended (all_item_lines stamp header 0 items)
 
   abbrev end : List ℕ
-  end = ended (line_of control.group_trailer (group_end (length items) m))
+  end = ended (line_of control.group_trailer (group_trailer (length items) m))
 
   abbrev last : List ℕ
-  last = ended (line_of control.file_trailer (file_end (length items) m))
+  last = ended (line_of control.file_trailer (file_trailer (length items) m))
 
   abbrev text : List ℕ
   text = ack_text stamp header items

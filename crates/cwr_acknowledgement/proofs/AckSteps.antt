@@ -11,8 +11,8 @@ use Rattle.cwr_record.specs.Control as control
 use Rattle.cwr_record.specs.Acknowledgement as table
 use Rattle.cwr_record.specs.declared.control.Header.{Header}
 use Rattle.cwr_call.specs.declared.transaction_fault.Fault.{Fault}
-use Rattle.cwr_acknowledgement.specs.AckItem.{Item, told_faults}
-use Rattle.cwr_acknowledgement.specs.Acknowledgement.{FitsItem, ended, file_start, group_start, group_end, file_end, told_count, message_record, message_lines, item_lines, all_item_lines, ack_text}
+use Rattle.cwr_acknowledgement.specs.AckItem.{Item, reported_faults}
+use Rattle.cwr_acknowledgement.specs.Acknowledgement.{FitsItem, ended, file_header, group_header, group_trailer, file_trailer, reported_fault_count, message_record, message_lines, item_lines, all_item_lines, ack_text}
 
 -- the first of the messages that are left
 pub message_next : (faults : List Fault) (i n : ℕ) (d : Fault) → n < length faults
@@ -30,35 +30,35 @@ item_next stamp header items i item lt is =
 
 -- how many lines there are with one item more, and that they are no more than all
 pub lines_more : (items : List Item) (i : ℕ) (item : Item) → i < length items → slice_get items i ≡ Some item
-    → i + 1 + told_count (take (i + 1) items) ≡ i + told_count (take i items) + (1 + length (told_faults item))
+    → i + 1 + reported_fault_count (take (i + 1) items) ≡ i + reported_fault_count (take i items) + (1 + length (reported_faults item))
 lines_more items i item lt is =
-    let more = sum_by_more (λ (x : Item). length (told_faults x)) items i item lt in
-    let same = ap (λ (x : Item). length (told_faults x)) (get_or_from_slice_get items i item item is) in
+    let more = sum_by_more (λ (x : Item). length (reported_faults x)) items i item lt in
+    let same = ap (λ (x : Item). length (reported_faults x)) (get_or_from_slice_get items i item item is) in
     omega (arith, more, same)
 
-pub lines_within : (items : List Item) (i : ℕ) → told_count (take i items) ≤ told_count items
-lines_within items i = sum_by-take-le (λ (x : Item). length (told_faults x)) items i
+pub lines_within : (items : List Item) (i : ℕ) → reported_fault_count (take i items) ≤ reported_fault_count items
+lines_within items i = sum_by-take-le (λ (x : Item). length (reported_faults x)) items i
 
 -- the next item's faults are no more than all that are told
-pub told_within : (items : List Item) (i : ℕ) (item : Item) → slice_get items i ≡ Some item → told_count (take i items) + length (told_faults item) ≤ told_count items
+pub told_within : (items : List Item) (i : ℕ) (item : Item) → slice_get items i ≡ Some item → reported_fault_count (take i items) + length (reported_faults item) ≤ reported_fault_count items
 told_within items i item is =
     let within = slice_get_within items i item is in
-    let le = sum_by_more_le (λ (x : Item). length (told_faults x)) items i item within in
-    let same = ap (λ (x : Item). length (told_faults x)) (get_or_from_slice_get items i item item is) in
+    let le = sum_by_more_le (λ (x : Item). length (reported_faults x)) items i item within in
+    let same = ap (λ (x : Item). length (reported_faults x)) (get_or_from_slice_get items i item item is) in
     omega (arith, le, same)
 
 -- the item of which so many faults are told
-counted : (items : List Item) (i n : ℕ) → option_map (λ (x : Item). length (told_faults x)) (slice_get items i) ≡ Some n
-    → (item : Item) × (slice_get items i ≡ Some item) × (length (told_faults item) ≡ n)
+counted : (items : List Item) (i n : ℕ) → option_map (λ (x : Item). length (reported_faults x)) (slice_get items i) ≡ Some n
+    → (item : Item) × (slice_get items i ≡ Some item) × (length (reported_faults item) ≡ n)
 counted items i n is = go (slice_get items i) refl is where
-  go : (found : Option Item) → slice_get items i ≡ found → option_map (λ (x : Item). length (told_faults x)) found ≡ Some n
-      → (item : Item) × (slice_get items i ≡ Some item) × (length (told_faults item) ≡ n)
+  go : (found : Option Item) → slice_get items i ≡ found → option_map (λ (x : Item). length (reported_faults x)) found ≡ Some n
+      → (item : Item) × (slice_get items i ≡ Some item) × (length (reported_faults item) ≡ n)
   go None e of = absurd cc
   go (Some item) e of = (item, e, cc)
 
 -- the next item's count is no more than that of all
-pub count_within : (items : List Item) (i n : ℕ) → option_map (λ (x : Item). length (told_faults x)) (slice_get items i) ≡ Some n
-    → told_count (take i items) + n ≤ told_count items
+pub count_within : (items : List Item) (i n : ℕ) → option_map (λ (x : Item). length (reported_faults x)) (slice_get items i) ≡ Some n
+    → reported_fault_count (take i items) + n ≤ reported_fault_count items
 count_within items i n is =
     let at = counted items i n is in
     let within = told_within items i at.0 at.1 in
@@ -66,8 +66,8 @@ count_within items i n is =
     omega (arith, within, count)
 
 -- the faults that are told with one item more
-pub count_more : (items : List Item) (i n : ℕ) → option_map (λ (x : Item). length (told_faults x)) (slice_get items i) ≡ Some n
-    → told_count (take (i + 1) items) ≡ told_count (take i items) + n
+pub count_more : (items : List Item) (i n : ℕ) → option_map (λ (x : Item). length (reported_faults x)) (slice_get items i) ≡ Some n
+    → reported_fault_count (take (i + 1) items) ≡ reported_fault_count (take i items) + n
 count_more items i n is =
     let at = counted items i n is in
     let lines = lines_more items i at.0 (slice_get_within items i at.0 at.1) at.1 in
@@ -84,22 +84,22 @@ fits_at items i item all is =
       go (x ∷ xs) (suc n) h lt = go xs n h.1 (omega (arith, lt))
 
 -- two lines, the lines of all items, and two lines
-five_parts : (head group : List ℕ) (items : List (List ℕ)) (group_end end : List ℕ)
-    → ended head ++ (ended group ++ (flat_map ended items ++ (ended group_end ++ ended end))) ≡ flat_map ended (head ∷ group ∷ items ++ group_end ∷ end ∷ [])
-five_parts head group items group_end end = rw (flat_map-append ended items (group_end ∷ end ∷ []), append-nil) (simp append_assoc)
+five_parts : (head group : List ℕ) (items : List (List ℕ)) (group_trailer end : List ℕ)
+    → ended head ++ (ended group ++ (flat_map ended items ++ (ended group_trailer ++ ended end))) ≡ flat_map ended (head ∷ group ∷ items ++ group_trailer ∷ end ∷ [])
+five_parts head group items group_trailer end = rw (flat_map-append ended items (group_trailer ∷ end ∷ []), append-nil) (simp append_assoc)
 
 -- what is put, part by part, is the acknowledgement
-pub all_parts : (stamp : StampParts) (header : Header) (items : List Item) (m : ℕ) → m ≡ told_count items
-    → ended (line_of control.header (file_start stamp))
-    ++ (ended (line_of control.group_head group_start)
+pub all_parts : (stamp : StampParts) (header : Header) (items : List Item) (m : ℕ) → m ≡ reported_fault_count items
+    → ended (line_of control.header (file_header stamp))
+    ++ (ended (line_of control.group_head group_header)
     ++ (flat_map ended (all_item_lines stamp header 0 items)
-    ++ (ended (line_of control.group_trailer (group_end (length items) m)) ++ ended (line_of control.file_trailer (file_end (length items) m)))))
+    ++ (ended (line_of control.group_trailer (group_trailer (length items) m)) ++ ended (line_of control.file_trailer (file_trailer (length items) m)))))
     ≡ ack_text stamp header items
 unfolding ack_text
 all_parts stamp header items m told =
     let n = length items in
-    let texts : ℕ → List ℕ = λ k. ended (line_of control.group_trailer (group_end n k)) ++ ended (line_of control.file_trailer (file_end n k)) in
-    ap (λ k. ended (line_of control.header (file_start stamp)) ++ (ended (line_of control.group_head group_start)
+    let texts : ℕ → List ℕ = λ k. ended (line_of control.group_trailer (group_trailer n k)) ++ ended (line_of control.file_trailer (file_trailer n k)) in
+    ap (λ k. ended (line_of control.header (file_header stamp)) ++ (ended (line_of control.group_head group_header)
     ++ (flat_map ended (all_item_lines stamp header 0 items) ++ texts k))) told
-    ∙ five_parts (line_of control.header (file_start stamp)) (line_of control.group_head group_start) (all_item_lines stamp header 0 items)
-    (line_of control.group_trailer (group_end n (told_count items))) (line_of control.file_trailer (file_end n (told_count items)))
+    ∙ five_parts (line_of control.header (file_header stamp)) (line_of control.group_head group_header) (all_item_lines stamp header 0 items)
+    (line_of control.group_trailer (group_trailer n (reported_fault_count items))) (line_of control.file_trailer (file_trailer n (reported_fault_count items)))

@@ -3,7 +3,7 @@ use Rattle.std.specs.Prelude.{◌≡◌, ℕ, ◌+◌, ◌-◌, ◌<◌, ◌≤�
 use Rattle.std.specs.Option.{ForSome}
 use Rattle.std.specs.List.{flat_map, sum_by, AllByRecursion}
 use Rattle.cwr_field.specs.Layout.{padded}
-use Rattle.cwr_field.specs.Number.{number_text, most_count}
+use Rattle.cwr_field.specs.Number.{number_text, max_count}
 use Rattle.cwr_record.specs.Lines.{line_of}
 use Rattle.cwr_record.specs.Stamp.{StampParts}
 use Rattle.cwr_record.specs.Kinds.{work_kind_code, status_text}
@@ -16,12 +16,12 @@ use Rattle.cwr_record.specs.declared.control.FileTrailer.{FileTrailer}
 use Rattle.cwr_record.specs.declared.acknowledgement.Ack.{Ack}
 use Rattle.cwr_record.specs.declared.acknowledgement.Message.{Message}
 use Rattle.cwr_call.specs.declared.transaction_fault.Fault.{Fault}
-use Rattle.cwr_acknowledgement.specs.AckItem.{Item, told_faults}
+use Rattle.cwr_acknowledgement.specs.AckItem.{Item, reported_faults}
 use Rattle.cwr_acknowledgement.specs.Messages.{message_text}
 
--- HDR: the society sends, and the stamp's day is that of creation and of transmission
-abbrev pub file_start : StampParts → Header
-file_start stamp = record {
+-- HDR: the society is the sender, and the stamp's day is the date of creation and of transmission
+abbrev pub file_header : StampParts → Header
+file_header stamp = record {
   sender = codes "SO000000" ++ number_text 3 stamp.society;
   name = stamp.name;
   creation_date = stamp.date;
@@ -30,9 +30,9 @@ file_start stamp = record {
   character_set = padded 15 [];
 }
 
--- GRH: one group of acknowledgements
-abbrev pub group_start : GroupHead
-group_start = record {
+-- GRH: the acknowledgement has one group, of transaction type ACK
+abbrev pub group_header : GroupHead
+group_header = record {
   transaction_type = codes "ACK";
   group = 1;
   version = codes "02.20";
@@ -40,12 +40,13 @@ group_start = record {
   submission_type = padded 2 [];
 }
 
--- eight digits, or nothing where there is no work
+-- the registry's number of a work in eight digits, or no bytes where there is none
 abbrev pub work_text : Option ℕ → List ℕ
 work_text None = []
 work_text (Some work) = number_text 8 work
 
--- ACK: the transaction i of this file acknowledges a transaction of the file with the header
+-- ACK: transaction i of the acknowledgement, from 0, which acknowledges `item`, a transaction of the file with this
+-- header
 abbrev pub ack_record : StampParts → Header → ℕ → Item → Ack
 ack_record stamp header i item = record {
   prefix = record { transaction = i; detail = 0 };
@@ -61,7 +62,7 @@ ack_record stamp header i item = record {
   status = status_text item.status;
 }
 
--- MSG: the record k of the transaction i tells a fault
+-- MSG: record k, from 1, of transaction i reports this fault
 abbrev pub message_record : ℕ → ℕ → Fault → Message
 message_record i k fault = record {
   prefix = record { transaction = i; detail = k };
@@ -73,72 +74,77 @@ message_record i k fault = record {
   text = padded 150 (message_text fault.number);
 }
 
--- GRT and TRL, of n transactions with m faults that are told
-abbrev pub group_end : ℕ → ℕ → GroupTrailer
-group_end n m = record { group = 1; transactions = n; records = n + 2 + m }
+-- GRT of n transactions with m MSG records in all; its record count includes GRH and GRT
+abbrev pub group_trailer : ℕ → ℕ → GroupTrailer
+group_trailer n m = record { group = 1; transactions = n; records = n + 2 + m }
 
-abbrev pub file_end : ℕ → ℕ → FileTrailer
-file_end n m = record { groups = 1; transactions = n; records = n + 4 + m }
+-- TRL of n transactions with m MSG records in all; its record count includes HDR, GRH, GRT and TRL
+abbrev pub file_trailer : ℕ → ℕ → FileTrailer
+file_trailer n m = record { groups = 1; transactions = n; records = n + 4 + m }
 
--- a line for each fault, the first of them the record k
+-- a MSG line for each fault, in order, the first of them record k of transaction i
 abbrev pub message_lines : ℕ → ℕ → List Fault → List (List ℕ)
 message_lines i k [] = []
 message_lines i k (fault ∷ faults) = line_of table.message (message_record i k fault) ∷ message_lines i (k + 1) faults
 
--- the lines of the transaction i: its decision, and the faults that are told
+-- the lines of transaction i: its ACK, and a MSG for each fault that is reported
 abbrev pub item_lines : StampParts → Header → ℕ → Item → List (List ℕ)
 item_lines stamp header i item =
-    line_of table.ack (ack_record stamp header i item) ∷ message_lines i 1 (told_faults item)
+    line_of table.ack (ack_record stamp header i item) ∷ message_lines i 1 (reported_faults item)
 
--- the lines of all transactions, the first of them the transaction i
+-- the lines of all transactions, in order, the first of them transaction i
 abbrev pub all_item_lines : StampParts → Header → ℕ → List Item → List (List ℕ)
 all_item_lines stamp header i [] = []
 all_item_lines stamp header i (item ∷ items) = item_lines stamp header i item ++ all_item_lines stamp header (i + 1) items
 
--- how many faults are told in all
-abbrev pub told_count : List Item → ℕ
-told_count items = sum_by (λ item. length (told_faults item)) items
+-- the number of faults that are reported in all, each by one MSG
+abbrev pub reported_fault_count : List Item → ℕ
+reported_fault_count items = sum_by (λ item. length (reported_faults item)) items
 
--- the most transactions and messages of an acknowledgement: with HDR, GRH, GRT and TRL eight digits count its records
-abbrev pub most_told : ℕ
-most_told = most_count - 4
+-- the greatest number of transactions and messages of an acknowledgement: with HDR, GRH, GRT and TRL its record count
+-- has at most eight digits
+abbrev pub max_ack_records : ℕ
+max_ack_records = max_count - 4
 
--- the lines of the acknowledgement
+-- the lines of the acknowledgement, from HDR to TRL, without line ends
 abbrev pub ack_lines : StampParts → Header → List Item → List (List ℕ)
 ack_lines stamp header items =
-    line_of control.header (file_start stamp)
-    ∷ line_of control.group_head group_start
+    line_of control.header (file_header stamp)
+    ∷ line_of control.group_head group_header
     ∷ all_item_lines stamp header 0 items
-    ++ line_of control.group_trailer (group_end (length items) (told_count items))
-    ∷ line_of control.file_trailer (file_end (length items) (told_count items))
+    ++ line_of control.group_trailer (group_trailer (length items) (reported_fault_count items))
+    ∷ line_of control.file_trailer (file_trailer (length items) (reported_fault_count items))
     ∷ []
 
 -- a line with its end, CR LF
 abbrev pub ended : List ℕ → List ℕ
 ended line = line ++ 13 ∷ 10 ∷ []
 
--- the acknowledgement of the items of a file with this header
+-- the acknowledgement of these items of a file with this header: its lines, each with CR LF
 unfoldable pub ack_text : StampParts → Header → List Item → List ℕ
 ack_text stamp header items = flat_map ended (ack_lines stamp header items)
 
--- what can be told of a fault: a record sequence of eight digits, and one of the fifteen texts
+-- a fault that can be reported: a record sequence of at most eight digits, and a number from 1 to 15, each of which
+-- has a text
 pub record FitsFault (fault : Fault) : Type 0 where
   pub sequence : fault.sequence < 10 ^ 8
   pub first : 1 ≤ fault.number
   pub last : fault.number ≤ 15
 
--- what can be acknowledged: the numbers fit their fields, and so do those of the faults that are told
+-- an item that can be acknowledged: its numbers fit their fields, and so do those of the faults that are reported
 pub record FitsItem (item : Item) : Type 0 where
   pub group : item.group < 10 ^ 5
   pub sequence : item.sequence < 10 ^ 8
   pub work : ForSome item.work (λ work. work < 10 ^ 8)
-  pub faults : AllByRecursion FitsFault (told_faults item)
+  pub faults : AllByRecursion FitsFault (reported_faults item)
 
--- What two lists of items with one text need to be one list: the items can be acknowledged, and only rejected ones have
--- faults. The widths of texts are those that items of a program have by their types.
+-- An item that its lines determine: two lists of such items with one text are one list. It can be acknowledged, and
+-- has faults only where it is rejected. The widths of its texts are those that every item of a program has by its
+-- types.
 pub record IsWholeItem (item : Item) : Type 0 where
   pub fits : FitsItem item
-  pub told : told_faults item ≡ item.faults
+  -- it has faults only where it is rejected
+  pub told : reported_faults item ≡ item.faults
   pub title : length item.title ≡ 60
   pub number : length item.number ≡ 14
   pub types : AllByRecursion (λ fault. length fault.rtype ≡ 3) item.faults

@@ -1,5 +1,5 @@
 pub mod AckItem
 pub mod Messages
 pub mod Acknowledgement
-pub mod AckForm
+pub mod AckLineWriter
 pub mod Outgoing

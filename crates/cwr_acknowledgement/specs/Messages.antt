@@ -1,6 +1,7 @@
--- The texts that tell faults.
+-- The texts that report faults.
 use Rattle.std.specs.Prelude.{ℕ, ◌-◌, List, [], ◌∷◌, codes, slice_index_or}
 
+-- the texts of the MSG records, of J1 first, J15 last
 abbrev pub message_texts : List (List ℕ)
 message_texts =
     codes "RECORD OUT OF ORDER"  -- 1
@@ -20,6 +21,6 @@ message_texts =
     ∷ codes "COLLECTION TOTAL IS ABOVE 100.06"  -- 15
     ∷ []
 
--- the text of the faults with this number, from 1 to 15
+-- the text for faults with this number, from 1 to 15
 abbrev pub message_text : ℕ → List ℕ
 message_text number = slice_index_or message_texts (number - 1) []

@@ -1,13 +1,13 @@
 ghost use Rattle.std.specs.Prelude.{◌≡◌};
-ghost use Rattle.cwr_acknowledgement.specs.AckItem.{told_faults};
+ghost use Rattle.cwr_acknowledgement.specs.AckItem.{reported_faults};
 
-use crate::answers::{Answers, told_faults};
+use crate::answers::{Answers, reported_faults};
 use cwr_call::Fault;
 use cwr_record::{Status, WorkKind};
 use std::marker::Model;
 
-/// A transaction of the acknowledged file, and the registry's decision on it, as the acknowledgement tells them. It borrows
-/// the faults from where they are kept.
+/// A transaction of the acknowledged file, and the registry's decision on it, as the acknowledgement reports them. It
+/// borrows the faults.
 #[derive(Debug, Drop)]
 pub struct AckItem<'a> {
     /// Group id of the transaction's group, at most 99999.
@@ -24,7 +24,7 @@ pub struct AckItem<'a> {
     pub status: Status,
     /// The registry's number of the work that the decision names, at most 99999999.
     pub work: Option<u32>,
-    /// Why the transaction is rejected. The faults of one that is not rejected are not told.
+    /// The faults of the transaction. They are reported only where it is rejected.
     pub faults: &'a [Fault],
 }
 
@@ -46,15 +46,15 @@ impl<'a> Model for AckItem<'a> {
 }
 
 impl<'a> AckItem<'a> {
-    /// The faults that the acknowledgement tells: those of a rejected transaction.
-    pub(crate) fn told_faults(&self) -> &[Fault]
-        ensures { result.now ≡ told_faults self.now }
+    /// The faults that the acknowledgement reports: all of a rejected transaction, and none of any other.
+    pub(crate) fn reported_faults(&self) -> &[Fault]
+        ensures { result.now ≡ reported_faults self.now }
     {
-        told_faults(self.status, self.faults)
+        reported_faults(self.status, self.faults)
     }
 }
 
-/// Items that stand one after the other.
+/// Items in a slice, in order.
 #[derive(Drop)]
 pub(crate) struct Listed<'a> {
     pub(crate) items: &'a [AckItem<'a>],
@@ -68,13 +68,13 @@ impl<'a> Answers for Listed<'a> {
     }
 
     #[inline]
-    fn told(&self, index: usize) -> AckItem<'_> {
+    fn item(&self, index: usize) -> AckItem<'_> {
         let item = &self.items[index];
         AckItem { ..*item }
     }
 
     #[inline]
     fn fault_count(&self, index: usize) -> usize {
-        self.items[index].told_faults().len()
+        self.items[index].reported_faults().len()
     }
 }

@@ -3,15 +3,16 @@
 ghost use Rattle.std.specs.Prelude.{◌≡◌, ◌≤◌, ◌+◌, ◌%◌, ◌++◌, codes, length};
 ghost use Rattle.cwr_field.specs.Layout.{padded};
 ghost use Rattle.cwr_field.specs.Number.{number_text};
-ghost use Rattle.cwr_acknowledgement.specs.Acknowledgement.{file_start, group_start, group_end, file_end, work_text, most_told};
+ghost use Rattle.cwr_acknowledgement.specs.Acknowledgement.{file_header, group_header, group_trailer, file_trailer, work_text, max_ack_records};
 
 use crate::numeral::Numeral;
 use cwr_field::filled;
 use cwr_record::{FileTrailer, GroupHead, GroupTrailer, Header, Stamp};
 
+/// The header (HDR) of an acknowledgement. `stamp` is who acknowledges, and when.
 #[inline]
-pub(crate) fn file_start(stamp: &Stamp) -> Header
-    ensures { result ≡ file_start stamp.now }
+pub(crate) fn file_header(stamp: &Stamp) -> Header
+    ensures { result ≡ file_header stamp.now }
 {
     Header {
         sender: sender(stamp.society()),
@@ -28,24 +29,25 @@ fn sender(society: u16) -> [u8; 11]
     ensures { result ≡ codes "SO000000" ++ number_text 3 society }
 {
     let [hundreds, tens, ones] = [
-        digit(society / 10 / 10),
-        digit(society / 10),
-        digit(society),
+        ascii_digit(society / 10 / 10),
+        ascii_digit(society / 10),
+        ascii_digit(society),
     ];
     [
         b'S', b'O', b'0', b'0', b'0', b'0', b'0', b'0', hundreds, tens, ones,
     ]
 }
 
-/// The last digit of a number.
-fn digit(number: u16) -> u8
+/// The last digit of a number, in ASCII.
+fn ascii_digit(number: u16) -> u8
     ensures { result ≡ 48 + number % 10 }
 {
     b'0' + (number % 10) as u8
 }
 
-pub(crate) fn group_start() -> GroupHead
-    ensures { result ≡ group_start }
+/// The group header (GRH) of an acknowledgement, which has one group.
+pub(crate) fn group_header() -> GroupHead
+    ensures { result ≡ group_header }
 {
     GroupHead {
         transaction_type: *b"ACK",
@@ -56,7 +58,8 @@ pub(crate) fn group_start() -> GroupHead
     }
 }
 
-/// The registry's number of a work in eight digits, or blanks where there is none. `last` is the number before it.
+/// The registry's number of a work in eight digits and blanks up to 20 bytes, or only blanks where there is none.
+/// `last` is the number that was converted before it.
 #[inline]
 pub(crate) fn recipient_number(last: &mut Numeral<8>, work: Option<u32>) -> [u8; 20]
     ensures { result ≡ padded 20 (work_text work) }
@@ -67,24 +70,26 @@ pub(crate) fn recipient_number(last: &mut Numeral<8>, work: Option<u32>) -> [u8;
     }
 }
 
-pub(crate) fn group_end(transactions: u32, told: u32) -> GroupTrailer
-    requires { transactions + told ≤ most_told }
-    ensures { result ≡ group_end transactions told }
+/// The group trailer (GRT) of an acknowledgement with an ACK for each of `transactions`, and `messages` MSG in all.
+pub(crate) fn group_trailer(transactions: u32, messages: u32) -> GroupTrailer
+    requires { transactions + messages ≤ max_ack_records }
+    ensures { result ≡ group_trailer transactions messages }
 {
     GroupTrailer {
         group: 1,
         transactions,
-        records: transactions + 2 + told,
+        records: transactions + 2 + messages,
     }
 }
 
-pub(crate) fn file_end(transactions: u32, told: u32) -> FileTrailer
-    requires { transactions + told ≤ most_told }
-    ensures { result ≡ file_end transactions told }
+/// The file trailer (TRL) of an acknowledgement with an ACK for each of `transactions`, and `messages` MSG in all.
+pub(crate) fn file_trailer(transactions: u32, messages: u32) -> FileTrailer
+    requires { transactions + messages ≤ max_ack_records }
+    ensures { result ≡ file_trailer transactions messages }
 {
     FileTrailer {
         groups: 1,
         transactions,
-        records: transactions + 4 + told,
+        records: transactions + 4 + messages,
     }
 }

@@ -1,14 +1,14 @@
 ghost use Rattle.std.specs.Prelude.{◌≡◌, ◌<◌, List, [], Some, if◌then◌else◌, length, option_map, slice_get};
-ghost use Rattle.cwr_acknowledgement.specs.AckItem.{Item, is_rejected, told_faults};
+ghost use Rattle.cwr_acknowledgement.specs.AckItem.{Item, is_rejected, reported_faults};
 
 use crate::ack_item::AckItem;
 use cwr_call::Fault;
 use cwr_record::Status;
 
-/// Those of a transaction's faults that the acknowledgement tells with this decision: all of a rejected one, and none of
+/// The faults of a transaction that the acknowledgement reports with this decision: all of a rejected one, and none of
 /// any other.
 #[inline]
-pub fn told_faults(status: Status, faults: &[Fault]) -> &[Fault]
+pub fn reported_faults(status: Status, faults: &[Fault]) -> &[Fault]
     ensures { result.now ≡ (if is_rejected status then faults.now else []) }
 {
     match status {
@@ -17,22 +17,22 @@ pub fn told_faults(status: Status, faults: &[Fault]) -> &[Fault]
     }
 }
 
-/// The transactions of a file, in its order, each with the registry's decision on it, however they are kept.
+/// The transactions of a file, in its order, each with the registry's decision on it. They may be kept in any form.
 pub trait Answers {
-    // What is told of them.
+    // What the acknowledgement reports of them.
     ghost items: { Self → List Item };
 
-    /// How many they are.
+    /// How many transactions there are.
     fn len(&self) -> usize
         ensures { result ≡ length (items self.now) };
 
-    /// The one with this place, from 0.
-    fn told(&self, index: usize) -> AckItem<'_>
+    /// The transaction at an index, counted from 0, and the decision on it.
+    fn item(&self, index: usize) -> AckItem<'_>
         requires { index < length (items self.now) }
         ensures { slice_get (items self.now) index ≡ Some result };
 
-    /// How many faults the acknowledgement tells of the one with this place.
+    /// How many faults the acknowledgement reports of the transaction at an index, counted from 0.
     fn fault_count(&self, index: usize) -> usize
         requires { index < length (items self.now) }
-        ensures { option_map (λ item. length (told_faults item)) (slice_get (items self.now) index) ≡ Some result };
+        ensures { option_map (λ item. length (reported_faults item)) (slice_get (items self.now) index) ≡ Some result };
 }

@@ -1,7 +1,7 @@
 ghost use Rattle.std.specs.Prelude.{◌≡◌, ◌≤◌, length};
 ghost use Rattle.cwr_acknowledgement.specs.Messages.{message_text};
 
-/// The text that tells a fault with this number, from 1 to 15, in its MSG record, without blanks at its end.
+/// The text of the MSG record for a fault with this number, from 1 to 15, without blanks at its end.
 pub fn message_text(number: u8) -> &'static [u8]
     requires { (1 ≤ number) × (number ≤ 15) }
     ensures text { result.now ≡ message_text number }

@@ -2,7 +2,7 @@ ghost use Rattle.std.specs.Prelude.{Some, []};
 
 use byte_streams::{Failed, Sink};
 
-/// A sink that takes nothing: a text that goes there has to fit into the room that holds it.
+/// A sink that takes nothing. A text that goes there must fit into the buffer in front of it.
 #[derive(Drop)]
 pub(crate) struct Nowhere {
     pub(crate) failed: bool,

@@ -1,4 +1,4 @@
-//! Numbers that are spelled line after line.
+//! Numbers that are converted to digits line after line.
 
 ghost use Rattle.std.specs.Prelude.{◌≡◌, ◌≤◌};
 ghost use Rattle.cwr_field.specs.Number.{number_text};
@@ -6,8 +6,9 @@ ghost use Rattle.cwr_field.specs.Number.{number_text};
 use cwr_field::last_digits;
 use std::marker::Model;
 
-/// The number that was spelled last, and its digits: the same number is not spelled anew, nor is the next, but where its
-/// last digit begins again.
+/// The number that was converted last, and its digits.
+///
+/// The same number is not converted again. The next number is not either, unless its last digit goes from 9 to 0.
 #[derive(Drop)]
 pub(crate) struct Numeral<const N: usize> {
     number: u32,
@@ -26,7 +27,7 @@ impl<const N: usize> Model for Numeral<N> {
 }
 
 impl<const N: usize> Numeral<N> {
-    /// A number, spelled.
+    /// A number, with its digits.
     pub(crate) fn of(number: u32) -> Numeral<N>
         ensures { result ≡ number }
     {
@@ -36,7 +37,7 @@ impl<const N: usize> Numeral<N> {
         }
     }
 
-    /// The last digits of a number, as many as there is room for.
+    /// The last `N` digits of a number.
     #[inline(always)]
     pub(crate) fn spelled(&mut self, number: u32) -> [u8; N]
         requires { 1 ≤ N }

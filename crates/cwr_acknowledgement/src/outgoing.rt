@@ -1,4 +1,4 @@
-//! A text on its way out, piece after piece.
+//! A text on its way out, chunk after chunk.
 
 ghost use Rattle.std.specs.Prelude.{◌≡◌, ◌≤◌, ◌<◌, ◌+◌, ◌^◌, ℕ, [], false, length, IfOk, OnOk};
 ghost use Rattle.std.specs.Result.{is_err};
@@ -7,8 +7,8 @@ ghost use Rattle.cwr_record.specs.Acknowledgement as table;
 ghost use Rattle.cwr_acknowledgement.specs.Acknowledgement.{FitsFault, ack_record, message_record, ended};
 ghost use Rattle.cwr_acknowledgement.specs.Outgoing.{IsPut, size_of};
 
-use crate::ack_form::{ACK_LEN, AckForm, MESSAGE_LEN};
 use crate::ack_item::AckItem;
+use crate::ack_line_writer::{ACK_LEN, AckLineWriter, MESSAGE_LEN};
 use crate::places::put_ended;
 use byte_streams::{Sink, WriteStopped, write_out};
 use cwr_call::Fault;
@@ -16,16 +16,16 @@ use cwr_field::Memory;
 use std::alloc::Allocator;
 use std::marker::Model;
 
-/// How many bytes more are made ready at once.
+/// How many more bytes are made ready at once.
 const STEP: usize = 4096;
 
 /// A text on its way into a sink, line by line.
 ///
-/// Lines are held in a room of their own until there is none for the next one. Then what is held is written out, and they
-/// begin again.
+/// Lines are held in a buffer until there is no room for the next one. Then what is held is written out, and the buffer
+/// is filled from its front again.
 #[derive(Drop)]
 pub(crate) struct Outgoing<A: Allocator> {
-    /// What is held is its front. The bytes behind are ready to be written over.
+    /// The bytes that are held, and behind them bytes that are ready to be overwritten.
     bytes: Vec<u8, A>,
     /// How many bytes are held.
     end: usize,
@@ -43,23 +43,23 @@ impl<A: Allocator> Model for Outgoing<A> {
       held = take o.end o.bytes.items;
       sent = o.sent;
       ready = vec_len o.bytes;
-      room = vec_capacity o.bytes;
+      capacity = vec_capacity o.bytes;
     } };
 
     ghost invariant = { λ o. (o.end ≤ vec_len o.bytes) × (187 ≤ vec_capacity o.bytes) };
 }
 
 impl<A: Allocator + Copy> Outgoing<A> {
-    /// A text of which nothing was put so far, and pieces of up to `room` bytes.
+    /// A text of which nothing was put so far. It is written out in chunks of up to `capacity` bytes, at least 187.
     ///
-    /// All its memory is asked for here, and no later call takes any.
-    pub(crate) fn new(alloc: A, room: usize) -> Result<Outgoing<A>, Memory>
-        requires { 187 ≤ room }
+    /// All its memory is asked for here. No later call asks for any.
+    pub(crate) fn new(alloc: A, capacity: usize) -> Result<Outgoing<A>, Memory>
+        requires { 187 ≤ capacity }
         ensures held { IfOk result (λ o. o.held ≡ []) }
         ensures sent { IfOk result (λ o. o.sent ≡ 0) }
     {
         Ok(Outgoing {
-            bytes: Vec::with_capacity(alloc, room)?,
+            bytes: Vec::with_capacity(alloc, capacity)?,
             end: 0,
             sent: 0,
         })
@@ -86,12 +86,12 @@ impl<A: Allocator> Outgoing<A> {
         Ok(())
     }
 
-    /// Puts the line that acknowledges an item, as the transaction `index` of its file, with its end.
+    /// Puts the ACK line of an item, as transaction `index` of its file (from 0), with its end.
     #[inline(always)]
     pub(crate) fn put_ack<W: Sink>(
         &mut self,
         writer: &mut W,
-        form: &mut AckForm,
+        form: &mut AckLineWriter,
         index: u32,
         item: &AckItem,
     ) -> Result<(), WriteStopped>
@@ -109,12 +109,14 @@ impl<A: Allocator> Outgoing<A> {
         Ok(())
     }
 
-    /// Puts the line that tells a fault, as the record `detail` of the transaction `index`, with its end.
+    /// Puts the MSG line of a fault, as record `detail` of transaction `index` (both from 0), with its end.
+    ///
+    /// `writer` is where the text is written when the buffer is full, `form` makes the line, and `fault` is the fault.
     #[inline(always)]
     pub(crate) fn put_message<W: Sink>(
         &mut self,
         writer: &mut W,
-        form: &mut AckForm,
+        form: &mut AckLineWriter,
         index: u32,
         detail: u32,
         fault: &Fault,
@@ -134,7 +136,7 @@ impl<A: Allocator> Outgoing<A> {
         Ok(())
     }
 
-    /// Sees that so many bytes more are ready, and writes out what is held where there is no room for them.
+    /// Ensures that `needed` more bytes are ready. Where there is no room for them, what is held is written out.
     #[inline(always)]
     fn make_room<W: Sink>(&mut self, writer: &mut W, needed: usize) -> Result<(), WriteStopped>
         requires works { W.has_failed writer.old ≡ false }
@@ -150,7 +152,7 @@ impl<A: Allocator> Outgoing<A> {
         Ok(())
     }
 
-    /// Makes so many bytes more ready, and writes out what is held where there is no room for them.
+    /// Makes `needed` more bytes ready. Where there is no room for them, what is held is written out first.
     fn make_more_room<W: Sink>(&mut self, writer: &mut W, needed: usize) -> Result<(), WriteStopped>
         requires works { W.has_failed writer.old ≡ false }
         requires size { size_of self.old < 2 ^ 63 }
@@ -168,11 +170,11 @@ impl<A: Allocator> Outgoing<A> {
         Ok(())
     }
 
-    /// Makes more bytes ready behind what is held, up to the end of the room.
+    /// Makes more bytes ready behind what is held, up to the capacity of the buffer.
     fn make_ready(&mut self)
         ensures held { self.new.held ≡ self.old.held }
         ensures sent { self.new.sent ≡ self.old.sent }
-        ensures ready { (needed : ℕ) → needed ≤ 187 → length self.old.held + needed ≤ self.old.room → length self.new.held + needed ≤ self.new.ready }
+        ensures ready { (needed : ℕ) → needed ≤ 187 → length self.old.held + needed ≤ self.old.capacity → length self.new.held + needed ≤ self.new.ready }
     {
         let ready = self.bytes.capacity().min(self.end + STEP);
         if self.bytes.len() < ready {
@@ -188,7 +190,7 @@ impl<A: Allocator> Outgoing<A> {
         requires size { size_of self.old < 2 ^ 63 }
         ensures put { IsPut result (W.taken writer.old) (W.taken writer.new) self.old self.new 0 [] }
         ensures none_left { OnOk result (self.new.held ≡ []) }
-        ensures room { OnOk result (187 ≤ self.new.room) }
+        ensures room { OnOk result (187 ≤ self.new.capacity) }
         ensures fails { W.has_failed writer.new ≡ is_err result }
     {
         match write_out(writer, &self.bytes[..self.end]) {

@@ -1,5 +1,5 @@
 ghost use Rattle.std.specs.Prelude.{◌≡◌, IsTrue, IfOk, IfSome, is_some};
-ghost use Rattle.cwr_call.specs.Lawful.{is_lawful, is_clean, is_iswc, most_sum, are_at_most, is_whole, are_faults};
+ghost use Rattle.cwr_call.specs.Lawful.{is_lawful, is_clean, is_iswc, max_sum, are_at_most, is_whole, are_faults};
 
 use crate::kept_control::KeptControl;
 use crate::lawful;
@@ -9,11 +9,11 @@ use cwr_record::WorkKind;
 use std::alloc::{Allocator, Global};
 use std::marker::Model;
 
-/// What a transaction asks of the registry, and the faults that forbid it.
+/// What a transaction requests of the registry, and the faults that forbid it.
 ///
-/// No byte of its texts is below 32, its ISWC has nine digits, and no control is above 999,999,990,000. Its faults
-/// rise strictly by sequence and number, at most 999,999,999 of them; without faults no control is above 10006. A
-/// contract sees the record of its parts.
+/// No byte of its texts is below 32, its ISWC has nine digits, and no control is above 999,999,990,000. Its faults rise
+/// strictly by sequence and number, and are at most 999,999,999. Without faults no control is above 10006. A contract
+/// sees the record of its parts.
 #[derive_where(Debug)]
 #[derive(Drop)]
 pub struct Call<A: Allocator = Global> {
@@ -30,24 +30,30 @@ pub struct Call<A: Allocator = Global> {
 impl<A: Allocator> Model for Call<A> {
     ghost use Rattle.std.specs.Prelude.{IsTrue};
     ghost use Rattle.cwr_call.specs.CallValue.{CallValue};
-    ghost use Rattle.cwr_call.specs.KeptControl.{told};
+    ghost use Rattle.cwr_call.specs.KeptControl.{controls};
     ghost use Rattle.cwr_call.specs.Lawful.{is_lawful};
 
     ghost Value = { CallValue };
 
-    ghost view = { λ c. record { submitter = c.submitter; kind = c.kind; title = c.title; number = c.number; iswc = c.iswc; control = told c.control; faults = c.faults } };
+    ghost view = { λ c. record { submitter = c.submitter; kind = c.kind; title = c.title; number = c.number; iswc = c.iswc; control = controls c.control; faults = c.faults } };
 
-    ghost invariant = { λ c. IsTrue (is_lawful (record { submitter = c.submitter; kind = c.kind; title = c.title; number = c.number; iswc = c.iswc; control = told c.control; faults = c.faults })) };
+    ghost invariant = { λ c. IsTrue (is_lawful (record { submitter = c.submitter; kind = c.kind; title = c.title; number = c.number; iswc = c.iswc; control = controls c.control; faults = c.faults })) };
 }
 
 impl<A: Allocator> Call<A> {
-    /// The call of these parts, or `None` where they can be those of no call: the faults are then dropped. No memory is
-    /// asked for.
+    /// The call of these parts, or `None` where they break one of the conditions below. No memory is asked for, and
+    /// with `None` the faults are dropped.
     ///
-    /// They can where no byte of submitter, title and number is below 32; the ISWC is at most 999,999,999; no control
-    /// is above 999,999,990,000, and without faults none above 10006; and there are at most 999,999,999 faults,
-    /// strictly rising by sequence and number, each with a sequence of at most eight digits, a number from 1 to 15
-    /// and a record type of three capitals.
+    /// - `submitter` is sender type and sender id of the file's HDR. No byte of it, of `title` or of `number` is below
+    ///   32.
+    /// - `kind` is NWR or REV.
+    /// - `title` is the work's title.
+    /// - `number` is the submitter's number of the work.
+    /// - `iswc` is the number of the ISWC's nine digits, at most 999,999,999; `None` where it is blank or wrong.
+    /// - `control` is what the submitter controls of the performing, the mechanical and the synchronization right, in
+    ///   hundredths of one per cent. None is above 999,999,990,000, and without faults none is above 10006.
+    /// - `faults` are at most 999,999,999, strictly rising by sequence and number. Each has a sequence of at most eight
+    ///   digits, a number from 1 to 15 and a record type of three capitals.
     pub fn of(
         submitter: [u8; 11],
         kind: WorkKind,
@@ -64,7 +70,7 @@ impl<A: Allocator> Call<A> {
             && is_printable(&title)
             && is_printable(&number)
             && lawful::is_iswc(iswc)
-            && lawful::are_at_most(lawful::MOST_SUM, &control)
+            && lawful::are_at_most(lawful::MAX_SUM, &control)
             && lawful::is_whole(faults.as_slice(), &control)
             && lawful::are_faults(faults.as_slice());
         if !is_lawful {
@@ -73,7 +79,10 @@ impl<A: Allocator> Call<A> {
         Some(Call::of_lawful(submitter, kind, title, number, iswc, control, faults))
     }
 
-    /// The call of parts that are known to be those of one, as [`Call::of`] tells. No memory is asked for.
+    /// The call of parts that are known to meet the conditions of [`Call::of`].
+    ///
+    /// The parts are `submitter`, `kind`, `title`, `number`, `iswc`, `control` and `faults`, each as it stands there.
+    /// Nothing is allocated.
     pub fn of_lawful(
         submitter: [u8; 11],
         kind: WorkKind,
@@ -97,7 +106,7 @@ impl<A: Allocator> Call<A> {
         }
     }
 
-    /// The call once more. Memory is asked for only where it has faults.
+    /// A copy of the call. Memory is asked for only where it has faults.
     #[inline]
     pub fn copied(&self, alloc: A) -> Result<Call<A>, Memory>
         ensures { IfOk result (λ call. call ≡ self.now) }
@@ -149,17 +158,17 @@ impl<A: Allocator> Call<A> {
         ensures value { result ≡ self.now.iswc }
         ensures nine_digits { IsTrue (is_iswc result) }
     {
-        iswc_told(self.iswc)
+        wide_iswc(self.iswc)
     }
 
     /// What the submitter's publishers and writers own of the performing, the mechanical and the synchronization
     /// right, in hundredths of one per cent.
     pub fn control(&self) -> [u64; 3]
         ensures value { result ≡ self.now.control }
-        ensures bound { IsTrue (are_at_most most_sum result) }
+        ensures bound { IsTrue (are_at_most max_sum result) }
         ensures whole { IsTrue (is_whole self.now.faults result) }
     {
-        self.control.told()
+        self.control.controls()
     }
 
     /// The rules that it breaks, in strictly rising order of sequence and number.
@@ -172,7 +181,7 @@ impl<A: Allocator> Call<A> {
     }
 }
 
-/// The number of an ISWC, as a call keeps it.
+/// The number of an ISWC, in the type in which a call keeps it.
 fn iswc_kept(iswc: Option<u64>) -> Option<u32>
     requires { IsTrue (is_iswc iswc) }
     ensures { result ≡ iswc }
@@ -183,8 +192,8 @@ fn iswc_kept(iswc: Option<u64>) -> Option<u32>
     }
 }
 
-/// The number of an ISWC, as a call tells it.
-fn iswc_told(iswc: Option<u32>) -> Option<u64>
+/// The number of an ISWC, in the type in which a call returns it.
+fn wide_iswc(iswc: Option<u32>) -> Option<u64>
     ensures { result ≡ iswc }
 {
     match iswc {

@@ -1,14 +1,14 @@
 ghost use Rattle.std.specs.Prelude.{◌≡◌, ◌+◌, ◌*◌, ◌/◌, ◌%◌, ◌<◌, ◌^◌, IsTrue};
-ghost use Rattle.cwr_call.specs.KeptControl.{told};
-ghost use Rattle.cwr_call.specs.Lawful.{are_at_most, most_sum};
+ghost use Rattle.cwr_call.specs.KeptControl.{controls};
+ghost use Rattle.cwr_call.specs.Lawful.{are_at_most, max_sum};
 
 use std::fmt;
 
-/// How many numbers four bytes can tell.
+/// How many numbers four bytes can hold.
 const LOW_COUNT: u64 = 4_294_967_296;
 
-/// The control of each right as a call keeps it, in fifteen bytes: none is above 999,999,990,000, so each has its low four
-/// bytes and one more.
+/// The control of each right as a call keeps it, in fifteen bytes. None is above 999,999,990,000, so the low four bytes
+/// of each and one more suffice.
 #[derive(Clone, Copy)]
 pub(crate) struct KeptControl {
     low: [u32; 3],
@@ -18,8 +18,8 @@ pub(crate) struct KeptControl {
 impl KeptControl {
     /// These controls.
     pub(crate) fn of(control: [u64; 3]) -> KeptControl
-        requires { IsTrue (are_at_most most_sum control) }
-        ensures { told result ≡ control }
+        requires { IsTrue (are_at_most max_sum control) }
+        ensures { controls result ≡ control }
     {
         let [performing, mechanical, synchronization] = control;
         KeptControl {
@@ -29,8 +29,8 @@ impl KeptControl {
     }
 
     /// The controls.
-    pub(crate) fn told(self) -> [u64; 3]
-        ensures { result ≡ told self }
+    pub(crate) fn controls(self) -> [u64; 3]
+        ensures { result ≡ controls self }
     {
         let [performing, mechanical, synchronization] = self.low;
         let [over_performing, over_mechanical, over_synchronization] = self.high;
@@ -42,10 +42,10 @@ impl KeptControl {
     }
 }
 
-/// It is shown as the controls that it tells.
+/// It is shown as the three controls.
 impl fmt::Debug for KeptControl {
     fn fmt<W: fmt::Write>(&self, f: &mut fmt::Formatter<W>) -> fmt::Result {
-        self.told().fmt(f)
+        self.controls().fmt(f)
     }
 }
 

@@ -4,13 +4,13 @@ ghost use Rattle.std.specs.Char.{is_ascii_uppercase};
 ghost use Rattle.cwr_call.specs.Lawful.{is_fault, is_before, rises, are_faults, are_at_most, is_whole, is_iswc};
 
 use crate::transaction_fault::Fault;
-use cwr_field::{MOST_CODE, MOST_COUNT, MOST_WHOLE, WHOLE};
+use cwr_field::{MAX_CODE, MAX_COUNT, MAX_WHOLE, WHOLE};
 
-/// The most faults of a call.
-const MOST_FAULTS: usize = 999999999;
+/// The greatest number of faults of a call.
+const MAX_FAULTS: usize = 999999999;
 
-/// The most of a right that a call can control: all of it in each of its records.
-pub(crate) const MOST_SUM: u64 = MOST_COUNT as u64 * WHOLE;
+/// The greatest control of a right that a call can have: the whole right in each of its records.
+pub(crate) const MAX_SUM: u64 = MAX_COUNT as u64 * WHOLE;
 
 /// Whether each byte is a capital, from A to Z.
 fn are_capitals(name: &[u8]) -> bool
@@ -23,7 +23,7 @@ fn are_capitals(name: &[u8]) -> bool
 fn is_fault(fault: &Fault) -> bool
     ensures { result ≡ is_fault fault.now }
 {
-    fault.sequence <= MOST_COUNT
+    fault.sequence <= MAX_COUNT
         && (1 <= fault.number && fault.number <= 15)
         && are_capitals(&fault.rtype)
 }
@@ -35,7 +35,7 @@ fn is_before(one: &Fault, other: &Fault) -> bool
     one.sequence < other.sequence || (one.sequence == other.sequence && one.number < other.number)
 }
 
-/// Whether the faults rise strictly.
+/// Whether the faults rise strictly by sequence and number.
 fn rises(faults: &[Fault]) -> bool
     ensures { result ≡ rises faults.now }
 {
@@ -63,7 +63,7 @@ fn are_each_faults(faults: &[Fault]) -> bool
 pub(crate) fn are_faults(faults: &[Fault]) -> bool
     ensures { result ≡ are_faults faults.now }
 {
-    faults.len() <= MOST_FAULTS && are_each_faults(faults) && rises(faults)
+    faults.len() <= MAX_FAULTS && are_each_faults(faults) && rises(faults)
 }
 
 /// Whether no control is above the limit.
@@ -74,11 +74,11 @@ pub fn are_at_most(limit: u64, control: &[u64]) -> bool
     control.iter().all(|right| *right <= limit)
 }
 
-/// Whether there are faults, or no control is above the whole by more than the tolerance.
+/// Whether there are faults, or no control is above the whole right by more than the tolerance.
 pub(crate) fn is_whole(faults: &[Fault], control: &[u64]) -> bool
     ensures { result ≡ is_whole faults.now control.now }
 {
-    !faults.is_empty() || are_at_most(MOST_WHOLE, control)
+    !faults.is_empty() || are_at_most(MAX_WHOLE, control)
 }
 
 /// Whether the number has no more digits than an ISWC.
@@ -88,6 +88,6 @@ pub fn is_iswc(iswc: Option<u64>) -> bool
 {
     match iswc {
         None => true,
-        Some(number) => number <= MOST_CODE,
+        Some(number) => number <= MAX_CODE,
     }
 }

@@ -1,4 +1,4 @@
-//! What a transaction of a submission asks of the registry: its [`Call`], and the [`Fault`]s that forbid it.
+//! What a transaction of a submission requests of the registry: its [`Call`], and the [`Fault`]s that forbid it.
 #![tactic(auto)]
 
 mod call;

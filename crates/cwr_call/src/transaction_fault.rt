@@ -7,7 +7,8 @@ use std::marker::Model;
 /// A fault of a transaction: a rule that one of its records breaks.
 #[derive(Clone, Copy, Debug, PartialEq, Eq, Hash)]
 pub struct Fault {
-    /// Record sequence of the faulty record in its transaction: 0 for the transaction's header.
+    /// Record sequence of the faulty record in its transaction: 0 for the transaction's header, and for the transaction
+    /// as a whole.
     pub sequence: u32,
     /// The number of the rule, from 1 to 15, which is the validation number of the fault's MSG record.
     pub number: u8,
@@ -46,7 +47,7 @@ impl<A: Allocator> Faults<A> {
         self.faults.as_slice()
     }
 
-    /// The faults once more. For none no memory is asked for.
+    /// A copy of the faults. For no faults no memory is asked for.
     #[inline]
     pub(crate) fn copied(&self, alloc: A) -> Result<Faults<A>, Memory>
         ensures { IfOk result (λ faults. faults ≡ self.now) }

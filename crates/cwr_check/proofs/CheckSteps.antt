@@ -18,7 +18,7 @@ use Rattle.cwr_grammar.specs.RawParts.{RawParts, raws_of}
 use Rattle.cwr_call.specs.declared.transaction_fault.Fault.{Fault}
 use Rattle.cwr_call.specs.Lawful.{is_none_found}
 use Rattle.cwr_check.specs.CheckText.{fault_text, verdict_text, place_text, transaction_line, faults_in, has_faults, faulty_count, check_lines, submitter_of, IsCheckOfFile}
-use Rattle.cwr_check.specs.LinesSoFar.{IsTold}
+use Rattle.cwr_check.specs.ShortReport.{IsTold}
 use Rattle.cwr_field.proofs.lemmas.Pieces.{moved}
 
 pub fault_more : (faults : List Fault) (i : ℕ) (d : Fault) (out new total : List ℕ) → i < length faults

@@ -17,7 +17,7 @@ use Rattle.cwr_call.specs.Lawful.{is_none_found}
 abbrev pub submitter_of : File → List ℕ
 submitter_of file = field_at file.header header_sender
 
--- every fault of a submitter's transaction, by the rules
+-- every fault of a submitter's transaction, J1 to J15, in rising order
 abbrev pub faults_in : List ℕ → RawParts → List Fault
 faults_in submitter transaction = (call_of submitter transaction).faults
 
@@ -25,6 +25,7 @@ faults_in submitter transaction = (call_of submitter transaction).faults
 abbrev pub fault_text : Fault → List ℕ
 fault_text fault = codes " " ++ decimal fault.sequence ++ codes ":J" ++ decimal fault.number
 
+-- ok where there is no fault, else rejected and the faults
 abbrev pub verdict_text : List Fault → List ℕ
 verdict_text [] = codes "ok"
 verdict_text (fault ∷ faults) = codes "rejected" ++ flat_map fault_text (fault ∷ faults)
@@ -37,30 +38,31 @@ place_text t = number_text 5 t.group ++ codes " " ++ number_text 8 t.sequence ++
 abbrev pub transaction_line : List ℕ → RawParts → List ℕ
 transaction_line submitter t = place_text t ++ verdict_text (faults_in submitter t) ++ 10 ∷ []
 
+-- the transaction has a fault
 abbrev pub has_faults : List ℕ → RawParts → Bool
 has_faults submitter t = not (is_none_found (faults_in submitter t))
 
--- how many of the transactions have faults
+-- the number of transactions that have faults
 abbrev pub faulty_count : List ℕ → List RawParts → ℕ
 faulty_count submitter transactions = count_by (has_faults submitter) transactions
 
--- the last line: how many transactions there are, and how many of them have faults
+-- the last line: the number of transactions, and of those that have faults
 abbrev pub total_line : ℕ → ℕ → List ℕ
 total_line all faulty = decimal all ++ codes " transactions, " ++ decimal faulty ++ codes " with faults\n"
 
--- a line for each transaction, in order, and their numbers
+-- the lines of a check of a well-formed file: one for each transaction, in order, and the last line
 abbrev pub check_lines : List ℕ → List RawParts → List ℕ
 check_lines submitter transactions =
     flat_map (transaction_line submitter) transactions ++ total_line (length transactions) (faulty_count submitter transactions)
 
--- what is told of a well-formed file; it is clean where none of its transactions has a fault
+-- what a check prints of a well-formed file; it is clean where none of its transactions has a fault
 pub record IsCheckOfFile (text : List (List ℕ)) (told : List ℕ) (clean : Bool) : Type 0 where
   pub file : File
   pub formed : IsFile text file
   pub lines : told ≡ check_lines (submitter_of file) (raws_of 1 file.groups)
   pub clean_is : clean ≡ (faulty_count (submitter_of file) (raws_of 1 file.groups) == 0)
 
--- what is told of any other file: its first fault, and the line that has it
+-- what a check prints of any other file: its first fault, with the line that has it
 pub record IsCheckOfFault (text : List (List ℕ)) (told : List ℕ) (clean : Bool) : Type 0 where
   pub number : ℕ
   pub line : ℕ
@@ -68,6 +70,6 @@ pub record IsCheckOfFault (text : List (List ℕ)) (told : List ℕ) (clean : Bo
   pub lines : told ≡ refused_text number line ++ 10 ∷ []
   pub clean_is : clean ≡ false
 
--- what is told of a text, and whether it is clean
+-- what a check prints of a text, and whether the text is clean
 abbrev pub IsCheck : List (List ℕ) → List ℕ → Bool → Type 0
 IsCheck text told clean = IsCheckOfFile text told clean ⊎ IsCheckOfFault text told clean

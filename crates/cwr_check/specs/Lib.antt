@@ -1,2 +1,2 @@
 pub mod CheckText
-pub mod LinesSoFar
+pub mod ShortReport

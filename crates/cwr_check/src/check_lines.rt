@@ -3,37 +3,37 @@ ghost use Rattle.std.specs.List.{flat_map};
 ghost use Rattle.std.specs.Fmt.{decimal};
 ghost use Rattle.cwr_grammar.specs.RawParts.{RawParts};
 ghost use Rattle.cwr_check.specs.CheckText.{fault_text, verdict_text, place_text, total_line};
-ghost use Rattle.cwr_check.specs.LinesSoFar.{IsPlaceOf};
+ghost use Rattle.cwr_check.specs.ShortReport.{IsPlaceOf};
 
 use cwr_call::Fault;
 use cwr_field::{Memory, put_decimal};
-use cwr_record::{Column, LineRoom, Piece, WorkKind};
+use cwr_record::{Column, FieldValue, LineRoom, WorkKind};
 use std::alloc::Allocator;
 
-/// Of a transaction's line: its group id.
+/// The group id in the line of a transaction.
 const GROUP: Column = Column { start: 1, width: 5 };
 /// The blank behind the group id.
 const AFTER_GROUP: Column = Column { start: 6, width: 1 };
-/// Its transaction sequence.
+/// The transaction sequence.
 const SEQUENCE: Column = Column { start: 7, width: 8 };
 /// The blank behind the sequence.
 const AFTER_SEQUENCE: Column = Column {
     start: 15,
     width: 1,
 };
-/// Its kind, with the blank behind it.
+/// The kind, with the blank behind it.
 const KIND: Column = Column {
     start: 16,
     width: 4,
 };
-/// How many bytes the fields of fixed place take.
+/// How many bytes these fields take.
 const PLACE_WIDTH: usize = KIND.start + KIND.width - 1;
 /// How many bytes they take with the longest text behind them, `rejected`.
 const LINE_WIDTH: usize = PLACE_WIDTH + 8;
 
 /// Where a transaction stands in its file, and its kind.
 #[derive(Clone, Copy)]
-pub(crate) struct Place {
+pub(crate) struct TransactionPlace {
     /// The group id, from 1.
     pub(crate) group: u32,
     /// The transaction sequence, from 0.
@@ -41,10 +41,11 @@ pub(crate) struct Place {
     pub(crate) kind: WorkKind,
 }
 
-/// Appends the line of a transaction with these faults. One without a fault, as most are, is appended at once.
+/// Appends the line of a transaction with these faults. The line of one without faults, as most are, is appended in one
+/// step.
 pub(crate) fn put_transaction<A: Allocator>(
     out: &mut Vec<u8, A>,
-    place: Place,
+    place: TransactionPlace,
     faults: &[Fault],
 ) -> Result<(), Memory>
     requires group { place.group < 10 ^ 5 }
@@ -65,7 +66,7 @@ pub(crate) fn put_transaction<A: Allocator>(
 #[inline(always)]
 fn put_place<A: Allocator, const N: usize>(
     out: &mut Vec<u8, A>,
-    place: Place,
+    place: TransactionPlace,
     behind: &[u8; N],
 ) -> Result<(), Memory>
     requires group { place.group < 10 ^ 5 }
@@ -79,12 +80,12 @@ fn put_place<A: Allocator, const N: usize>(
         width: text.len(),
     };
     let mut line = LineRoom::<LINE_WIDTH>::new();
-    line.put(&Piece::Digits(place.group as u64, GROUP));
-    line.put(&Piece::Text(b" ", AFTER_GROUP));
-    line.put(&Piece::Digits(place.sequence as u64, SEQUENCE));
-    line.put(&Piece::Text(b" ", AFTER_SEQUENCE));
-    line.put(&Piece::Text(place.kind.code(), KIND));
-    line.put(&Piece::Text(text, after));
+    line.put(&FieldValue::Digits(place.group as u64, GROUP));
+    line.put(&FieldValue::Text(b" ", AFTER_GROUP));
+    line.put(&FieldValue::Digits(place.sequence as u64, SEQUENCE));
+    line.put(&FieldValue::Text(b" ", AFTER_SEQUENCE));
+    line.put(&FieldValue::Text(place.kind.code(), KIND));
+    line.put(&FieldValue::Text(text, after));
     out.extend_from_slice(line.bytes())?;
     Ok(())
 }
@@ -98,7 +99,7 @@ fn put_faults<A: Allocator>(out: &mut Vec<u8, A>, faults: &[Fault]) -> Result<()
     Ok(())
 }
 
-/// Appends a fault. Most of its parts have one byte.
+/// Appends a fault, as ` 1:J6` for a record sequence and the number of a rule.
 fn put_fault<A: Allocator>(out: &mut Vec<u8, A>, fault: &Fault) -> Result<(), Memory>
     ensures { OnOk result (out.new.items ≡ out.old.items ++ fault_text fault.now) }
 {
@@ -109,7 +110,7 @@ fn put_fault<A: Allocator>(out: &mut Vec<u8, A>, fault: &Fault) -> Result<(), Me
     put_number(out, fault.number as u64)
 }
 
-/// Appends a number. One digit, as many numbers have, is appended alone.
+/// Appends a number in decimal digits. A number of one digit, as most are, is appended as one byte.
 ///
 /// A refusal may leave a part of it.
 #[inline(always)]

@@ -5,7 +5,7 @@ ghost use Rattle.cwr_grammar.specs.Faults.{IsLeastFault};
 ghost use Rattle.cwr_source.specs.Input.{IsInput, IsUnjudged};
 ghost use Rattle.cwr_check.specs.CheckText.{IsCheck, IsCheckOfFault, IsCheckOfFile};
 
-use crate::lines_so_far::LinesSoFar;
+use crate::short_report::ShortReport;
 use byte_streams::{ReadRefused, Source};
 use cwr_field::Memory;
 use cwr_grammar::{FileRefusal, visit_file};
@@ -16,7 +16,7 @@ use std::alloc::{Allocator, Global};
 #[derive_where(Debug)]
 #[derive(Drop)]
 pub struct Checked<A: Allocator = Global> {
-    /// What is told of the file: lines, each with LF at its end.
+    /// The report on the file: lines, each with LF at its end.
     pub text: Vec<u8, A>,
     /// Whether the file is well-formed and none of its transactions has a fault.
     pub clean: bool,
@@ -24,15 +24,26 @@ pub struct Checked<A: Allocator = Global> {
 
 /// Checks a file by the rules of files and of transactions, F1 to F12 and J1 to J15, without a registry.
 ///
-/// For a file that is not well-formed the text is its first fault, as `refused F9 at line 5`. For any other it has a
-/// line for each transaction, in the order of the file: its group id in five digits, its transaction sequence in
-/// eight, its kind (NWR or REV), and then `ok`, or `rejected` and each of its faults, as `1:J6` for a record sequence
-/// and the number of a rule; and a last line, as `2 transactions, 1 with faults`. Each line has LF at its end. Where
-/// memory is refused nothing is told.
+/// For a file that is not well-formed the text is its first fault, as `refused F9 at line 5`.
+///
+/// For any other file it has a line for each transaction, in the order of the file. In it are the group id in five
+/// digits, the transaction sequence in eight, the kind (NWR or REV), and then `ok`, or `rejected` and each fault. A
+/// fault is written as `1:J6`, for a record sequence and the number of a rule. The last line is as
+/// `2 transactions, 1 with faults`. Each line has LF at its end.
+///
+/// Where memory is refused there is no report.
+///
+/// # Examples
+///
+/// ```rust
+/// let checked = check_text(alloc, b"")?;
+/// same_bytes("the report", &checked.text, b"refused F1 at line 1\n")?;
+/// same("whether it is clean", &checked.clean, &false)?;
+/// ```
 pub fn check_text<A: Allocator + Copy>(alloc: A, bytes: &[u8]) -> Result<Checked<A>, Memory>
     ensures { IfOk result (λ checked. IsCheck (lines bytes.now) checked.text.items checked.clean) }
 {
-    let mut told = LinesSoFar::new(alloc);
+    let mut told = ShortReport::new(alloc);
     match visit_file(bytes, &mut told) {
         Ok(_) => Ok(told.finish()?),
         Err(FileRefusal::Fault { number, line }) => check_of_fault(alloc, number, line),
@@ -40,16 +51,26 @@ pub fn check_text<A: Allocator + Copy>(alloc: A, bytes: &[u8]) -> Result<Checked
     }
 }
 
-/// Checks the file of a source as [`check_text`] does, and holds no more of it than a window of `room` bytes, which grows
-/// only for a longer line.
+/// Checks the file of a source as [`check_text`] does, through a window of `capacity` bytes. The window grows beyond
+/// that only for a longer line.
 ///
-/// At most `limit` bytes are taken, in at most two reads more than that; a reader that tells its bytes gave the first of
-/// them and holds the others. A fault is told once the file was read to its end.
+/// `alloc` allocates, and `reader` gives the file. At most `limit` bytes are taken, with at most `limit` + 2 reads.
+/// Where contracts see the reader's bytes, it gave the first of them and holds the others. A fault is reported once the
+/// file was read to its end.
+///
+/// # Examples
+///
+/// A file in memory that comes seven bytes at a time, through a window of 64 bytes.
+///
+/// ```rust
+/// let checked = check_source(alloc, &mut Feed::new(bytes, 7, None), limit, 64)?;
+/// same("whether it is clean", &checked.clean, &true)?;
+/// ```
 pub fn check_source<R: Source, A: Allocator + Copy>(
     alloc: A,
     reader: &mut R,
     limit: usize,
-    room: usize,
+    capacity: usize,
 ) -> Result<Checked<A>, ReadRefused>
     requires going { R.has_failed reader.old ≡ false }
     requires limit { limit < 4611686018427387904 }
@@ -59,7 +80,7 @@ pub fn check_source<R: Source, A: Allocator + Copy>(
     ensures read_on { HasGiven (R.left reader.old) (R.left reader.new) }
     ensures few_reads { R.reads reader.new ≤ R.reads reader.old + limit + 2 }
 {
-    match check_of_file(alloc, reader, limit, room) {
+    match check_of_file(alloc, reader, limit, capacity) {
         Ok(checked) => Ok(checked),
         Err(SourceRefused::Fault { number, line }) => match check_of_fault(alloc, number, line) {
             Ok(checked) => Ok(checked),
@@ -71,12 +92,12 @@ pub fn check_source<R: Source, A: Allocator + Copy>(
     }
 }
 
-/// What is told of the file of a source that is well-formed.
+/// The report on the file of a source, where it is well-formed.
 fn check_of_file<R: Source, A: Allocator + Copy>(
     alloc: A,
     reader: &mut R,
     limit: usize,
-    room: usize,
+    capacity: usize,
 ) -> Result<Checked<A>, SourceRefused>
     requires going { R.has_failed reader.old ≡ false }
     requires limit { limit < 4611686018427387904 }
@@ -85,14 +106,14 @@ fn check_of_file<R: Source, A: Allocator + Copy>(
     ensures read_on { HasGiven (R.left reader.old) (R.left reader.new) }
     ensures few_reads { R.reads reader.new ≤ R.reads reader.old + limit + 2 }
 {
-    let (_, told) = visit_source(alloc, reader, limit, room, LinesSoFar::new(alloc))?;
+    let (_, told) = visit_source(alloc, reader, limit, capacity, ShortReport::new(alloc))?;
     match told.finish() {
         Ok(checked) => Ok(checked),
         Err(_) => Err(SourceRefused::Memory),
     }
 }
 
-/// What is told of a file that has a fault.
+/// The report on a file with this fault.
 fn check_of_fault<A: Allocator + Copy>(
     alloc: A,
     number: u8,

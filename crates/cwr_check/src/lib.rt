@@ -1,10 +1,12 @@
-//! What the rules say of a submission file, before it is sent: [`check_text`] of one in memory, [`check_source`] of one
-//! that comes from a source, through a window of bytes. Each judges the transactions on the way of reading the file.
+//! What the rules say of a submission file, before it is sent.
+//!
+//! [`check_text`] checks a file in memory, and [`check_source`] one that comes from a source, through a window of
+//! bytes. Each judges the transactions while it reads the file.
 #![tactic(auto)]
 
 mod check_lines;
 mod checking;
-mod lines_so_far;
+mod short_report;
 
 pub use byte_streams::ReadRefused;
 pub use check_lines::{put_number, put_total};

@@ -10,7 +10,7 @@ use Rattle.work_registry.specs.EntryValue.{EntryValue}
 use Rattle.cwr_record.specs.Stamp.{StampParts}
 use Rattle.cwr_engine.specs.Account.{JobAccount}
 use Rattle.cwr_engine.specs.JobSteps.{WasRead, WasDecided, HasAnswered, entries_at}
-use Rattle.cwr_engine.specs.Whole.{is_full, IsWorkedAlone, TookTurns}
+use Rattle.cwr_engine.specs.WholeRun.{is_full, IsWorkedAlone, TookTurns}
 use Rattle.cwr_engine.proofs.lemmas.JobSteps.{worked_alone}
 use Rattle.cwr_engine.specs.declared.steps.DecidedJob.{DecidedJob}
 use Rattle.cwr_engine.specs.declared.jobs.Job.{Job}
@@ -61,7 +61,8 @@ module _ {J : Type 0} (P : J → J → FileOutcome → Bool → List EntryValue 
       → jobs ≡ job ∷ rest → worked ≡ one ∷ later → IsWorkedAlone P session before between job one.0 one.1
       → TookTurnsAs P (session + 1) rest later between after → TookTurnsAs P session jobs worked before after
   turn_and_more session jobs rest job worked later one before between after js ws alone took =
-      subst (λ (z : List J × List (J × FileOutcome)). TookTurnsAs P session z.0 z.1 before after) (λ i. (sym js i, sym ws i)) (between, alone, took)
+      subst (λ (z : List J × List (J × FileOutcome)). TookTurnsAs P session z.0 z.1 before after) (λ i. (sym js i, sym ws i))
+      (record { between = between; alone = alone; others = took })
 
   -- some jobs, and then the others
   turns_then : (s n : ℕ) (js js' ks ks' : List J) (os os' : List FileOutcome) (b m e : BookValue) → n ≡ s + length js → TookTurns P s js ks os b m
@@ -73,7 +74,11 @@ module _ {J : Type 0} (P : J → J → FileOutcome → Bool → List EntryValue 
   turns_then s n (j ∷ js) js' [] ks' os os' b m e is first more = absurd first
   turns_then s n (j ∷ js) js' (k ∷ ks) ks' [] os' b m e is first more = absurd first
   turns_then s n (j ∷ js) js' (k ∷ ks) ks' (o ∷ os) os' b m e is first more =
-      (first.0, first.1, turns_then (s + 1) n js js' ks ks' os os' first.0 m e (omega (arith, is)) first.2 more)
+      record {
+        between = first.between;
+        alone = first.alone;
+        others = turns_then (s + 1) n js js' ks ks' os os' first.between m e (omega (arith, is)) first.others more;
+      }
 
   took_more : (s n : ℕ) (js js' all : List J) (ws vs : List (J × FileOutcome)) (b m e : BookValue) → n ≡ s + length js → all ≡ js ++ js'
       → TookTurnsAs P s js ws b m → TookTurnsAs P n js' vs m e → TookTurnsAs P s all (ws ++ vs) b e

@@ -13,7 +13,7 @@ use Rattle.registry_desk.specs.declared.view.View.{View}
 use Rattle.registry_desk.specs.Closing.{Closes}
 use Rattle.registry_desk.specs.Rule.{MetFits}
 use Rattle.cwr_engine.specs.declared.outcome.FileOutcome.{FileOutcome}
-use Rattle.cwr_engine.specs.Whole.{Accounts, is_full, IsRun}
+use Rattle.cwr_engine.specs.WholeRun.{Accounts, is_full, IsRun}
 use Rattle.cwr_desk.specs.Ran.{Ran}
 use Rattle.cwr_desk.specs.Sights.{saw_full}
 
@@ -26,7 +26,7 @@ Ran-length P limit session [] (k ∷ ks) os before after r = absurd r
 Ran-length P limit session (j ∷ js) [] os before after r = absurd r
 Ran-length P limit session (j ∷ js) (k ∷ ks) [] before after r = absurd r
 Ran-length P limit session (j ∷ js) (k ∷ ks) (o ∷ os) before after r =
-    let e = Ran-length P limit (session + 1) js ks os before r.0 r.2 in let a = ap length r.3 in let b = length-append r.0 (r.1 ∷ []) in omega arith
+    let e = Ran-length P limit (session + 1) js ks os before r.between r.others in let a = ap length r.met_last in let b = length-append r.between (r.seat ∷ []) in omega arith
 
 module _ {J : Type 0} (P : J → J → FileOutcome → Bool → List EntryValue → Type 0) where
   -- the lists as they were before they were turned round
@@ -59,12 +59,12 @@ module _ {J : Type 0} (P : J → J → FileOutcome → Bool → List EntryValue 
     settles session (j ∷ js) [] os before after r fits = absurd r
     settles session (j ∷ js) (k ∷ ks) [] before after r fits = absurd r
     settles session (j ∷ js) (k ∷ ks) (o ∷ os) before after r fits =
-        let between : List Met = r.0 in let m : Met = r.1 in
-        let fits' : (i : ℕ) (n : Met) → get_elem? (between ++ m ∷ []) i ≡ some n → MetFits h.history h.limit n = λ i n e. fits i n (ap (λ l. get_elem? l i) r.3 ∙ e) in
+        let between : List Met = r.between in let m : Met = r.seat in
+        let fits' : (i : ℕ) (n : Met) → get_elem? (between ++ m ∷ []) i ≡ some n → MetFits h.history h.limit n = λ i n e. fits i n (ap (λ l. get_elem? l i) r.met_last ∙ e) in
         let f = fits' (length between) m (at_end between m) in
         let full : saw_full limit m.front ≡ true → is_full h ≡ true = saw limit h m.front limited f.front in (
-          subst (λ l. P j k o (is_full h) l) (sym (ap (made h.history) (sym r.4) ∙ f.list)) (mono j k o (saw_full limit m.front) (is_full h) m.list full r.5),
-          settles (session + 1) js ks os before between r.2 (λ i n e. fits' i n (at_before between (m ∷ []) i n e)),
+          subst (λ l. P j k o (is_full h) l) (sym (ap (made h.history) (sym r.session_is) ∙ f.list)) (mono j k o (saw_full limit m.front) (is_full h) m.list full r.account),
+          settles (session + 1) js ks os before between r.others (λ i n e. fits' i n (at_before between (m ∷ []) i n e)),
         )
 
     pub whole_run : (b : BookValue) (v : View) (js ks : List J) (os : List FileOutcome) → Closes v h → v.opened ≡ b.history → limit ≡ b.limit → v.given ≡ length js

@@ -1,10 +1,11 @@
-//! Jobs decided in their order, while threads read the files of the next ones and write acknowledgements of those before.
+//! Jobs decided in their order, while threads read the files of the next ones and write acknowledgements of those
+//! before.
 ghost use Rattle.std.specs.Prelude.{All, IfOk, IfErr, ◌≡◌, ◌+◌, ◌++◌, ◌<◌, ◌≤◌, [], false, true, map, reverse, vec_len, vec_capacity};
 ghost use Rattle.std.specs.Thread.{IsSync};
 ghost use Rattle.work_registry.specs.Replay.{is_opening};
 ghost use Rattle.cwr_engine.specs.Account.{JobAccount};
 ghost use Rattle.cwr_engine.specs.JobSteps.{HasAnswered, WasRead};
-ghost use Rattle.cwr_engine.specs.Whole.{InTurn, IsRun};
+ghost use Rattle.cwr_engine.specs.WholeRun.{InTurn, IsRun};
 ghost use Rattle.cwr_desk.specs.Ordered.{HasDecidedGroup, HasOrdered, HasReadGroup, IsGroupReady, IsGroupUnread, IsRunReady, group_size};
 
 use byte_streams::{Sink, Source};
@@ -18,37 +19,40 @@ use std::alloc::Allocator;
 use std::thread::{Threads, available_parallelism, join};
 use work_registry::Book;
 
-/// How many files are read beside one another: twice the processors of a small machine, so that none is idle where one
-/// file is longer than the others. The calls of two such groups are held.
+/// The number of files that are read at the same time: twice the processors of a small machine, so that none is idle if
+/// one file is longer than the others. The calls of two such groups are held.
 const GROUP: usize = 8;
 
-/// From how many transactions on an acknowledgement is long: worth a thread to write it.
+/// The number of transactions from which an acknowledgement is long: worth a thread to write it.
 const LONG: usize = 1_000;
 
-/// What reading a group leaves: the jobs that are left, and those that were read, each list with its first job last.
+/// The result of reading a group: the jobs that are still unread, and those that were read. Both lists are in reverse
+/// order.
 type GroupRead<R, W, A> = (Vec<Job<R, W>, A>, Vec<ReadJob<R, W, A>, A>);
 
-/// What deciding a group leaves: the book, the group's list, empty, and the jobs with how they ended, the first of them
-/// last.
+/// The result of deciding a group: the book, the group's list, empty, and the jobs with how they ended, the first of
+/// them last.
 type GroupDecided<R, W, A> = (
     Book<A>,
     Vec<ReadJob<R, W, A>, A>,
     Vec<(Job<R, W>, FileOutcome), A>,
 );
 
-/// Works jobs in their order, as [`serve_in_turn`](crate::serve_in_turn) does, on threads: job i, counted from 1, is
-/// session i of the book.
+/// Works jobs in their order, as [`serve_in_turn`](crate::serve_in_turn) does, but with threads. Job i, counted from 1,
+/// is session i of the book.
 ///
-/// Decided is on the thread that calls, one job after the other. Meanwhile the files of the next eight jobs are read and
-/// judged, each on a thread of its own, and acknowledgements of 1,000 transactions and more are written on threads; so the
-/// calls of at most sixteen files are held beside the book. A reader that does not come back holds up the jobs of its eight
-/// and those behind them, a writer those behind its eight. Where the runtime refuses a thread, its work is done on the
-/// thread that would have started it; where the process has one processor, the jobs are worked in turn, and none is
-/// started.
+/// Jobs are decided on the calling thread, one after the other. Meanwhile the files of the next eight jobs are read and
+/// judged, each on a thread of its own, and acknowledgements of 1,000 transactions or more are written on threads. So
+/// the calls of at most sixteen files are held beside the book. A reader that does not return holds up the jobs of its
+/// eight and those behind them; a writer those behind its eight. If the runtime refuses a thread, its work is done on
+/// the thread that would have started it. If the process has one processor, the jobs are worked in turn, and no thread
+/// is started.
 ///
-/// A job that is refused or stopped does not stop the next one. At most 63 jobs are taken, and a book whose entries
-/// are all of the opening. The run's own memory is asked for first: where it is refused no job is begun, and the book
+/// A job that is refused or stopped does not stop the next one. There may be at most 63 jobs, and all entries of the
+/// book must be of the opening. The run's own memory is allocated first. If that fails no job is begun, and the book
 /// and the jobs come back as they were.
+///
+/// `rt` starts threads, `alloc` allocates, and `jobs` are worked into `book`. `stamp` is that of all acknowledgements.
 pub fn serve_in_order<
     T: Threads + Sync,
     R: Source + Send + Drop,
@@ -102,7 +106,7 @@ fn has_one_processor<T: Threads>(rt: &T) -> bool {
     }
 }
 
-/// The lists of a run, with room for what they will hold.
+/// The lists of a run, with capacity for what they will hold.
 #[derive(Drop)]
 struct Lists<R, W, A: Allocator> {
     /// How each job ended.
@@ -118,7 +122,7 @@ struct Lists<R, W, A: Allocator> {
 }
 
 impl<R: Drop, W: Drop, A: Allocator + Copy + Drop> Lists<R, W, A> {
-    /// Empty lists for so many jobs.
+    /// Empty lists for a run of `count` jobs.
     fn for_jobs(alloc: A, count: usize) -> Result<Lists<R, W, A>, Memory>
         ensures outcomes { IfOk result (λ lists. (lists.outcomes.items ≡ []) × (count ≤ vec_capacity lists.outcomes)) }
         ensures worked_jobs { IfOk result (λ lists. (lists.worked_jobs.items ≡ []) × (count ≤ vec_capacity lists.worked_jobs)) }
@@ -136,9 +140,10 @@ impl<R: Drop, W: Drop, A: Allocator + Copy + Drop> Lists<R, W, A> {
     }
 }
 
-/// Reads the files of the first jobs, at most so many, and judges them.
+/// Reads and judges the files of the first jobs, at most `most` of them.
 ///
-/// Each list has its first job last.
+/// `rt` starts threads, and `alloc` allocates. `jobs` has the jobs of the run that are not read yet, and `group` those
+/// that are read, which the new ones are added to. Each list is in reverse order.
 #[cycle(reading)]
 fn read_group<
     T: Threads + Sync,
@@ -168,8 +173,11 @@ fn read_group<
     (jobs, group)
 }
 
-/// Reads the file of a job on a thread of its own, beside those of the jobs behind it, at most so many. Where there are
-/// none, it is read on this thread.
+/// Reads the file of a job on a thread of its own, beside those of the jobs behind it. If there are none of those to
+/// read, it is read on this thread.
+///
+/// `rt` starts threads, `alloc` allocates, and `job` is read. `jobs` has the jobs behind it, of which at most `most`
+/// are read, and added to `group`. Each list is in reverse order.
 #[cycle(reading)]
 fn read_beside<
     T: Threads + Sync,
@@ -205,9 +213,12 @@ fn read_beside<
     )
 }
 
-/// Decides the jobs of a group at a book, the last of the list first, from a session on, and answers them.
+/// Decides the jobs of a group at a book, the last of the list first, and writes their acknowledgements. The list of
+/// the group comes back empty.
 ///
-/// The list of the group comes back empty, and the jobs with how they ended, the first of them last.
+/// `rt` starts threads, and `alloc` allocates. The jobs of `group` are decided at `book`, as sessions from `session`
+/// on. `worked` is empty at first, and gets the jobs with how they ended, in reverse order. `stamp` is that of
+/// all acknowledgements.
 #[cycle(deciding)]
 fn decide_group<
     T: Threads + Sync,
@@ -247,8 +258,12 @@ fn decide_group<
     (book, group, worked)
 }
 
-/// Writes the acknowledgement of a job on a thread of its own, while those behind it are decided. A short one is written
-/// on this thread, and so is the last of a group.
+/// Writes the acknowledgement of a job on a thread of its own, while those behind it are decided. A short
+/// acknowledgement is written on this thread, and so is the last of a group.
+///
+/// `rt` starts threads, `alloc` allocates, and `job` is the one to acknowledge. The jobs of `group` are those behind
+/// it, which are decided at `book` as sessions from `session` on, and added to `worked`. `stamp` is that of all
+/// acknowledgements.
 #[cycle(deciding)]
 fn answer_beside<
     T: Threads + Sync,
@@ -298,7 +313,11 @@ fn is_long<R, W, A: Allocator>(decided: &DecidedJob<R, W, A>) -> bool {
     }
 }
 
-/// Decides a group that was read, and the jobs that are left after it, from those on that have ended.
+/// Decides a group that was read, and then the jobs that are left after it.
+///
+/// `rt` starts threads, and `alloc` allocates. `run` has the book and the jobs that have ended. `group` has the jobs
+/// that were read, and `jobs` those that are left, each list in reverse order. `next` and `worked` are empty
+/// lists for the next group and for the jobs of this one that have ended. `stamp` is that of all acknowledgements.
 fn order_from<
     T: Threads + Sync,
     R: Source + Send + Drop,
@@ -339,7 +358,16 @@ fn order_from<
     order_from(rt, alloc, run, next, jobs, group, worked, stamp)
 }
 
-/// Decides a group that was read, while the files of the next jobs are read.
+/// Decides the jobs of a group that was read, and writes their acknowledgements. At the same time the files of the next
+/// jobs, at most eight, are read. If no job is left, nothing is read.
+///
+/// `rt` starts threads, and `alloc` allocates. The jobs of `group` are decided at `book`, as sessions from `session` on.
+/// `jobs` are those that are unread. `next` and `worked` are empty lists: `next` gets the jobs that are read, `worked`
+/// those that have ended. All lists are in reverse order: the first job is the last element. `stamp` is that of all
+/// acknowledgements.
+///
+/// It returns first what reading leaves: the jobs that are still unread, and `next`. Then it returns what deciding
+/// leaves: the book, `group`, now empty, and `worked`, with how each job ended.
 fn decide_and_read<
     T: Threads + Sync,
     R: Source + Send + Drop,
@@ -380,7 +408,7 @@ fn decide_and_read<
     )
 }
 
-/// Puts jobs that have ended, the first of them last, behind those before, and leaves their list empty.
+/// Puts jobs that have ended, which stand in reverse order, behind those before, and leaves their list empty.
 fn put_behind<R: Drop, W: Drop, A: Allocator + Copy + Drop>(
     jobs: &mut Vec<Job<R, W>, A>,
     outcomes: &mut Vec<FileOutcome, A>,

@@ -3,7 +3,7 @@ ghost use Rattle.std.specs.Prelude.{All, IfOk, IfErr, ◌≡◌, ◌<◌, false,
 ghost use Rattle.std.specs.Thread.{IsSync};
 ghost use Rattle.work_registry.specs.Replay.{is_opening};
 ghost use Rattle.cwr_engine.specs.Account.{JobAccount};
-ghost use Rattle.cwr_engine.specs.Whole.{IsRun};
+ghost use Rattle.cwr_engine.specs.WholeRun.{IsRun};
 ghost use Rattle.cwr_desk.specs.Ran.{MayWork, HasWorked, MayRun, HaveRun};
 
 use crate::working::work_job;
@@ -16,12 +16,28 @@ use std::sync::Wait;
 use std::thread::{Threads, join};
 use work_registry::Book;
 
-/// Works each job on a thread of its own, all at one book: job i, counted from 1, is worker i and session i.
+/// Works each job on a thread of its own, all at one book. Job i, counted from 1, is worker i and session i.
 ///
-/// Where the runtime refuses a thread, that job is worked on the thread that would have started it. A job that is
-/// refused or stopped does not stop the others. At most 63 jobs are taken, and a book whose entries are all of the
-/// opening. The run's own memory is asked for first: where it is refused no worker is started, and the book and the
-/// jobs come back as they were.
+/// If the runtime refuses a thread, that job is worked on the thread that would have started it. A job that is refused
+/// or stopped does not stop the others. There may be at most 63 jobs, and all entries of the book must be of the
+/// opening. The run's own memory is allocated first. If that fails no worker is started, and the book and the jobs come
+/// back as they were.
+///
+/// `rt` starts threads and waits, `alloc` allocates, and `jobs` are worked into `book`. `stamp` is that of all
+/// acknowledgements, and each worker passes `gate` before and after each transaction.
+///
+/// # Examples
+///
+/// Two jobs over bytes in memory, which `both_jobs` makes, into an empty book. The crate `embedding` is the whole
+/// program.
+///
+/// ```rust
+/// fn work_both<R: Threads + Wait + Sync>(rt: &R, alloc: Global) -> Option<MemoryRun> {
+///     let jobs = both_jobs(alloc).ok()?;
+///     let book = Book::new(alloc, 1000);
+///     serve(rt, alloc, jobs, book, &stamp()?, &OpenGate).ok()
+/// }
+/// ```
 pub fn serve<
     T: Threads + Wait + Sync,
     R: Source + Send + Drop,
@@ -69,7 +85,10 @@ pub fn serve<
 
 /// Works the jobs, the last of the list first, each at a new seat on a thread of its own.
 ///
-/// The outcomes and the jobs come back in the order of the list.
+/// `rt` starts threads and waits, and `alloc` allocates. `opening` is the opening seat of `desk`, which gives the seats
+/// and meets them again. `jobs` are worked. `outcomes` is empty at first, and the outcomes and the jobs come back in
+/// the order of the list. `stamp` is that of all acknowledgements, and `gate` is passed before and after each
+/// transaction.
 fn serve_from<
     T: Threads + Wait + Sync,
     R: Source + Send + Drop,

@@ -1,9 +1,9 @@
 //! One job at a seat of the running desk.
 ghost use Rattle.std.specs.Prelude.{◌≡◌, ◌≢◌, ◌≤◌, ◌+◌, Some, false};
-ghost use Rattle.registry_desk.specs.Views.{most_turns};
+ghost use Rattle.registry_desk.specs.Views.{max_turns};
 ghost use Rattle.cwr_engine.specs.Account.{JobAccount, ends_of, read_ends, write_ends};
 ghost use Rattle.cwr_engine.specs.Causes.{ends_full, marked_by};
-ghost use Rattle.cwr_engine.specs.Handing.{IsWorked, most_handed};
+ghost use Rattle.cwr_engine.specs.Handing.{IsWorked, max_handed};
 ghost use Rattle.cwr_desk.specs.Ran.{MayWork, HasWorked};
 ghost use Rattle.cwr_desk.specs.Sights.{entries_of, saw_full};
 
@@ -18,13 +18,35 @@ use std::sync::Wait;
 /// Works one file at a seat: reads it to its end, hands its transactions in, in file order, and writes their
 /// acknowledgement.
 ///
-/// The seat is one of this desk, not the opening one, and has at least 99,999,995 turns left, one for each transaction
-/// that a file may have; `worker` is its session. A transaction that gets no reply ends the job, and the entries made
-/// before it stay. The seat comes back with the outcome, marked where the book was full for the job and else as it was.
-/// It waits whenever another seat is inside.
+/// A transaction that gets no reply ends the job, and the entries made before it stay. The seat comes back with the
+/// outcome. It is marked if the book was full for the job, and else as it was. The call waits whenever another seat is
+/// inside.
 ///
-/// That the gate is passed before and after each transaction is tested only. What is promised is that a job stops for
-/// the gate only where the gate may shut, and with a transaction of the file left.
+/// `rt` waits, and `alloc` allocates. `seat` is one of `desk`, not the opening one, and has at least 99,999,995 turns
+/// left, one for each transaction that a file may have. `reader` gives the file, and `writer` takes the
+/// acknowledgement, which has the stamp `stamp`. `gate` is passed before and after each transaction, as worker
+/// `worker`, which is the seat's session.
+///
+/// That the gate is passed before and after each transaction is tested only. What is proved is that a job stops for the
+/// gate only if the gate may close, and with a transaction of the file left.
+///
+/// # Examples
+///
+/// One file, `one`, at the first seat of a desk with one worker.
+///
+/// ```rust
+/// let Ok((desk, mut opening)) = Desk::open(alloc, Book::new(alloc, 100), 2) else {
+///     return Err(Fail::from("memory"));
+/// };
+/// let first = desk.split(&mut opening);
+/// let mut reader = Feed::new(one, 4096, None);
+/// let mut writer = Room::new(alloc, 425, true)?;
+/// let (first, first_end) = work(
+///     rt, alloc, &desk, first, &mut reader, &mut writer, &stamp, &OpenGate, 1,
+/// );
+/// desk.meet(&mut opening, first);
+/// let book = desk.close(opening);
+/// ```
 pub fn work<T: Wait, R: Source, W: Sink, G: Gate, A: Allocator + Copy + Drop>(
     rt: &T,
     alloc: A,
@@ -39,7 +61,7 @@ pub fn work<T: Wait, R: Source, W: Sink, G: Gate, A: Allocator + Copy + Drop>(
     requires desk { seat.desk ≡ desk.now }
     requires guest { seat.view.session ≢ 0 }
     requires worker { seat.view.session ≡ worker }
-    requires turns { seat.view.turns + most_handed ≤ most_turns }
+    requires turns { seat.view.turns + max_handed ≤ max_turns }
     requires reads { R.has_failed reader.old ≡ false }
     requires writes { W.has_failed writer.old ≡ false }
     ensures desk { result.0.desk ≡ desk.now }
@@ -49,17 +71,20 @@ pub fn work<T: Wait, R: Source, W: Sink, G: Gate, A: Allocator + Copy + Drop>(
     ensures worked { IsWorked seat.view.session (ends_of (read_ends R.Source reader.old reader.new) (write_ends W.Sink writer.old writer.new)
         (saw_full seat.view.limit result.0.view.front) (G.may_shut gate.now)) stamp.now result.1 (entries_of seat.view) (entries_of result.0.view) }
 {
-    let window = AtDesk { rt, desk, seat };
-    let (window, outcome) = work_file(alloc, window, gate, worker, reader, writer, stamp);
+    let registry = AtDesk { rt, desk, seat };
+    let (registry, outcome) = work_file(alloc, registry, gate, worker, reader, writer, stamp);
     let AtDesk {
         rt: _,
         desk: _,
         seat,
-    } = window;
+    } = registry;
     (seat, outcome)
 }
 
 /// Works a job at a new seat.
+///
+/// `rt` waits, and `alloc` allocates. `seat` is a new seat of `desk`, and `job` has the reader and the writer. `stamp`
+/// is that of the acknowledgement, and `gate` is passed before and after each transaction.
 pub(crate) fn work_job<
     T: Wait,
     R: Source + Drop,

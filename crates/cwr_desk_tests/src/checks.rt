@@ -1,18 +1,18 @@
-//! What a check tells of files of the profile, in memory and through windows of many sizes.
+//! What a check reports of files of the profile, in memory and through windows of many sizes.
 
 ghost use Rattle.std.specs.Prelude.{◌<◌};
 
 use crate::lines::{Line, file_with};
 use byte_streams::{Feed, ReadRefused};
 use cwr_check::{Checked, check_source, check_text};
-use cwr_sheets::{miscounted, one_writer, plain_file, same, same_bytes};
 use std::alloc::Global;
 use std::test::Fail;
+use test_files::{miscounted, one_writer, plain_file, same, same_bytes};
 
 const GROUP: &str = "GRHNWR0000102.200000000001";
 
-/// The most bytes of the files here.
-const MOST: usize = 4096;
+/// A bound on the bytes of the files here.
+const MAX: usize = 4096;
 
 fn expect_checked(checked: &Checked, wanted: &str, clean: bool) -> Result<(), Fail> {
     same_bytes(wanted, &checked.text, wanted.as_bytes())?;
@@ -25,24 +25,26 @@ fn expect_in_memory(alloc: Global, bytes: &[u8], wanted: &str, clean: bool) -> R
     expect_checked(&checked, wanted, clean)
 }
 
-/// The same of a file that comes a byte at a time, through a window of this size.
+/// The same for a file that comes a byte at a time, through a window. `alloc` allocates, `bytes` is the file, and
+/// `capacity` the size of the window, in bytes. `wanted` is the text that the check must give, and `clean` whether the
+/// file must be clean.
 fn expect_through(
     alloc: Global,
     bytes: &[u8],
-    room: usize,
+    capacity: usize,
     wanted: &str,
     clean: bool,
 ) -> Result<(), Fail> {
     let mut reader = Feed::new(bytes, 1, None);
-    let checked = check_source(alloc, &mut reader, MOST, room)?;
+    let checked = check_source(alloc, &mut reader, MAX, capacity)?;
     expect_checked(&checked, wanted, clean)
 }
 
-/// What must be told of a file, and whether it must be clean: in memory, and a byte at a time through each window.
+/// What must be reported of a file, and whether it must be clean: in memory, and a byte at a time through each window.
 fn expect(alloc: Global, bytes: &[u8], wanted: &str, clean: bool) -> Result<(), Fail> {
     expect_in_memory(alloc, bytes, wanted, clean)?;
-    for room in 0..300 {
-        expect_through(alloc, bytes, room, wanted, clean)?;
+    for capacity in 0..300 {
+        expect_through(alloc, bytes, capacity, wanted, clean)?;
     }
     Ok(())
 }
@@ -97,7 +99,7 @@ fn tells_groups_and_kinds(rt: HostRuntime) -> Result<(), Fail> {
     expect_lines(rt.alloc(), &lines, wanted, true)
 }
 
-/// The faults that are told of a work whose one writer has these shares.
+/// The faults that are reported of a work whose one writer has these shares.
 fn expect_shares(alloc: Global, shares: [&str; 3], faults: &str) -> Result<(), Fail> {
     let wanted = format!(in alloc;
         "00001 00000000 NWR rejected {faults}\n1 transactions, 1 with faults\n"
@@ -165,8 +167,8 @@ fn tells_the_first_fault_of_a_file(rt: HostRuntime) -> Result<(), Fail> {
     expect(alloc, &wrong, "refused F9 at line 5\n", false)
 }
 
-/// A check of a file must be refused so: of at most so many bytes, which come one at a time, until the read fails that is
-/// counted so from 1; none fails for 0.
+/// A check of a file must be refused. `alloc` allocates. `bytes` comes one byte at a time, of which at most `limit` may
+/// come. `failing` is the read that fails, counted from 1, and 0 for none. `wanted` is why the check must be refused.
 fn expect_refused(
     alloc: Global,
     bytes: &[u8],
@@ -184,12 +186,12 @@ fn expect_refused(
 /// The check of a file is refused at each read that fails, up to the one that finds its end.
 fn expect_each_refused(alloc: Global, bytes: &[u8]) -> Result<(), Fail> {
     for read in 0..=bytes.len() {
-        expect_refused(alloc, bytes, MOST, read as u64 + 1, ReadRefused::Read)?;
+        expect_refused(alloc, bytes, MAX, read as u64 + 1, ReadRefused::Read)?;
     }
     Ok(())
 }
 
-/// A fault is told only of a file that can be read to its end.
+/// A fault is reported only of a file that can be read to its end.
 #[test]
 fn tells_each_failed_read(rt: HostRuntime) -> Result<(), Fail> {
     let alloc = rt.alloc();
@@ -199,7 +201,7 @@ fn tells_each_failed_read(rt: HostRuntime) -> Result<(), Fail> {
     expect_each_refused(alloc, &wrong)
 }
 
-/// A clean file of at most so many bytes is taken, which come seven at a time.
+/// A clean file of at most `limit` bytes, which come seven at a time, is taken.
 fn expect_taken(alloc: Global, bytes: &[u8], limit: usize) -> Result<(), Fail>
     requires { limit < 4611686018427387904 }
 {
@@ -207,9 +209,9 @@ fn expect_taken(alloc: Global, bytes: &[u8], limit: usize) -> Result<(), Fail>
     same("whether it is clean", &checked.clean, &true)
 }
 
-/// A file is refused where it may have one byte less.
+/// A file is refused if the limit is one byte less.
 fn expect_too_long(alloc: Global, bytes: &[u8]) -> Result<(), Fail> {
-    let less = bytes.len().min(MOST).saturating_sub(1);
+    let less = bytes.len().min(MAX).saturating_sub(1);
     expect_refused(alloc, bytes, less, 0, ReadRefused::TooLong)
 }
 
@@ -218,7 +220,7 @@ fn expect_too_long(alloc: Global, bytes: &[u8]) -> Result<(), Fail> {
 fn takes_no_byte_past_the_limit(rt: HostRuntime) -> Result<(), Fail> {
     let alloc = rt.alloc();
     let clean = plain_file(alloc)?;
-    expect_taken(alloc, &clean, clean.len().min(MOST))?;
+    expect_taken(alloc, &clean, clean.len().min(MAX))?;
     expect_too_long(alloc, &clean)?;
     let wrong = miscounted(alloc)?;
     expect_too_long(alloc, &wrong)

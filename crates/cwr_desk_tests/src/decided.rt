@@ -2,18 +2,19 @@
 use crate::lines::{Line, file_of_works, file_with};
 use crate::three_ways::expect_three_ways;
 use cwr_desk::{Book, FileOutcome, OpenGate, Reply};
-use cwr_sheets::{
-    Answer, SENDER, Told, acknowledgement, decision, one_work, plain_file, same, with_newlines,
-    work_twice,
-};
-use desk_runs::{accepted, run_at_desk, run_in_turn, whole};
 use std::alloc::Global;
 use std::sync::Wait;
 use std::test::Fail;
 use std::thread::Threads;
+use test_files::{
+    Answer, FaultMessage, SENDER, acknowledgement, decision, one_work, plain_file, same,
+    with_newlines, work_twice,
+};
+use test_jobs::{accepted, run_at_desk, run_in_turn, whole};
 
-/// Acknowledges a file into an empty book, alone, as a job in turn, and at the desk: these are the decisions that must
-/// be told, and the replies that the two books must hold.
+/// Acknowledges a file into an empty book, alone, as a job in turn, and at the desk. `rt` starts threads and waits,
+/// `alloc` allocates, and `input` is the file. `answers` are the decisions that the acknowledgement must have, and
+/// `replies` those that the two books must hold.
 fn expect<T: Threads + Wait + Sync>(
     rt: &T,
     alloc: Global,
@@ -32,7 +33,7 @@ fn expect_one<T: Threads + Wait + Sync>(
     rt: &T,
     alloc: Global,
     input: &[u8],
-    faults: &[Told],
+    faults: &[FaultMessage],
 ) -> Result<(), Fail> {
     let (work, status, reply) = if faults.is_empty() {
         ("00000001", "AS", accepted(1, 1))
@@ -48,7 +49,7 @@ fn expect_lines<T: Threads + Wait + Sync>(
     rt: &T,
     alloc: Global,
     lines: &[Line],
-    faults: &[Told],
+    faults: &[FaultMessage],
 ) -> Result<(), Fail> {
     let input = file_of_works(alloc, 1, lines)?;
     expect_one(rt, alloc, &input, faults)
@@ -69,13 +70,15 @@ fn a_file_without_groups(rt: HostRuntime) -> Result<(), Fail> {
     expect(&rt, alloc, &input, &[], &[])
 }
 
-/// A work of two writers with these shares of the performing right, and half of the other rights each.
+/// A work of two writers with half of the other rights each. `rt` starts threads and waits, and `alloc` allocates.
+/// `own` and `other` are the writers' shares of the performing right, and `faults` what the work must be rejected for,
+/// if for any.
 fn expect_shares<'a, T: Threads + Wait + Sync>(
     rt: &T,
     alloc: Global,
     own: &'a str,
     other: &'a str,
-    faults: &[Told],
+    faults: &[FaultMessage],
 ) -> Result<(), Fail> {
     let lines = [
         Line::Work("NWR", 0, "W1", ""),
@@ -91,7 +94,7 @@ fn ownership_totals(rt: HostRuntime) -> Result<(), Fail> {
     expect_shares(&rt, alloc, "04994", "05000", &[])?;
     expect_shares(&rt, alloc, "05006", "05000", &[])?;
     expect_shares(&rt, alloc, "00000", "00000", &[])?;
-    let off: &[Told] = &[(0, "NWR", 11, "PR OWNERSHIP TOTAL IS NOT VALID")];
+    let off: &[FaultMessage] = &[(0, "NWR", 11, "PR OWNERSHIP TOTAL IS NOT VALID")];
     expect_shares(&rt, alloc, "04993", "05000", off)?;
     expect_shares(&rt, alloc, "05007", "05000", off)
 }
@@ -101,7 +104,7 @@ fn expect_iswc<T: Threads + Wait + Sync>(
     rt: &T,
     alloc: Global,
     iswc: &str,
-    faults: &[Told],
+    faults: &[FaultMessage],
 ) -> Result<(), Fail> {
     let lines = [
         Line::Work("NWR", 0, "W1", iswc),
@@ -114,7 +117,7 @@ fn expect_iswc<T: Threads + Wait + Sync>(
 #[test]
 fn check_digits(rt: HostRuntime) -> Result<(), Fail> {
     let alloc = rt.alloc();
-    let wrong: &[Told] = &[(0, "NWR", 4, "ISWC IS NOT VALID")];
+    let wrong: &[FaultMessage] = &[(0, "NWR", 4, "ISWC IS NOT VALID")];
     expect_iswc(&rt, alloc, "T0345246801", &[])?;
     expect_iswc(&rt, alloc, "T0345246802", wrong)?;
     expect_iswc(&rt, alloc, "", &[])
@@ -125,7 +128,7 @@ fn expect_date<T: Threads + Wait + Sync>(
     rt: &T,
     alloc: Global,
     date: &str,
-    faults: &[Told],
+    faults: &[FaultMessage],
 ) -> Result<(), Fail> {
     let after = format!(in alloc; "{:11}{date}", "")?;
     let lines = [
@@ -138,7 +141,7 @@ fn expect_date<T: Threads + Wait + Sync>(
 #[test]
 fn copyright_dates(rt: HostRuntime) -> Result<(), Fail> {
     let alloc = rt.alloc();
-    let no_day: &[Told] = &[(0, "NWR", 5, "DATE OR DURATION IS NOT VALID")];
+    let no_day: &[FaultMessage] = &[(0, "NWR", 5, "DATE OR DURATION IS NOT VALID")];
     expect_date(&rt, alloc, "20230229", no_day)?;
     expect_date(&rt, alloc, "20240229", &[])?;
     expect_date(&rt, alloc, "00000000", &[])?;
@@ -161,7 +164,7 @@ pub(crate) fn carried_file(alloc: Global, sixth: &str) -> Result<Vec<u8>, Fail> 
     file_of_works(alloc, 1, &lines)
 }
 
-/// The work is accepted with so many blanks at the end of that record.
+/// The work is accepted with `blanks` blanks at the end of that record.
 fn expect_carried<T: Threads + Wait + Sync>(
     rt: &T,
     alloc: Global,
@@ -189,7 +192,7 @@ fn a_rejected_work_and_an_accepted_one(rt: HostRuntime) -> Result<(), Fail> {
         Line::Writer("SWR", 1, 1, "10000", "10000"),
     ];
     let input = file_of_works(alloc, 2, &lines)?;
-    let told: &[Told] = &[(1, "SWT", 1, "RECORD OUT OF ORDER")];
+    let told: &[FaultMessage] = &[(1, "SWT", 1, "RECORD OUT OF ORDER")];
     let answers = [
         decision(0, "NWR", "W1", "", "RJ", told),
         decision(1, "NWR", "W2", "00000001", "AS", &[]),
@@ -224,7 +227,7 @@ fn a_share_above_the_whole(rt: HostRuntime) -> Result<(), Fail> {
 fn a_header_alone(rt: HostRuntime) -> Result<(), Fail> {
     let alloc = rt.alloc();
     let input = file_of_works(alloc, 1, &[Line::Text("NWR0000000000000000")])?;
-    let told: &[Told] = &[
+    let told: &[FaultMessage] = &[
         (0, "NWR", 2, "TITLE IS BLANK"),
         (0, "NWR", 3, "SUBMITTER WORK NUMBER IS BLANK"),
         (0, "NWR", 10, "NO WRITER"),
@@ -270,7 +273,7 @@ fn expect_published<T: Threads + Wait + Sync>(
     rt: &T,
     alloc: Global,
     publisher: &str,
-    faults: &[Told],
+    faults: &[FaultMessage],
 ) -> Result<(), Fail> {
     let input = published(alloc, publisher)?;
     expect_one(rt, alloc, &input, faults)
@@ -280,7 +283,7 @@ fn expect_published<T: Threads + Wait + Sync>(
 fn a_publisher_of_the_writer(rt: HostRuntime) -> Result<(), Fail> {
     let alloc = rt.alloc();
     expect_published(&rt, alloc, "000000002", &[])?;
-    let told: &[Told] = &[(3, "PWR", 9, "PUBLISHER OF WRITER IS NOT IN THE TRANSACTION")];
+    let told: &[FaultMessage] = &[(3, "PWR", 9, "PUBLISHER OF WRITER IS NOT IN THE TRANSACTION")];
     expect_published(&rt, alloc, "000000009", told)
 }
 

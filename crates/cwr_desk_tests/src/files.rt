@@ -1,16 +1,16 @@
-//! Files of the profile, and what becomes of each.
+//! Files of the profile, and the outcome of each.
 
 ghost use Rattle.std.specs.Prelude.{◌≡◌, ◌<◌, None, false, IfOk};
 
 use crate::three_ways::expect_left;
 use byte_streams::{Failed, Feed, ReadCount, ReadRefused, Room, Source, read_file};
 use cwr_desk::{Book, FileOutcome, Job, Run, Why, acknowledge, outcome_line, serve_in_turn};
-use cwr_sheets::{one_answer, plain_file, same, same_bytes, same_lists, stamp, with_newlines};
 use std::alloc::Global;
 use std::test::Fail;
+use test_files::{one_answer, plain_file, same, same_bytes, same_lists, stamp, with_newlines};
 
-/// Acknowledges a file from a source into a writer with so much room, which fails when it is full, or else takes
-/// nothing more: how it must end, and what must be written.
+/// Acknowledges a file. `alloc` allocates, and `reader` gives the file. The writer takes `room` bytes; then it fails if
+/// `fails` is true, and else takes nothing more. `end` is how the file must end, and `written` what must be written.
 fn expect<R: Source>(
     alloc: Global,
     reader: &mut R,
@@ -27,17 +27,17 @@ fn expect<R: Source>(
     expect_left(outcome, &writer, end, written)
 }
 
-/// Acknowledges a file whose reader gives so many bytes at a time: it must be answered as the plain file is.
-fn expect_plain(alloc: Global, input: &[u8], piece: usize) -> Result<(), Fail>
-    requires { 0 < piece }
+/// Acknowledges a file whose reader gives `chunk` bytes at a time: it must be answered as the plain file is.
+fn expect_plain(alloc: Global, input: &[u8], chunk: usize) -> Result<(), Fail>
+    requires { 0 < chunk }
 {
     let end = FileOutcome::Acked { transactions: 1 };
     let wanted = one_answer(alloc, "AS")?;
-    let mut reader = Feed::new(input, piece, None);
+    let mut reader = Feed::new(input, chunk, None);
     expect(alloc, &mut reader, 425, true, end, &wanted)
 }
 
-/// The plain file with each line end: whole, and with LF alone a byte at a time.
+/// The plain file with each line end: at once, and with LF alone a byte at a time.
 fn expect_both_ends(alloc: Global, input: &[u8]) -> Result<(), Fail> {
     expect_plain(alloc, input, 4096)?;
     let newlines = with_newlines(alloc, input)?;
@@ -173,7 +173,8 @@ fn reads_up_to_the_limit(rt: HostRuntime) -> Result<(), Fail> {
     same_bytes("a whole file", &whole, b"abc")
 }
 
-/// A file is refused, whose reader gives two bytes at a time and fails at this read, and of which three bytes are read.
+/// A file must be refused. Its reader gives two bytes at a time, and fails at read `fail`, if that is given. At most
+/// three bytes may be read.
 fn expect_refused(
     alloc: Global,
     text: &str,
@@ -191,7 +192,7 @@ fn refuses_a_file_past_the_limit_and_a_failed_read(rt: HostRuntime) -> Result<()
     expect_refused(rt.alloc(), "abc", Some(2), ReadRefused::Read)
 }
 
-/// The line that tells the outcome of a file.
+/// The line that reports the outcome of a file.
 fn expect_line(alloc: Global, name: &str, outcome: FileOutcome, wanted: &str) -> Result<(), Fail> {
     let line = outcome_line(alloc, name.as_bytes(), &outcome)?;
     same_bytes("a line", &line, wanted.as_bytes())
@@ -206,7 +207,7 @@ fn tells_outcomes(rt: HostRuntime) -> Result<(), Fail> {
     expect_line(alloc, "a.v22", refused, "a.v22: refused F9 at line 5\n")
 }
 
-/// The line of a file on standard input that was stopped after so many transactions.
+/// The line of a file on standard input that was stopped after `handed` transactions.
 fn expect_stopped(alloc: Global, handed: u32, why: Why, wanted: &str) -> Result<(), Fail> {
     expect_line(alloc, "-", FileOutcome::Stopped { handed, why }, wanted)
 }

@@ -1,5 +1,5 @@
-//! Tests of one file at a time: how it is read and written, what it is refused for, what is decided on its
-//! transactions and told of them, alone, in turn and at the desk; and what a check tells of it.
+//! Tests of one file at a time: how it is read and written, and what it is refused for; what is decided on its
+//! transactions and acknowledged, alone, in turn and at the desk; and what a check reports of it.
 #![tactic(auto)]
 
 #[cfg(test)]

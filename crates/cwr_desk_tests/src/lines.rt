@@ -1,8 +1,8 @@
 //! Lines of files, named before they are made.
 
-use cwr_sheets::{SENDER, file, header, work, writer};
 use std::alloc::Global;
 use std::test::Fail;
+use test_files::{SENDER, file, header, work, writer};
 
 /// A line of a file.
 #[derive(Clone, Copy)]
@@ -11,8 +11,8 @@ pub(crate) enum Line<'a> {
     Text(&'a str),
     /// A transaction's header: NWR or REV, its sequence, the submitter's number of the work, and what follows that.
     Work(&'a str, u32, &'a str, &'a str),
-    /// A writer's record: SWR or OWR, its transaction's sequence, its own, its share of the performing right, and that of
-    /// each other right.
+    /// A writer's record: SWR or OWR, its transaction's sequence, its own, its share of the performing right, and that
+    /// of each other right.
     Writer(&'a str, u32, u32, &'a str, &'a str),
 }
 
@@ -36,7 +36,7 @@ pub(crate) fn texts_of(alloc: Global, lines: &[Line]) -> Result<Vec<String>, Fai
     Ok(texts)
 }
 
-/// A file of one group of so many new works, with these lines between its header and trailer lines.
+/// A file of one group of `works` new works, with these lines between its header and trailer lines.
 pub(crate) fn file_of_works(alloc: Global, works: u32, lines: &[Line]) -> Result<Vec<u8>, Fail> {
     let texts = texts_of(alloc, lines)?;
     file(alloc, SENDER, "NWR", works, &texts)

@@ -3,11 +3,11 @@ use crate::decided::carried_file;
 use crate::lines::{Line, file_dated, file_with};
 use crate::three_ways::expect_three_ways;
 use cwr_desk::FileOutcome;
-use cwr_sheets::miscounted;
 use std::alloc::Global;
 use std::sync::Wait;
 use std::test::Fail;
 use std::thread::Threads;
+use test_files::miscounted;
 
 const GROUP: Line<'static> = Line::Text("GRHNWR0000102.200000000001");
 
@@ -20,7 +20,8 @@ const GROUP_END: Line<'static> = Line::Text("GRT000010000000100000004");
 
 const END: Line<'static> = Line::Text("TRL000010000000100000006");
 
-/// A file that must be refused for this fault at this line, alone, as a job in turn, and at the desk.
+/// A file that must be refused, alone, as a job in turn, and at the desk. `rt` starts threads and waits, `alloc`
+/// allocates, and `input` is the file. `number` is that of the fault, and `line` its line, from 1.
 fn expect_fault<T: Threads + Wait + Sync>(
     rt: &T,
     alloc: Global,
@@ -37,7 +38,8 @@ fn an_empty_file(rt: HostRuntime) -> Result<(), Fail> {
     expect_fault(&rt, rt.alloc(), b"", 1, 1)
 }
 
-/// A file with these lines after its HDR, which must be refused for this fault at this line.
+/// A file that must be refused. `rt` starts threads and waits, `alloc` allocates, and `lines` follow its HDR. `number`
+/// is that of the fault, and `line` its line, from 1.
 fn expect_lines<T: Threads + Wait + Sync>(
     rt: &T,
     alloc: Global,
@@ -98,8 +100,8 @@ fn a_day_that_no_month_has(rt: HostRuntime) -> Result<(), Fail> {
     expect_fault(&rt, rt.alloc(), &input, 3, 1)
 }
 
-/// A file of one work whose carried record, on line 8, has so many blanks and this text at its end: it must be refused
-/// for this fault there.
+/// A file of one work that must be refused for its carried record, on line 8. `rt` starts threads and waits, and
+/// `alloc` allocates. The record has `blanks` blanks and the text `end` at its end. `number` is that of the fault.
 fn expect_carried<T: Threads + Wait + Sync>(
     rt: &T,
     alloc: Global,

@@ -8,8 +8,8 @@ use Rattle.std.specs.List.{AllByRecursion}
 use Rattle.byte_streams.specs.GivenBytes.{HasGiven}
 use Rattle.cwr_record.specs.Stamp.{StampParts}
 use Rattle.cwr_record.specs.declared.control.Header.{Header}
-use Rattle.cwr_acknowledgement.specs.AckItem.{Item, told_faults, is_rejected}
-use Rattle.cwr_acknowledgement.specs.Acknowledgement.{ack_text, told_count, most_told}
+use Rattle.cwr_acknowledgement.specs.AckItem.{Item, reported_faults, is_rejected}
+use Rattle.cwr_acknowledgement.specs.Acknowledgement.{ack_text, reported_fault_count, max_ack_records}
 use Rattle.cwr_grammar.specs.RawParts.{RawParts, IsPlaced, lines_in}
 use Rattle.cwr_grammar.specs.Submitted.{IsBounded}
 use Rattle.cwr_call.specs.declared.transaction_fault.Fault.{Fault}
@@ -17,8 +17,8 @@ use Rattle.cwr_call.specs.CallValue.{CallValue}
 use Rattle.cwr_rules.specs.Calls.{call_of}
 use Rattle.work_registry.specs.EntryValue.{EntryValue}
 use Rattle.work_registry.specs.Replay.{calls_of}
-use Rattle.work_registry.specs.Told.{status_in}
-use Rattle.cwr_engine.specs.Account.{most, Ends, Account, IsRead, IsMadeOf, IsMadeOfAll, Gives}
+use Rattle.work_registry.specs.ReplyParts.{status_in}
+use Rattle.cwr_engine.specs.Account.{max_file_bytes, Ends, Account, IsRead, IsMadeOf, IsMadeOfAll, Gives}
 use Rattle.cwr_source.specs.Input.{IsUnjudged}
 use Rattle.cwr_source.specs.declared.refused.SourceRefused.{SourceRefused}
 use Rattle.cwr_source.specs.declared.refused.SourceRefused.TheVariants as unjudged
@@ -35,14 +35,14 @@ use Rattle.cwr_engine.proofs.CallSizes.{few_faults}
 
 -- ---- what was read
 
-pub read_whole : (input : List ℕ) (head : Header) (judged : List JudgedValue) → length input ≤ most → (was : WasJudged input head judged)
+pub read_whole : (input : List ℕ) (head : Header) (judged : List JudgedValue) → length input ≤ max_file_bytes → (was : WasJudged input head judged)
     → IsRead input head was.transactions
 read_whole input head judged fits was =
     record { fits = fits; file = was.file; formed = was.formed; header = was.header; found = was.found }
 
 -- fewer bytes than the most
-pub within : (input : List ℕ) (head : Header) (judged : List JudgedValue) → length input ≤ most → (was : WasJudged input head judged)
-    → AreJudged most head was.transactions judged
+pub within : (input : List ℕ) (head : Header) (judged : List JudgedValue) → length input ≤ max_file_bytes → (was : WasJudged input head judged)
+    → AreJudged max_file_bytes head was.transactions judged
 within input head judged fits was =
     let bounds = was.are.bounds in
     record {
@@ -50,20 +50,20 @@ within input head judged fits was =
       bounds = record { placed = bounds.placed; few = let few = bounds.few in omega (arith, few, fits); printable = bounds.printable };
     }
 
-few_in_all : (head : Header) (ts : List RawParts) → IsBounded most head ts → lines_in ts ≤ 8388608
+few_in_all : (head : Header) (ts : List RawParts) → IsBounded max_file_bytes head ts → lines_in ts ≤ 8388608
 few_in_all head ts bounds = let few : 2 * lines_in ts ≤ 16777216 = bounds.few in omega (arith, few)
 
 each_has_lines : (ts : List RawParts) → AllByRecursion IsPlaced ts → length ts ≤ lines_in ts
 each_has_lines [] all = omega arith
 each_has_lines (t ∷ ts) all = let h = each_has_lines ts all.1 in let some = all.0.some in omega (arith, h, some)
 
-pub few_transactions : (head : Header) (ts : List RawParts) → IsBounded most head ts → length ts ≤ 8388608
+pub few_transactions : (head : Header) (ts : List RawParts) → IsBounded max_file_bytes head ts → length ts ≤ 8388608
 few_transactions head ts bounds = let a = few_in_all head ts bounds in let b = each_has_lines ts bounds.placed in omega (arith, a, b)
 
-pub length_judged : (head : Header) (ts : List RawParts) (judged : List JudgedValue) → AreJudged most head ts judged → length judged ≡ length ts
+pub length_judged : (head : Header) (ts : List RawParts) (judged : List JudgedValue) → AreJudged max_file_bytes head ts judged → length judged ≡ length ts
 length_judged head ts judged are = ap length are.judged_are ∙ length-map ts (judged_of head.sender)
 
-pub few_judged : (head : Header) (ts : List RawParts) (judged : List JudgedValue) → AreJudged most head ts judged → length judged ≤ 8388608
+pub few_judged : (head : Header) (ts : List RawParts) (judged : List JudgedValue) → AreJudged max_file_bytes head ts judged → length judged ≤ 8388608
 few_judged head ts judged are =
     let few = few_transactions head ts are.bounds in
     let same = length_judged head ts judged are in
@@ -74,16 +74,16 @@ told_few true faults = omega arith
 told_few false faults = omega arith
 
 told_in : (submitter : List ℕ) (ts : List RawParts) (made : List EntryValue) → AllByRecursion IsPlaced ts → calls_of made ≡ take (length made) (calls_in submitter ts)
-    → length (items_of ts made) + told_count (items_of ts made) ≤ 10 * lines_in ts
+    → length (items_of ts made) + reported_fault_count (items_of ts made) ≤ 10 * lines_in ts
 told_in submitter [] made all is = omega arith
 told_in submitter (t ∷ ts) [] all is = omega arith
 told_in submitter (t ∷ ts) (e ∷ made) all is =
     let own : e.call ≡ call_of submitter t = cc in
     let others : calls_of made ≡ take (length made) (calls_in submitter ts) = cc in
     let rest = told_in submitter ts made all.1 others in
-    let sum : told_count (item_of t e ∷ items_of ts made) ≡ length (told_faults (item_of t e)) + told_count (items_of ts made) =
-    sum_by-cons (λ (item : Item). length (told_faults item)) (item_of t e) (items_of ts made) in
-    let here : length (told_faults (item_of t e)) ≤ length e.call.faults = told_few (is_rejected (status_in e.reply)) e.call.faults in
+    let sum : reported_fault_count (item_of t e ∷ items_of ts made) ≡ length (reported_faults (item_of t e)) + reported_fault_count (items_of ts made) =
+    sum_by-cons (λ (item : Item). length (reported_faults item)) (item_of t e) (items_of ts made) in
+    let here : length (reported_faults (item_of t e)) ≤ length e.call.faults = told_few (is_rejected (status_in e.reply)) e.call.faults in
     let same : length e.call.faults ≡ length (call_of submitter t).faults = ap (λ (c : CallValue). length c.faults) own in
     let few = few_faults submitter t all.0.some in
     let some = all.0.some in
@@ -91,11 +91,11 @@ told_in submitter (t ∷ ts) (e ∷ made) all is =
 
 -- the acknowledgement of what was handed in has eight digits for its records
 pub few_told : (session : ℕ) (head : Header) (ts : List RawParts) (items : List Item) (before after : Entries)
-    → IsBounded most head ts → AreAnswered session head.sender ts items before after → length items + told_count items ≤ most_told
+    → IsBounded max_file_bytes head ts → AreAnswered session head.sender ts items before after → length items + reported_fault_count items ≤ max_ack_records
 few_told session head ts items before after bounds so_far =
     let few = told_in head.sender ts so_far.made bounds.placed so_far.calls in
     let all = few_in_all head ts bounds in
-    subst (λ (l : List Item). length l + told_count l ≤ most_told) (sym so_far.told) (omega (arith, few, all))
+    subst (λ (l : List Item). length l + reported_fault_count l ≤ max_ack_records) (sym so_far.told) (omega (arith, few, all))
 
 -- ---- what is known of the ends
 
@@ -131,7 +131,7 @@ long_input (Some bytes) n h = (bytes, refl, h)
 -- ---- a job that handed nothing in
 
 module _ (session : ℕ) (ends : Ends) (stamp : StampParts) (before : Entries) (unwritten : Appends ends.taken_before ends.taken_after [])
-    (read_on : HasGiven ends.left_before ends.left_after) (few_reads : ends.reads_after ≤ ends.reads_before + most + 2) where
+    (read_on : HasGiven ends.left_before ends.left_after) (few_reads : ends.reads_after ≤ ends.reads_before + max_file_bytes + 2) where
   nothing_made : (outcome : FileOutcome) (input : List ℕ) → Gives ends.left_before input → Account ends stamp input outcome [] []
       → IsWorked session ends stamp outcome before before
   nothing_made outcome input given account = record {
@@ -145,17 +145,17 @@ module _ (session : ℕ) (ends : Ends) (stamp : StampParts) (before : Entries) (
   not_begun = let i = some_input ends.left_before in nothing_made (Stopped 0 Memory) i.0 i.1 (refl, (refl, λ h. absurd (omega arith)))
 
   -- its file was not judged
-  pub not_judged : (why : SourceRefused) → IsUnjudged most ends.left_before ends.read_failed why → IsWorked session ends stamp (outcome_of why) before before
+  pub not_judged : (why : SourceRefused) → IsUnjudged max_file_bytes ends.left_before ends.read_failed why → IsWorked session ends stamp (outcome_of why) before before
   not_judged unjudged.Memory h = not_begun
   not_judged unjudged.Read h = let i = some_input ends.left_before in nothing_made (Stopped 0 Read) i.0 i.1 (refl, (refl, refl, h))
-  not_judged unjudged.TooLong h = let i = long_input ends.left_before most h in nothing_made (Stopped 0 TooLong) i.0 i.1 (refl, (refl, refl, i.2))
+  not_judged unjudged.TooLong h = let i = long_input ends.left_before max_file_bytes h in nothing_made (Stopped 0 TooLong) i.0 i.1 (refl, (refl, refl, i.2))
   not_judged (unjudged.Fault number line) h = nothing_made (Refused number line) h.0 (given_whole ends.left_before h.0 h.1.1) (record { fits = h.1.0; first = h.2 }, refl, refl)
 
 -- ---- a job that handed transactions of a file in
 
 module _ (session : ℕ) (ends : Ends) (stamp : StampParts) (before after : Entries) (input : List ℕ) (head : Header) (ts : List RawParts) (items : List Item)
     (given : IfSome ends.left_before (λ bytes. input ≡ bytes)) (read_on : HasGiven ends.left_before ends.left_after)
-    (few_reads : ends.reads_after ≤ ends.reads_before + most + 2) (read : IsRead input head ts) (so_far : AreAnswered session head.sender ts items before after)
+    (few_reads : ends.reads_after ≤ ends.reads_before + max_file_bytes + 2) (read : IsRead input head ts) (so_far : AreAnswered session head.sender ts items before after)
     (n : ℕ) (count : n ≡ length items) where
   ended : (outcome : FileOutcome) (written : List ℕ) → Appends ends.taken_before ends.taken_after written → Account ends stamp input outcome written so_far.made
       → IsWorked session ends stamp outcome before after
@@ -231,7 +231,7 @@ module _ (session : ℕ) (ends : Ends) (stamp : StampParts) (before after : Entr
 -- all got replies, and their acknowledgement was sent, or its sending stopped
 module _ (session : ℕ) (ends : Ends) (stamp : StampParts) (before after : Entries) (input : List ℕ) (head : Header) (ts : List RawParts) (items : List Item)
     (given : IfSome ends.left_before (λ bytes. input ≡ bytes)) (read_on : HasGiven ends.left_before ends.left_after)
-    (few_reads : ends.reads_after ≤ ends.reads_before + most + 2) (read : IsRead input head ts) (so_far : AreAnswered session head.sender ts items before after)
+    (few_reads : ends.reads_after ≤ ends.reads_before + max_file_bytes + 2) (read : IsRead input head ts) (so_far : AreAnswered session head.sender ts items before after)
     (all : length items ≡ length ts) where
   pub sent : (outcome : FileOutcome) → IsSent ends.taken_before ends.taken_after ends.write_failed (ack_text stamp head items) (length items) outcome
       → IsWorked session ends stamp outcome before after

@@ -5,31 +5,31 @@ use Rattle.std.specs.Char.{is_ascii_uppercase}
 use Rattle.std.specs.List.{list_all, AllByRecursion}
 use Rattle.std.specs.Option.{ForSome}
 use Rattle.std.proofs.lemmas.Bool.Decides.{nat_tests}
-use Rattle.cwr_field.specs.Number.{most_count}
+use Rattle.cwr_field.specs.Number.{max_count}
 use Rattle.cwr_field.proofs.lemmas.Tests.{parts}
 use Rattle.cwr_record.specs.declared.works.WorkKind.{WorkKind}
-use Rattle.cwr_acknowledgement.specs.AckItem.{Item, is_rejected, told_faults}
+use Rattle.cwr_acknowledgement.specs.AckItem.{Item, is_rejected, reported_faults}
 use Rattle.cwr_acknowledgement.specs.Acknowledgement.{FitsItem, FitsFault}
 use Rattle.cwr_grammar.specs.RawParts.{RawParts, IsPlaced}
 use Rattle.cwr_record.specs.declared.status.Status.{Status}
 use Rattle.cwr_call.specs.declared.transaction_fault.Fault.{Fault}
 use Rattle.cwr_call.specs.CallValue.{CallValue}
 use Rattle.cwr_rules.specs.Calls.{call_of}
-use Rattle.cwr_call.specs.Lawful.{most_faults, are_faults, is_fault, rises}
+use Rattle.cwr_call.specs.Lawful.{max_faults, are_faults, is_fault, rises}
 use Rattle.work_registry.specs.EntryValue.{EntryValue, entry_of}
-use Rattle.work_registry.specs.Numbers.{most_entries, IsNumbered}
+use Rattle.work_registry.specs.Numbers.{max_entries, IsNumbered}
 use Rattle.work_registry.specs.Replay.{calls_of, replay, entry_for}
-use Rattle.work_registry.specs.Told.{status_in, work_in}
+use Rattle.work_registry.specs.ReplyParts.{status_in, work_in}
 use Rattle.work_registry.specs.declared.reply.Reply.{Reply}
 use Rattle.work_registry.specs.declared.reply.Reply.TheVariants.{Accepted, Duplicate, Conflict, Rejected}
 use Rattle.cwr_engine.specs.Items.{item_of, items_of, calls_in}
-use Rattle.cwr_engine.specs.Told.{told_of, told_all}
+use Rattle.cwr_engine.specs.AckItems.{item_with_reply, items_with_replies}
 use Rattle.cwr_engine.specs.Judged.{JudgedValue, judged_of}
 use Rattle.cwr_engine.specs.Handing.{Follows, Entries, HasGained, IsAnswered, AreAnswered}
 
 -- ---- an item fits its line
 
-named : (w x : ℕ) → w ≤ most_entries → Some w ≡ Some x → x < 10 ^ 8
+named : (w x : ℕ) → w ≤ max_entries → Some w ≡ Some x → x < 10 ^ 8
 named w x le is = let same : w ≡ x = cc in omega (arith, le, same)
 
 work_fits : (r : Reply) → IsNumbered r → ForSome (work_in r) (λ work. work < 10 ^ 8)
@@ -40,8 +40,8 @@ work_fits Rejected n = λ x is. absurd cc
 
 fault_fits : (f : Fault) → is_fault f ≡ true → FitsFault f
 fault_fits f e =
-    let numbers = (parts (nat_le f.sequence most_count && (nat_le 1 f.number && nat_le f.number 15)) (list_all is_ascii_uppercase f.rtype) e).0 in
-    let a = parts (nat_le f.sequence most_count) (nat_le 1 f.number && nat_le f.number 15) numbers in
+    let numbers = (parts (nat_le f.sequence max_count && (nat_le 1 f.number && nat_le f.number 15)) (list_all is_ascii_uppercase f.rtype) e).0 in
+    let a = parts (nat_le f.sequence max_count) (nat_le 1 f.number && nat_le f.number 15) numbers in
     let b = parts (nat_le 1 f.number) (nat_le f.number 15) a.1 in
     let small = a.0 in
     let low = b.0 in
@@ -58,7 +58,7 @@ told_fit false fs h = tt
 
 item_fits : (t : RawParts) (e : EntryValue) → IsPlaced t → IsNumbered e.reply → are_faults e.call.faults ≡ true → FitsItem (item_of t e)
 item_fits t e placed numbered lawful =
-    let few = nat_le (length e.call.faults) most_faults in
+    let few = nat_le (length e.call.faults) max_faults in
     let all = (parts few (list_all is_fault e.call.faults) (parts (few && list_all is_fault e.call.faults) (rises e.call.faults) lawful).0).1 in
     record {
       group = placed.group;
@@ -73,10 +73,10 @@ item_fits t e placed numbered lawful =
 pub answered : (s : ℕ) (submitter : List ℕ) (t : RawParts) (judged : JudgedValue) (call : CallValue) (r : Reply) (before after : Entries)
     → judged ≡ judged_of submitter t → call ≡ judged.call → HasGained s (entry_of s call r ∷ []) before after
     → IsPlaced t → IsNumbered r → IsTrue (are_faults judged.call.faults)
-    → IsAnswered s submitter t (told_of judged r) before after
+    → IsAnswered s submitter t (item_with_reply judged r) before after
 answered s submitter t judged call r before after is same gained placed numbered lawful =
     let whole : call ≡ call_of submitter t = same ∙ ap (λ (j : JudgedValue). j.call) is in
-    let told : told_of judged r ≡ item_of t (entry_of s (call_of submitter t) r) = ap (λ (j : JudgedValue). told_of j r) is in
+    let told : item_with_reply judged r ≡ item_of t (entry_of s (call_of submitter t) r) = ap (λ (j : JudgedValue). item_with_reply j r) is in
     let own : are_faults (call_of submitter t).faults ≡ true = ap (λ (j : JudgedValue). are_faults j.call.faults) (sym is) ∙ lawful in
     record {
       reply = r;
@@ -87,31 +87,31 @@ answered s submitter t judged call r before after is same gained placed numbered
 
 -- ---- what is told of judged transactions and of the replies to them
 
-pub told_none : (judged : List JudgedValue) (replies : List Reply) → replies ≡ [] → told_all judged replies ≡ []
-told_none judged replies none = ap (told_all judged) none ∙ go judged where
-  go : (js : List JudgedValue) → told_all js [] ≡ []
+pub told_none : (judged : List JudgedValue) (replies : List Reply) → replies ≡ [] → items_with_replies judged replies ≡ []
+told_none judged replies none = ap (items_with_replies judged) none ∙ go judged where
+  go : (js : List JudgedValue) → items_with_replies js [] ≡ []
   go [] = refl
   go (j ∷ js) = refl
 
-pub length_told : (judged : List JudgedValue) (replies : List Reply) → length replies ≤ length judged → length (told_all judged replies) ≡ length replies
+pub length_told : (judged : List JudgedValue) (replies : List Reply) → length replies ≤ length judged → length (items_with_replies judged replies) ≡ length replies
 length_told [] [] le = refl
 length_told [] (r ∷ rs) le = absurd (omega (arith, le))
 length_told (j ∷ js) [] le = refl
 length_told (j ∷ js) (r ∷ rs) le = ap suc (length_told js rs (omega (arith, le)))
 
-pub length_told_least : (judged : List JudgedValue) (replies : List Reply) → length (told_all judged replies) ≡ min (length judged) (length replies)
+pub length_told_least : (judged : List JudgedValue) (replies : List Reply) → length (items_with_replies judged replies) ≡ min (length judged) (length replies)
 length_told_least [] rs = omega arith
 length_told_least (j ∷ js) [] = omega arith
 length_told_least (j ∷ js) (r ∷ rs) = let rest = length_told_least js rs in omega (arith, rest)
 
-pub judged_within : (judged : List JudgedValue) (replies : List Reply) (i : ℕ) → i < length (told_all judged replies) → i < length judged
+pub judged_within : (judged : List JudgedValue) (replies : List Reply) (i : ℕ) → i < length (items_with_replies judged replies) → i < length judged
 judged_within judged replies i lt = let least = length_told_least judged replies in omega (arith, lt, least)
 
-pub reply_within : (judged : List JudgedValue) (replies : List Reply) (i : ℕ) → i < length (told_all judged replies) → i < length replies
+pub reply_within : (judged : List JudgedValue) (replies : List Reply) (i : ℕ) → i < length (items_with_replies judged replies) → i < length replies
 reply_within judged replies i lt = let least = length_told_least judged replies in omega (arith, lt, least)
 
 told_at : (judged : List JudgedValue) (replies : List Reply) (i : ℕ) (d : JudgedValue) (e : Reply) → i < length judged → i < length replies
-    → slice_get (told_all judged replies) i ≡ Some (told_of (get_or judged i d) (get_or replies i e))
+    → slice_get (items_with_replies judged replies) i ≡ Some (item_with_reply (get_or judged i d) (get_or replies i e))
 told_at [] rs i d e a b = absurd (omega (arith, a))
 told_at (j ∷ js) [] i d e a b = absurd (omega (arith, b))
 told_at (j ∷ js) (r ∷ rs) zero d e a b = refl
@@ -120,37 +120,37 @@ told_at (j ∷ js) (r ∷ rs) (suc i) d e a b = told_at js rs i d e (omega (arit
 -- what is told of one of them, from the parts that it is told by
 pub told_by : (judged : List JudgedValue) (replies : List Reply) (i : ℕ) (j d : JudgedValue) (e : Reply)
     (kind : WorkKind) (title number : List ℕ) (status : Status) (work : Option ℕ) (faults : List Fault)
-    → i < length (told_all judged replies) → j ≡ get_or judged i d → kind ≡ j.call.kind → title ≡ j.call.title → number ≡ j.call.number
+    → i < length (items_with_replies judged replies) → j ≡ get_or judged i d → kind ≡ j.call.kind → title ≡ j.call.title → number ≡ j.call.number
     → status ≡ status_in (get_or replies i e) → work ≡ work_in (get_or replies i e) → faults ≡ j.call.faults
-    → slice_get (told_all judged replies) i
+    → slice_get (items_with_replies judged replies) i
     ≡ Some (record { group = j.group; sequence = j.sequence; kind = kind; title = title; number = number; status = status; work = work; faults = faults })
 told_by judged replies i j d e kind title number status work faults lt is k t n s w f =
     let r : Reply = get_or replies i e in
     let item : Item = record { group = j.group; sequence = j.sequence; kind = kind; title = title; number = number; status = status; work = work; faults = faults } in
-    let parts : item ≡ told_of j r = λ x. record { group = j.group; sequence = j.sequence; kind = k x; title = t x; number = n x; status = s x; work = w x; faults = f x } in
+    let parts : item ≡ item_with_reply j r = λ x. record { group = j.group; sequence = j.sequence; kind = k x; title = t x; number = n x; status = s x; work = w x; faults = f x } in
     told_at judged replies i d e (judged_within judged replies i lt) (reply_within judged replies i lt)
-    ∙ ap (λ (x : JudgedValue). Some (told_of x r)) (sym is) ∙ ap Some (sym parts)
+    ∙ ap (λ (x : JudgedValue). Some (item_with_reply x r)) (sym is) ∙ ap Some (sym parts)
 
 -- how many faults are told of one of them
 pub counted_by : (judged : List JudgedValue) (replies : List Reply) (i : ℕ) (j d : JudgedValue) (e : Reply) (status : Status) (faults told : List Fault) (n : ℕ)
-    → i < length (told_all judged replies) → j ≡ get_or judged i d → status ≡ status_in (get_or replies i e) → faults ≡ j.call.faults
+    → i < length (items_with_replies judged replies) → j ≡ get_or judged i d → status ≡ status_in (get_or replies i e) → faults ≡ j.call.faults
     → told ≡ (if is_rejected status then faults else []) → n ≡ length told
-    → option_map (λ item. length (told_faults item)) (slice_get (told_all judged replies) i) ≡ Some n
+    → option_map (λ item. length (reported_faults item)) (slice_get (items_with_replies judged replies) i) ≡ Some n
 counted_by judged replies i j d e status faults told n lt is s f t count =
     let r : Reply = get_or replies i e in
-    let parts : told ≡ told_faults (told_of j r) = t ∙ (λ x. if is_rejected (s x) then f x else []) in
-    let size : n ≡ length (told_faults (told_of (get_or judged i d) r)) = count ∙ ap length parts ∙ ap (λ (x : JudgedValue). length (told_faults (told_of x r))) is in
-    ap (option_map (λ (item : Item). length (told_faults item))) (told_at judged replies i d e (judged_within judged replies i lt) (reply_within judged replies i lt))
+    let parts : told ≡ reported_faults (item_with_reply j r) = t ∙ (λ x. if is_rejected (s x) then f x else []) in
+    let size : n ≡ length (reported_faults (item_with_reply (get_or judged i d) r)) = count ∙ ap length parts ∙ ap (λ (x : JudgedValue). length (reported_faults (item_with_reply x r))) is in
+    ap (option_map (λ (item : Item). length (reported_faults item))) (told_at judged replies i d e (judged_within judged replies i lt) (reply_within judged replies i lt))
     ∙ ap Some (sym size)
 
 pub told_next : (judged others : List JudgedValue) (j : JudgedValue) (replies next : List Reply) (r : Reply) → drop (length replies) judged ≡ j ∷ others
-    → next ≡ replies ++ r ∷ [] → told_all judged next ≡ told_all judged replies ++ told_of j r ∷ []
-told_next judged others j replies next r at is = ap (told_all judged) is ∙ go judged replies at where
-  go : (js : List JudgedValue) (rs : List Reply) → drop (length rs) js ≡ j ∷ others → told_all js (rs ++ r ∷ []) ≡ told_all js rs ++ told_of j r ∷ []
+    → next ≡ replies ++ r ∷ [] → items_with_replies judged next ≡ items_with_replies judged replies ++ item_with_reply j r ∷ []
+told_next judged others j replies next r at is = ap (items_with_replies judged) is ∙ go judged replies at where
+  go : (js : List JudgedValue) (rs : List Reply) → drop (length rs) js ≡ j ∷ others → items_with_replies js (rs ++ r ∷ []) ≡ items_with_replies js rs ++ item_with_reply j r ∷ []
   go [] [] e = absurd cc
-  go (k ∷ js) [] e = let same : k ≡ j = cc in ap (λ (x : JudgedValue). told_of x r ∷ told_all js []) same ∙ ap (λ l. told_of j r ∷ l) (told_none js [] refl)
+  go (k ∷ js) [] e = let same : k ≡ j = cc in ap (λ (x : JudgedValue). item_with_reply x r ∷ items_with_replies js []) same ∙ ap (λ l. item_with_reply j r ∷ l) (told_none js [] refl)
   go [] (s ∷ rs) e = absurd cc
-  go (k ∷ js) (s ∷ rs) e = ap (λ l. told_of k s ∷ l) (go js rs e)
+  go (k ∷ js) (s ∷ rs) e = ap (λ l. item_with_reply k s ∷ l) (go js rs e)
 
 -- ---- the transactions so far, and one more
 

@@ -8,7 +8,7 @@ use Rattle.cwr_record.specs.Stamp.{StampParts}
 use Rattle.cwr_record.specs.declared.control.Header.{Header}
 use Rattle.cwr_source.specs.Input.{IsInput}
 use Rattle.cwr_source.specs.declared.refused.SourceRefused.{SourceRefused}
-use Rattle.cwr_engine.specs.Account.{most, ReadEnds, WriteEnds, ends_of, read_ends, write_ends}
+use Rattle.cwr_engine.specs.Account.{max_file_bytes, ReadEnds, WriteEnds, ends_of, read_ends, write_ends}
 use Rattle.cwr_engine.specs.Causes.{outcome_of}
 use Rattle.cwr_engine.specs.Handing.{Entries, IsWorked}
 use Rattle.cwr_engine.specs.Judged.{AreJudged, JudgedValue, WasJudged}
@@ -27,23 +27,23 @@ module _ {R W Z : Type 0} (source : SourceOf R) (sink : SinkOf W) (session : ℕ
   unwritten = subst (λ w. Appends (sink.taken job.writer) (sink.taken w) []) (sym was.writer) (Appends-nil (sink.taken job.writer))
 
   -- its file was read whole
-  read_whole_by : {head : Header} {all : List JudgedValue} (judged : (input : List ℕ) × IsInput most (source.left job.reader) input × WasJudged input head all)
+  read_whole_by : {head : Header} {all : List JudgedValue} (judged : (input : List ℕ) × IsInput max_file_bytes (source.left job.reader) input × WasJudged input head all)
       → IsReadBy (read_ends source job.reader read.job.reader) judged.0 head judged.2.transactions
   read_whole_by judged =
       record { given = judged.1.1; read_on = was.read_on; few_reads = was.few_reads; read = read_whole _ _ _ judged.1.0 judged.2 }
 
   -- its file was judged, and handed in
   pub was_handed_in : (after : Entries) (file : JudgedFile Z) → read.file ≡ Ok file → (made : Result (AnsweredFile Z) FileOutcome)
-      → IfOk made (λ all. (ts : List RawParts) → AreJudged most file.header ts file.transactions.items → IsAnsweredWhole session file.header ts all entries after)
+      → IfOk made (λ all. (ts : List RawParts) → AreJudged max_file_bytes file.header ts file.transactions.items → IsAnsweredWhole session file.header ts all entries after)
       → IfErr made (λ outcome. (ts : List RawParts) (reader : ReadEnds) (writer : WriteEnds) (stamp : StampParts) (input : List ℕ)
-      → AreJudged most file.header ts file.transactions.items → IsReadBy reader input file.header ts → Appends writer.taken_before writer.taken_after []
+      → AreJudged max_file_bytes file.header ts file.transactions.items → IsReadBy reader input file.header ts → Appends writer.taken_before writer.taken_after []
       → IsWorked session (ends_of reader writer full false) stamp outcome entries after)
       → WasDecided source sink session job (record { job = read.job; file = made }) full entries after
   was_handed_in after file is made all some = by (rw is at was.judged) made all some where
-    by : (input : List ℕ) × IsInput most (source.left job.reader) input × WasJudged input file.header file.transactions.items → (m : Result (AnsweredFile Z) FileOutcome)
-        → IfOk m (λ all. (ts : List RawParts) → AreJudged most file.header ts file.transactions.items → IsAnsweredWhole session file.header ts all entries after)
+    by : (input : List ℕ) × IsInput max_file_bytes (source.left job.reader) input × WasJudged input file.header file.transactions.items → (m : Result (AnsweredFile Z) FileOutcome)
+        → IfOk m (λ all. (ts : List RawParts) → AreJudged max_file_bytes file.header ts file.transactions.items → IsAnsweredWhole session file.header ts all entries after)
         → IfErr m (λ outcome. (ts : List RawParts) (reader : ReadEnds) (writer : WriteEnds) (stamp : StampParts) (input : List ℕ)
-        → AreJudged most file.header ts file.transactions.items → IsReadBy reader input file.header ts → Appends writer.taken_before writer.taken_after []
+        → AreJudged max_file_bytes file.header ts file.transactions.items → IsReadBy reader input file.header ts → Appends writer.taken_before writer.taken_after []
         → IsWorked session (ends_of reader writer full false) stamp outcome entries after)
         → WasDecided source sink session job (record { job = read.job; file = m }) full entries after
     by judged (Ok f) all some = record {

@@ -1,8 +1,8 @@
--- Transactions handed in at a window: what becomes of the entries of its session and of the history.
+-- Transactions that are handed in at a `Submit`: which entries of its session, and of the history, they add.
 use Rattle.std.specs.Prelude.{◌≡◌, ◌<◌, ℕ, Bool, true, List, [], ◌∷◌, ◌++◌, length, take, Option, Some, None, ⊤}
 use Rattle.std.specs.Io.KnownBytes.{Appends}
 use Rattle.cwr_acknowledgement.specs.AckItem.{Item}
-use Rattle.cwr_acknowledgement.specs.Acknowledgement.{FitsItem, most_told}
+use Rattle.cwr_acknowledgement.specs.Acknowledgement.{FitsItem, max_ack_records}
 use Rattle.cwr_grammar.specs.RawParts.{RawParts}
 use Rattle.cwr_record.specs.Stamp.{StampParts}
 use Rattle.cwr_rules.specs.Calls.{call_of}
@@ -15,35 +15,38 @@ use Rattle.cwr_engine.specs.declared.outcome.FileOutcome.{FileOutcome}
 use Rattle.cwr_engine.specs.declared.outcome.FileOutcome.TheVariants.{Acked, Refused, Stopped}
 use Rattle.cwr_engine.specs.declared.outcome.Why.TheVariants.{Memory, Full, Read, TooLong, Gate, Write}
 
--- the most transactions that a job hands in: as many as its acknowledgement can tell
-abbrev pub most_handed : ℕ
-most_handed = most_told
+-- the greatest number of transactions that a job hands in: that which its acknowledgement can hold
+abbrev pub max_handed : ℕ
+max_handed = max_ack_records
 
 -- A history that nobody else writes, where it is known, has grown by what these entries' calls get when they are
--- handed in one after the other. Of one that others write too nothing is said.
+-- handed in one after another. Of a history that others write too nothing is said.
 abbrev pub Follows : ℕ → Option (List EntryValue) → Option (List EntryValue) → List EntryValue → Type 0
 Follows session None after made = ⊤
 Follows session (Some history) after made = (after ≡ Some (history ++ made)) × (made ≡ replay session history (calls_of made))
 
--- what a window shows of the entries handed in there: those of its session, in order, and the whole history, where
--- nobody else writes it
+-- what a `Submit` shows of the entries: those of its session, in order, and the whole history, where nobody else
+-- writes it
 pub record Entries : Type 0 where
+  -- the entries of its session
   pub list : List EntryValue
+  -- the whole history, where nobody else writes it
   pub whole : Option (List EntryValue)
 
--- a window has gained these entries of its session, and no others
+-- a `Submit` has gained these entries of its session, and no others
 pub record HasGained (session : ℕ) (made : List EntryValue) (before after : Entries) : Type 0 where
   pub list : after.list ≡ before.list ++ made
   pub whole : Follows session before.whole after.whole made
 
--- a transaction was handed in and got a reply, which the item tells
+-- a transaction was handed in and got a reply, which the item reports
 pub record IsAnswered (session : ℕ) (submitter : List ℕ) (transaction : RawParts) (item : Item) (before after : Entries) : Type 0 where
   pub reply : Reply
   pub gained : HasGained session (entry_of session (call_of submitter transaction) reply ∷ []) before after
   pub told : item ≡ item_of transaction (entry_of session (call_of submitter transaction) reply)
+  -- its numbers fit the lines of an acknowledgement
   pub fits : FitsItem item
 
--- as many of the transactions as there are items were handed in and got replies, in order
+-- the first transactions, as many as there are items, were handed in and got replies, in order
 pub record AreAnswered (session : ℕ) (submitter : List ℕ) (transactions : List RawParts) (items : List Item) (before after : Entries) : Type 0 where
   pub made : List EntryValue
   pub gained : HasGained session made before after
@@ -51,14 +54,14 @@ pub record AreAnswered (session : ℕ) (submitter : List ℕ) (transactions : Li
   pub told : items ≡ items_of transactions made
   pub count : length items ≡ length made
 
--- a job was worked at a window: its account holds, with the entries that the window has gained
+-- a job was worked at a `Submit`: its account holds with the entries that the `Submit` has gained
 pub record IsWorked (session : ℕ) (ends : Ends) (stamp : StampParts) (outcome : FileOutcome) (before after : Entries) : Type 0 where
   pub made : List EntryValue
   pub gained : HasGained session made before after
   pub account : IsAccount ends stamp outcome made
 
--- how a job ends whose transactions, so many, all got replies: the text that acknowledges them was written whole; or there
--- was no memory for it, and nothing was written; or a write failed, and its first bytes were written
+-- how a job ends whose `count` transactions all got replies: the text that acknowledges them was written whole; or an
+-- allocation failed, and nothing was written; or a write failed, and its first bytes were written
 abbrev pub IsSent : Option (List ℕ) → Option (List ℕ) → Bool → List ℕ → ℕ → FileOutcome → Type 0
 IsSent before after failed text count (Acked n) = (n ≡ count) × Appends before after text
 IsSent before after failed text count (Refused fault line) = ⊥

@@ -1,13 +1,14 @@
--- What an acknowledgement tells of a transaction and of the entry that answers it.
+-- What an acknowledgement contains of a transaction and of the entry that answers it.
 use Rattle.std.specs.Prelude.{ℕ, List, [], ◌∷◌, map}
 use Rattle.cwr_acknowledgement.specs.AckItem.{Item}
 use Rattle.cwr_grammar.specs.RawParts.{RawParts}
 use Rattle.cwr_call.specs.CallValue.{CallValue}
 use Rattle.cwr_rules.specs.Calls.{call_of}
 use Rattle.work_registry.specs.EntryValue.{EntryValue}
-use Rattle.work_registry.specs.Told.{status_in, work_in}
+use Rattle.work_registry.specs.ReplyParts.{status_in, work_in}
 
--- a transaction and the entry that answers it: its place in the file, what its call submits, and the decision
+-- the item of an acknowledgement for a transaction and the entry that answers it: its group ID and sequence, what its
+-- call submits, and the decision
 abbrev pub item_of : RawParts → EntryValue → Item
 item_of transaction entry = record {
   group = transaction.group;
@@ -20,7 +21,7 @@ item_of transaction entry = record {
   faults = entry.call.faults;
 }
 
--- the first transactions, each with the entry that answers it
+-- the items for the first transactions, each with the entry that answers it; there are as many as the shorter list has
 abbrev pub items_of : List RawParts → List EntryValue → List Item
 items_of [] entries = []
 items_of (t ∷ transactions) [] = []

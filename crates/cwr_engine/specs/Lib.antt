@@ -1,10 +1,10 @@
 pub mod OutcomeText
 pub mod Items
 pub mod Judged
-pub mod Told
-pub mod JudgedSoFar
+pub mod AckItems
+pub mod CallCollector
 pub mod Account
 pub mod Causes
 pub mod Handing
-pub mod Whole
+pub mod WholeRun
 pub mod JobSteps

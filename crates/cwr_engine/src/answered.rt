@@ -1,24 +1,24 @@
 ghost use Rattle.std.specs.Prelude.{◌≡◌, ◌+◌, ◌≤◌, length, vec_len};
 ghost use Rattle.std.specs.List.{AllByRecursion};
 ghost use Rattle.std.proofs.Props.{props};
-ghost use Rattle.cwr_acknowledgement.specs.Acknowledgement.{FitsItem, most_told, told_count};
-ghost use Rattle.cwr_engine.specs.Told.{told_all};
+ghost use Rattle.cwr_acknowledgement.specs.Acknowledgement.{FitsItem, max_ack_records, reported_fault_count};
+ghost use Rattle.cwr_engine.specs.AckItems.{items_with_replies};
 
 use crate::judged::Judged;
-use cwr_acknowledgement::{AckItem, Answers, told_faults};
+use cwr_acknowledgement::{AckItem, Answers, reported_faults};
 use cwr_record::Header;
 use std::alloc::{Allocator, Global};
 use work_registry::Reply;
 
-/// A file whose transactions all got their replies: what its acknowledgement tells, which is still to be written.
+/// A file whose transactions all got their replies: what its acknowledgement contains, which is still to be written.
 #[derive(Drop)]
 pub struct AnsweredFile<A: Allocator = Global> {
     pub(crate) header: Header,
     pub(crate) transactions: Vec<Judged<A>, A>,
     pub(crate) replies: Vec<Reply, A>,
-    // What is told fits its lines, and their count its eight digits.
-    ghost fit: { AllByRecursion FitsItem (told_all transactions.items replies.items) } by { Prim.hlevel props },
-    ghost few: { length (told_all transactions.items replies.items) + told_count (told_all transactions.items replies.items) ≤ most_told },
+    // What the acknowledgement contains fits its lines, and the counts fit their eight digits.
+    ghost fit: { AllByRecursion FitsItem (items_with_replies transactions.items replies.items) } by { Prim.hlevel props },
+    ghost few: { length (items_with_replies transactions.items replies.items) + reported_fault_count (items_with_replies transactions.items replies.items) ≤ max_ack_records },
 }
 
 impl<A: Allocator> AnsweredFile<A> {
@@ -30,8 +30,8 @@ impl<A: Allocator> AnsweredFile<A> {
     }
 }
 
-/// The transactions of a file that got replies, which are the first ones, and the replies: what the acknowledgement of
-/// such a file tells.
+/// The transactions of a file that got replies, and the replies, as an acknowledgement contains them. Those that got
+/// replies are the first ones of the file.
 #[derive(Drop)]
 pub struct Answered<'a, A: Allocator = Global> {
     /// The transactions, in the order of the file.
@@ -41,7 +41,7 @@ pub struct Answered<'a, A: Allocator = Global> {
 }
 
 impl<'a, A: Allocator> Answers for Answered<'a, A> {
-    ghost items = { λ a. told_all a.transactions.now a.replies.now };
+    ghost items = { λ a. items_with_replies a.transactions.now a.replies.now };
 
     #[inline]
     fn len(&self) -> usize {
@@ -49,7 +49,7 @@ impl<'a, A: Allocator> Answers for Answered<'a, A> {
     }
 
     #[inline]
-    fn told(&self, index: usize) -> AckItem<'_> {
+    fn item(&self, index: usize) -> AckItem<'_> {
         let Judged {
             group,
             sequence,
@@ -71,6 +71,6 @@ impl<'a, A: Allocator> Answers for Answered<'a, A> {
     #[inline]
     fn fault_count(&self, index: usize) -> usize {
         let transaction = &self.transactions[index];
-        told_faults(self.replies[index].status(), transaction.call.faults()).len()
+        reported_faults(self.replies[index].status(), transaction.call.faults()).len()
     }
 }

@@ -3,18 +3,18 @@ ghost use Rattle.std.specs.Prelude.{◌≡◌, ◌<◌, ◌≤◌, ◌+◌, ℕ,
 ghost use Rattle.cwr_grammar.specs.RawParts.{RawParts, IsPlaced};
 ghost use Rattle.cwr_engine.specs.Causes.{IsCause, is_for_full, marked_by, refusal_of};
 ghost use Rattle.cwr_engine.specs.Handing.{IsAnswered};
-ghost use Rattle.cwr_engine.specs.Told.{told_of};
+ghost use Rattle.cwr_engine.specs.AckItems.{item_with_reply};
 ghost use Rattle.cwr_engine.specs.Judged.{judged_of};
 
 use crate::gates::Gate;
 use crate::judged::Judged;
 use crate::outcome::Why;
-use crate::window::Window;
+use crate::submit::Submit;
 use cwr_call::Call;
 use std::alloc::Allocator;
-use work_registry::{Reply, WhyRefused};
+use work_registry::{HandInError, Reply};
 
-/// Who works, and the transaction in hand.
+/// Which worker hands in which transaction.
 #[derive(Clone, Copy)]
 pub(crate) struct InHand {
     /// The worker, from 1.
@@ -23,51 +23,57 @@ pub(crate) struct InHand {
     pub(crate) index: u32,
 }
 
-/// Hands a copy of the call of a transaction in: the transaction itself is told once all got their replies.
+/// Hands in a copy of the call of a transaction. The transaction itself is kept for the acknowledgement.
+///
+/// - `alloc` is where the copy gets its memory.
+/// - `registry` is where the call is handed in. It comes back with the reply.
+/// - `gate` is passed before and after.
+/// - `in_hand` is the worker and the position of the transaction in the file.
+/// - `transaction` is the transaction, judged.
 #[inline(always)]
-pub(crate) fn decide<H: Window<Call<A>>, G: Gate, A: Allocator + Copy + Drop>(
+pub(crate) fn decide<H: Submit<Call<A>>, G: Gate, A: Allocator + Copy + Drop>(
     alloc: A,
-    window: H,
+    registry: H,
     gate: &G,
     in_hand: InHand,
     transaction: &Judged<A>,
 ) -> (H, Result<Reply, Why>)
-    requires turns { 0 < H.turns_left window }
-    ensures session { H.session result.0 ≡ H.session window }
-    ensures limit { H.limit result.0 ≡ H.limit window }
-    ensures home { H.home result.0 ≡ H.home window }
-    ensures turns { H.turns_left window ≤ H.turns_left result.0 + 1 }
+    requires turns { 0 < H.turns_left registry }
+    ensures session { H.session result.0 ≡ H.session registry }
+    ensures limit { H.limit result.0 ≡ H.limit registry }
+    ensures home { H.home result.0 ≡ H.home registry }
+    ensures turns { H.turns_left registry ≤ H.turns_left result.0 + 1 }
     ensures answered { IfOk result.1 (λ reply. (submitter : List ℕ) (t : RawParts) → transaction.now ≡ judged_of submitter t → IsPlaced t
-        → IsAnswered (H.session window) submitter t (told_of transaction.now reply) (H.entries window) (H.entries result.0)) }
-    ensures kept { OnErr result.1 (H.entries result.0 ≡ H.entries window) }
+        → IsAnswered (H.session registry) submitter t (item_with_reply transaction.now reply) (H.entries registry) (H.entries result.0)) }
+    ensures kept { OnErr result.1 (H.entries result.0 ≡ H.entries registry) }
     ensures why { IfErr result.1 (IsCause (H.full result.0) (G.may_shut gate.now)) }
-    ensures unmarked { OnOk result.1 (H.mark result.0 ≡ H.mark window) }
-    ensures marked { IfErr result.1 (λ why. H.mark result.0 ≡ marked_by (is_for_full why) (H.mark window)) }
+    ensures unmarked { OnOk result.1 (H.mark result.0 ≡ H.mark registry) }
+    ensures marked { IfErr result.1 (λ why. H.mark result.0 ≡ marked_by (is_for_full why) (H.mark registry)) }
 {
-    // Looking at them tells the check what holds of the faults of every call.
+    // Reading them makes known to the check what holds of the faults of every call.
     let _faults = transaction.call.faults().len();
     let Ok(call) = transaction.call.copied(alloc) else {
-        return (window, Err(Why::Memory));
+        return (registry, Err(Why::Memory));
     };
     if gate.before(in_hand.worker, in_hand.index).is_err() {
-        return (window, Err(Why::Gate));
+        return (registry, Err(Why::Gate));
     }
-    let (window, reply) = window.hand_in(call);
+    let (registry, reply) = registry.hand_in(call);
     match reply {
         Ok(reply) => {
             gate.after(in_hand.worker, in_hand.index);
-            (window, Ok(reply))
+            (registry, Ok(reply))
         }
-        Err(why) => (window, Err(refusal(why))),
+        Err(why) => (registry, Err(refusal(why))),
     }
 }
 
 /// Why a job stops whose call was refused.
-fn refusal(why: WhyRefused) -> Why
+fn refusal(why: HandInError) -> Why
     ensures { result ≡ refusal_of why }
 {
     match why {
-        WhyRefused::Full => Why::Full,
-        WhyRefused::Memory => Why::Memory,
+        HandInError::Full => Why::Full,
+        HandInError::Memory => Why::Memory,
     }
 }

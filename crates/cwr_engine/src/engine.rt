@@ -1,15 +1,15 @@
-//! One job, at a window.
+//! One job, at a registry.
 ghost use Rattle.std.specs.Prelude.{◌≡◌, ◌+◌, ◌<◌, ◌≤◌, ◌^◌, ℕ, List, [], false, length, map, vec_capacity, IfSome, IfOk, OnOk, OnErr, IfErr};
 ghost use Rattle.std.specs.List.{AllByRecursion};
 ghost use Rattle.byte_streams.specs.GivenBytes.{HasGiven};
 ghost use Rattle.std.specs.Io.KnownBytes.{Appends};
-ghost use Rattle.cwr_acknowledgement.specs.Acknowledgement.{FitsItem, ack_text, most_told, told_count};
+ghost use Rattle.cwr_acknowledgement.specs.Acknowledgement.{FitsItem, ack_text, max_ack_records, reported_fault_count};
 ghost use Rattle.cwr_grammar.specs.RawParts.{RawParts, IsPlaced};
 ghost use Rattle.cwr_record.specs.Stamp.{StampParts};
-ghost use Rattle.cwr_engine.specs.Account.{most, Ends, ReadEnds, WriteEnds, IsRead, ends_of, read_ends, write_ends};
+ghost use Rattle.cwr_engine.specs.Account.{max_file_bytes, Ends, ReadEnds, WriteEnds, IsRead, ends_of, read_ends, write_ends};
 ghost use Rattle.cwr_engine.specs.Causes.{ends_full, is_for_full, marked_by, outcome_of, IsCause};
-ghost use Rattle.cwr_engine.specs.Handing.{AreAnswered, IsSent, IsWorked, most_handed};
-ghost use Rattle.cwr_engine.specs.Told.{told_all};
+ghost use Rattle.cwr_engine.specs.Handing.{AreAnswered, IsSent, IsWorked, max_handed};
+ghost use Rattle.cwr_engine.specs.AckItems.{items_with_replies};
 ghost use Rattle.cwr_engine.specs.Judged.{AreJudged, judged_of};
 ghost use Rattle.cwr_engine.specs.JobSteps.{IsAnsweredWhole, IsReadBy, answers_in};
 
@@ -17,20 +17,28 @@ use crate::answered::{Answered, AnsweredFile};
 use crate::decision::{InHand, decide};
 use crate::gates::Gate;
 use crate::judged::{Judged, JudgedFile, judge_source};
-use crate::limits::MOST_BYTES;
+use crate::limits::MAX_BYTES;
 use crate::outcome::{FileOutcome, Why};
-use crate::window::Window;
+use crate::submit::Submit;
 use byte_streams::{Sink, Source};
-use cwr_acknowledgement::{AckStopped, Answers, send_answers};
+use cwr_acknowledgement::{AckError, Answers, send_answers};
 use cwr_record::{Header, Stamp};
 use cwr_source::{SourceRefused, WINDOW};
 use std::alloc::Allocator;
 use work_registry::{Call, Reply};
 
 /// Hands in the transactions of a file in order, and keeps each reply.
-fn hand_in_all<H: Window<Call<A>>, G: Gate, A: Allocator + Copy + Drop>(
+///
+/// - `alloc` is where copies of the calls get their memory.
+/// - `registry` is where the calls are handed in. It comes back with the result.
+/// - `gate` is passed before and after each transaction.
+/// - `worker` is the worker's number, from 1, for the gate only.
+/// - `transactions` are those of the file, judged.
+/// - `replies` gets a reply for each transaction, up to the first one that gets none. It is empty, and has room for
+///   all.
+fn hand_in_all<H: Submit<Call<A>>, G: Gate, A: Allocator + Copy + Drop>(
     alloc: A,
-    mut window: H,
+    mut registry: H,
     gate: &G,
     worker: u32,
     transactions: &[Judged<A>],
@@ -39,71 +47,77 @@ fn hand_in_all<H: Window<Call<A>>, G: Gate, A: Allocator + Copy + Drop>(
     requires none { replies.old.items ≡ [] }
     requires room { length transactions.now ≤ vec_capacity replies.old }
     requires few { length transactions.now < 2 ^ 32 }
-    requires turns { length transactions.now ≤ H.turns_left window }
+    requires turns { length transactions.now ≤ H.turns_left registry }
     requires placed { (submitter : List ℕ) × (ts : List RawParts) × (transactions.now ≡ map (judged_of submitter) ts) × AllByRecursion IsPlaced ts }
-    ensures session { H.session result.0 ≡ H.session window }
-    ensures limit { H.limit result.0 ≡ H.limit window }
-    ensures home { H.home result.0 ≡ H.home window }
+    ensures session { H.session result.0 ≡ H.session registry }
+    ensures limit { H.limit result.0 ≡ H.limit registry }
+    ensures home { H.home result.0 ≡ H.home registry }
     ensures answered { (submitter : List ℕ) (ts : List RawParts) → transactions.now ≡ map (judged_of submitter) ts → AllByRecursion IsPlaced ts
-        → AreAnswered (H.session window) submitter ts (told_all transactions.now replies.new.items) (H.entries window) (H.entries result.0) }
-    ensures fit { AllByRecursion FitsItem (told_all transactions.now replies.new.items) }
+        → AreAnswered (H.session registry) submitter ts (items_with_replies transactions.now replies.new.items) (H.entries registry) (H.entries result.0) }
+    ensures fit { AllByRecursion FitsItem (items_with_replies transactions.now replies.new.items) }
     ensures all { OnOk result.1 (length replies.new.items ≡ length transactions.now) }
     ensures some { OnErr result.1 (length replies.new.items < length transactions.now) }
     ensures why { IfErr result.1 (IsCause (H.full result.0) (G.may_shut gate.now)) }
-    ensures unmarked { OnOk result.1 (H.mark result.0 ≡ H.mark window) }
-    ensures marked { IfErr result.1 (λ why. H.mark result.0 ≡ marked_by (is_for_full why) (H.mark window)) }
+    ensures unmarked { OnOk result.1 (H.mark result.0 ≡ H.mark registry) }
+    ensures marked { IfErr result.1 (λ why. H.mark result.0 ≡ marked_by (is_for_full why) (H.mark registry)) }
 {
     for (index, transaction) in transactions.iter().enumerate() {
         let in_hand = InHand {
             worker,
             index: index as u32,
         };
-        let (next, reply) = decide(alloc, window, gate, in_hand, transaction);
-        window = next;
+        let (next, reply) = decide(alloc, registry, gate, in_hand, transaction);
+        registry = next;
         match reply {
             Ok(reply) => {
                 let Ok(()) = replies.push(reply) else {
                     unreachable!()
                 };
             }
-            Err(why) => return (window, Err(why)),
+            Err(why) => return (registry, Err(why)),
         }
     }
-    (window, Ok(()))
+    (registry, Ok(()))
 }
 
-/// Hands in the transactions of a well-formed file in order: what its acknowledgement tells, where all got replies, and
-/// else how its job ends.
+/// Hands in the transactions of a well-formed file in order. Returns what its acknowledgement contains, where all got
+/// replies, and else how its job ends.
 ///
-/// The list of replies is reserved before the first transaction is handed in.
-pub(crate) fn hand_in_file<H: Window<Call<A>>, G: Gate, A: Allocator + Copy + Drop>(
+/// - `alloc` is where the replies and the copies of the calls get their memory.
+/// - `registry` is where the calls are handed in. It comes back with the result.
+/// - `gate` is passed before and after each transaction.
+/// - `worker` is the worker's number, from 1, for the gate only.
+/// - `file` is the file, judged.
+///
+/// Memory for the replies is asked for before the first transaction is handed in.
+pub(crate) fn hand_in_file<H: Submit<Call<A>>, G: Gate, A: Allocator + Copy + Drop>(
     alloc: A,
-    window: H,
+    registry: H,
     gate: &G,
     worker: u32,
     file: JudgedFile<A>,
 ) -> (H, Result<AnsweredFile<A>, FileOutcome>)
-    requires turns { most_handed ≤ H.turns_left window }
-    requires judged { (ts : List RawParts) × AreJudged most file.header ts file.transactions.items }
-    ensures session { H.session result.0 ≡ H.session window }
-    ensures limit { H.limit result.0 ≡ H.limit window }
-    ensures home { H.home result.0 ≡ H.home window }
-    ensures answered { IfOk result.1 (λ all. (ts : List RawParts) → AreJudged most file.header ts file.transactions.items
-        → IsAnsweredWhole (H.session window) file.header ts all (H.entries window) (H.entries result.0)) }
+    requires turns { max_handed ≤ H.turns_left registry }
+    requires judged { (ts : List RawParts) × AreJudged max_file_bytes file.header ts file.transactions.items }
+    ensures session { H.session result.0 ≡ H.session registry }
+    ensures limit { H.limit result.0 ≡ H.limit registry }
+    ensures home { H.home result.0 ≡ H.home registry }
+    ensures answered { IfOk result.1 (λ all. (ts : List RawParts) → AreJudged max_file_bytes file.header ts file.transactions.items
+        → IsAnsweredWhole (H.session registry) file.header ts all (H.entries registry) (H.entries result.0)) }
     ensures stopped { IfErr result.1 (λ outcome. (ts : List RawParts) (reader : ReadEnds) (writer : WriteEnds) (stamp : StampParts) (input : List ℕ)
-        → AreJudged most file.header ts file.transactions.items → IsReadBy reader input file.header ts → Appends writer.taken_before writer.taken_after []
-        → IsWorked (H.session window) (ends_of reader writer (H.full result.0) (G.may_shut gate.now)) stamp outcome (H.entries window) (H.entries result.0)) }
-    ensures unmarked { OnOk result.1 (H.mark result.0 ≡ H.mark window) }
-    ensures marked { IfErr result.1 (λ outcome. H.mark result.0 ≡ marked_by (ends_full outcome) (H.mark window)) }
+        → AreJudged max_file_bytes file.header ts file.transactions.items → IsReadBy reader input file.header ts → Appends writer.taken_before writer.taken_after []
+        → IsWorked (H.session registry) (ends_of reader writer (H.full result.0) (G.may_shut gate.now)) stamp outcome (H.entries registry) (H.entries result.0)) }
+    ensures unmarked { OnOk result.1 (H.mark result.0 ≡ H.mark registry) }
+    ensures marked { IfErr result.1 (λ outcome. H.mark result.0 ≡ marked_by (ends_full outcome) (H.mark registry)) }
 {
     let JudgedFile {
         header,
         transactions,
     } = file;
     let Ok(mut replies) = Vec::with_capacity(alloc, transactions.len()) else {
-        return (window, Err(stopped(0, Why::Memory)));
+        return (registry, Err(stopped(0, Why::Memory)));
     };
-    let (window, done) = hand_in_all(alloc, window, gate, worker, &transactions, &mut replies);
+    let (registry, done) = hand_in_all(alloc, registry, gate, worker, &transactions, &mut replies);
     match done {
         Ok(()) => {
             let answered = AnsweredFile {
@@ -111,22 +125,31 @@ pub(crate) fn hand_in_file<H: Window<Call<A>>, G: Gate, A: Allocator + Copy + Dr
                 transactions,
                 replies,
             };
-            (window, Ok(answered))
+            (registry, Ok(answered))
         }
-        Err(why) => (window, Err(stopped(replies.len() as u32, why))),
+        Err(why) => (registry, Err(stopped(replies.len() as u32, why))),
     }
 }
 
-/// Hands the transactions of a well-formed file in at the window, in file order, and writes their acknowledgement, as
-/// [`work_file`] does once it has judged the file.
+/// Hands in the transactions of a well-formed file, in file order, and writes their acknowledgement. [`work_file`] does
+/// the same, and judges the file before.
 ///
-/// The file is what [`judge_file`](crate::judge_file) or [`judge_source`] answers for one of at most 16,777,216 bytes.
-/// `worker`, from 1, is told to the gate alone. A transaction that gets no reply ends the job, and the entries made before
-/// it stay; nothing is written then. The list of replies is reserved before the first one is handed in. The window comes
-/// back with the outcome, marked where the book was full for the job and else as it was.
-pub fn work_judged<H: Window<Call<A>>, G: Gate, W: Sink, A: Allocator + Copy + Drop>(
+/// - `alloc` is where memory comes from.
+/// - `registry` is where the calls are handed in.
+/// - `gate` is passed before and after each transaction.
+/// - `worker` is the worker's number, from 1, for the gate only.
+/// - `file` is what [`judge_file`](crate::judge_file) or [`judge_source`] returns for a file of at most 16,777,216
+///   bytes.
+/// - `writer` gets the acknowledgement, and has not failed.
+/// - `stamp` is who acknowledges, and when.
+///
+/// A transaction that gets no reply ends the job: the entries made before it stay, and nothing is written. Memory for
+/// the replies is asked for before the first transaction is handed in.
+///
+/// The registry comes back with the outcome. It is marked where its book was full for the job, and else is as it was.
+pub fn work_judged<H: Submit<Call<A>>, G: Gate, W: Sink, A: Allocator + Copy + Drop>(
     alloc: A,
-    window: H,
+    registry: H,
     gate: &G,
     worker: u32,
     file: JudgedFile<A>,
@@ -134,31 +157,31 @@ pub fn work_judged<H: Window<Call<A>>, G: Gate, W: Sink, A: Allocator + Copy + D
     stamp: &Stamp,
 ) -> (H, FileOutcome)
     requires writes { W.has_failed writer.old ≡ false }
-    requires turns { most_handed ≤ H.turns_left window }
-    requires judged { (ts : List RawParts) × AreJudged most file.header ts file.transactions.items }
-    ensures session { H.session result.0 ≡ H.session window }
-    ensures limit { H.limit result.0 ≡ H.limit window }
-    ensures home { H.home result.0 ≡ H.home window }
-    ensures marked { H.mark result.0 ≡ marked_by (ends_full result.1) (H.mark window) }
-    ensures worked { (ts : List RawParts) (ends : Ends) (input : List ℕ) → AreJudged most file.header ts file.transactions.items
+    requires turns { max_handed ≤ H.turns_left registry }
+    requires judged { (ts : List RawParts) × AreJudged max_file_bytes file.header ts file.transactions.items }
+    ensures session { H.session result.0 ≡ H.session registry }
+    ensures limit { H.limit result.0 ≡ H.limit registry }
+    ensures home { H.home result.0 ≡ H.home registry }
+    ensures marked { H.mark result.0 ≡ marked_by (ends_full result.1) (H.mark registry) }
+    ensures worked { (ts : List RawParts) (ends : Ends) (input : List ℕ) → AreJudged max_file_bytes file.header ts file.transactions.items
         → IfSome ends.left_before (λ bytes. input ≡ bytes) → HasGiven ends.left_before ends.left_after
-        → ends.reads_after ≤ ends.reads_before + most + 2 → IsRead input file.header ts
-        → IsWorked (H.session window) (record ends {
+        → ends.reads_after ≤ ends.reads_before + max_file_bytes + 2 → IsRead input file.header ts
+        → IsWorked (H.session registry) (record ends {
           taken_before = W.taken writer.old;
           taken_after = W.taken writer.new;
           write_failed = W.has_failed writer.new;
           full = H.full result.0;
           may_shut = G.may_shut gate.now;
-        }) stamp.now result.1 (H.entries window) (H.entries result.0) }
+        }) stamp.now result.1 (H.entries registry) (H.entries result.0) }
 {
-    let (window, handed) = hand_in_file(alloc, window, gate, worker, file);
+    let (registry, handed) = hand_in_file(alloc, registry, gate, worker, file);
     match handed {
-        Ok(answered) => (window, answer_file(alloc, writer, stamp, &answered)),
-        Err(outcome) => (window, outcome),
+        Ok(answered) => (registry, answer_file(alloc, writer, stamp, &answered)),
+        Err(outcome) => (registry, outcome),
     }
 }
 
-/// Writes the acknowledgement of a file whose transactions all got replies, and tells how its job ends.
+/// Writes the acknowledgement of a file whose transactions all got replies, and returns how its job ends.
 pub(crate) fn answer_file<W: Sink, A: Allocator + Copy>(
     alloc: A,
     writer: &mut W,
@@ -176,7 +199,13 @@ pub(crate) fn answer_file<W: Sink, A: Allocator + Copy>(
     answer(alloc, writer, stamp, &file.header, &answered)
 }
 
-/// Writes the acknowledgement of transactions and their replies, and tells how a job ends that got them all.
+/// Writes an acknowledgement, and returns how the job ends whose transactions all got replies.
+///
+/// - `alloc` is where memory comes from.
+/// - `writer` gets the acknowledgement, and has not failed.
+/// - `stamp` is who acknowledges, and when.
+/// - `header` is that of the acknowledged file.
+/// - `answers` are its transactions and their replies.
 fn answer<W: Sink, L: Answers, A: Allocator + Copy>(
     alloc: A,
     writer: &mut W,
@@ -185,7 +214,7 @@ fn answer<W: Sink, L: Answers, A: Allocator + Copy>(
     answers: &L,
 ) -> FileOutcome
     requires writes { W.has_failed writer.old ≡ false }
-    requires few { length (L.items answers.now) + told_count (L.items answers.now) ≤ most_told }
+    requires few { length (L.items answers.now) + reported_fault_count (L.items answers.now) ≤ max_ack_records }
     requires fit { AllByRecursion FitsItem (L.items answers.now) }
     ensures { IsSent (W.taken writer.old) (W.taken writer.new) (W.has_failed writer.new)
         (ack_text stamp.now header.now (L.items answers.now)) (length (L.items answers.now)) result }
@@ -193,21 +222,31 @@ fn answer<W: Sink, L: Answers, A: Allocator + Copy>(
     let handed = answers.len() as u32;
     match send_answers(alloc, writer, stamp, header, answers) {
         Ok(()) => acked(handed),
-        Err(AckStopped::Memory) => stopped(handed, Why::Memory),
-        Err(AckStopped::Write { sent }) => stopped(handed, Why::Write { sent }),
+        Err(AckError::Memory) => stopped(handed, Why::Memory),
+        Err(AckError::Write { sent }) => stopped(handed, Why::Write { sent }),
     }
 }
 
-/// Reads a file, hands its transactions in at the window, in file order, and writes their acknowledgement.
+/// Reads a file, hands in its transactions, in file order, and writes their acknowledgement.
 ///
-/// Nothing is handed in before the whole file is read and each of its transactions is judged. At most 16,777,216 bytes
-/// are taken, in at most two reads more than that; a reader that tells its bytes gave the first of them and holds the
-/// others. A transaction that gets no reply ends the job, and the entries made before it stay. The window comes back with
-/// the outcome, marked where the book was full for the job and else as it was, and can take 99,999,995 calls, one for each
-/// transaction that a file may have.
-pub fn work_file<H: Window<Call<A>>, G: Gate, R: Source, W: Sink, A: Allocator + Copy + Drop>(
+/// - `alloc` is where memory comes from.
+/// - `registry` is where the calls are handed in. It can take 99,999,995 calls, one for each transaction that a file
+///   may have.
+/// - `gate` is passed before and after each transaction.
+/// - `worker` is the worker's number, from 1, for the gate only.
+/// - `reader` is the source of the file, and has not failed.
+/// - `writer` gets the acknowledgement, and has not failed.
+/// - `stamp` is who acknowledges, and when.
+///
+/// Nothing is handed in before the complete file is read and each of its transactions is judged. At most 16,777,216
+/// bytes are taken, with at most 16,777,218 reads. Where contracts see the reader's bytes, it gave the first of them
+/// and holds the others.
+///
+/// A transaction that gets no reply ends the job, and the entries made before it stay. The registry comes back with the
+/// outcome. It is marked where its book was full for the job, and else is as it was.
+pub fn work_file<H: Submit<Call<A>>, G: Gate, R: Source, W: Sink, A: Allocator + Copy + Drop>(
     alloc: A,
-    window: H,
+    registry: H,
     gate: &G,
     worker: u32,
     reader: &mut R,
@@ -216,17 +255,17 @@ pub fn work_file<H: Window<Call<A>>, G: Gate, R: Source, W: Sink, A: Allocator +
 ) -> (H, FileOutcome)
     requires reads { R.has_failed reader.old ≡ false }
     requires writes { W.has_failed writer.old ≡ false }
-    requires turns { most_handed ≤ H.turns_left window }
-    ensures session { H.session result.0 ≡ H.session window }
-    ensures limit { H.limit result.0 ≡ H.limit window }
-    ensures home { H.home result.0 ≡ H.home window }
-    ensures marked { H.mark result.0 ≡ marked_by (ends_full result.1) (H.mark window) }
-    ensures worked { IsWorked (H.session window) (ends_of (read_ends R.Source reader.old reader.new) (write_ends W.Sink writer.old writer.new)
-        (H.full result.0) (G.may_shut gate.now)) stamp.now result.1 (H.entries window) (H.entries result.0) }
+    requires turns { max_handed ≤ H.turns_left registry }
+    ensures session { H.session result.0 ≡ H.session registry }
+    ensures limit { H.limit result.0 ≡ H.limit registry }
+    ensures home { H.home result.0 ≡ H.home registry }
+    ensures marked { H.mark result.0 ≡ marked_by (ends_full result.1) (H.mark registry) }
+    ensures worked { IsWorked (H.session registry) (ends_of (read_ends R.Source reader.old reader.new) (write_ends W.Sink writer.old writer.new)
+        (H.full result.0) (G.may_shut gate.now)) stamp.now result.1 (H.entries registry) (H.entries result.0) }
 {
-    match judge_source(alloc, reader, MOST_BYTES, WINDOW) {
-        Ok(file) => work_judged(alloc, window, gate, worker, file, writer, stamp),
-        Err(refused) => (window, unjudged(refused)),
+    match judge_source(alloc, reader, MAX_BYTES, WINDOW) {
+        Ok(file) => work_judged(alloc, registry, gate, worker, file, writer, stamp),
+        Err(refused) => (registry, unjudged(refused)),
     }
 }
 

@@ -1,21 +1,21 @@
 ghost use Rattle.std.specs.Prelude.{◌≡◌, Bool, true, false, OnErr};
 
-/// The gate is shut: a worker may not go on.
+/// The gate is closed: a worker may not go on.
 #[derive(Clone, Copy, Debug, PartialEq, Eq)]
 pub struct Shut;
 
 /// What a worker passes before and after each transaction that it hands in.
 ///
-/// One gate is lent to all workers. Workers are counted from 1, and a file's transactions from 0.
+/// All workers share one gate. Workers are counted from 1, and a file's transactions from 0.
 pub trait Gate {
-    // Whether `before` may find it shut, which never changes.
+    // Whether `before` may find it closed, which never changes.
     ghost may_shut: { Self → Bool };
 
-    /// Lets a worker go on to hand a transaction in, or stops its job.
+    /// Lets a worker hand in a transaction, or stops its job.
     fn before(&self, worker: u32, index: u32) -> Result<(), Shut>
         ensures { OnErr result (may_shut self.now ≡ true) };
 
-    /// Is told that a worker's transaction got its reply.
+    /// Is called once a worker's transaction got its reply.
     fn after(&self, worker: u32, index: u32);
 }
 

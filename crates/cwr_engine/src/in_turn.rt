@@ -2,13 +2,13 @@
 ghost use Rattle.std.specs.Prelude.{All, IfOk, IfErr, reverse, ◌≡◌, ◌+◌, ◌<◌, ◌≤◌, [], true, false, vec_len, vec_capacity};
 ghost use Rattle.work_registry.specs.Replay.{is_opening};
 ghost use Rattle.cwr_engine.specs.Account.{JobAccount};
-ghost use Rattle.cwr_engine.specs.Whole.{InTurn, IsRun, IsWorkedAlone, TookTurns};
+ghost use Rattle.cwr_engine.specs.WholeRun.{InTurn, IsRun, IsWorkedAlone, TookTurns};
 
 use crate::engine::work_file;
 use crate::gates::OpenGate;
 use crate::jobs::{Job, Run, ServeRefused};
 use crate::outcome::FileOutcome;
-use crate::window::Lent;
+use crate::submit::Lent;
 use byte_streams::{Sink, Source};
 use cwr_record::Stamp;
 use std::alloc::Allocator;
@@ -17,9 +17,22 @@ use work_registry::Book;
 
 /// Works jobs one after the other on one thread: job i, counted from 1, is session i of the book.
 ///
-/// A job that is refused or stopped does not stop the next one. At most 63 jobs are taken, and a book whose entries
-/// are all of the opening. The run's own memory is asked for first: where it is refused no job is begun, and the book
+/// A job that is refused or stopped does not stop the next one. There are at most 63 jobs, and the entries of the book
+/// are all of its opening. The run's own memory is asked for first. Where it is refused no job is begun, and the book
 /// and the jobs come back as they were.
+///
+/// # Examples
+///
+/// One job into an empty book.
+///
+/// ```rust
+/// let mut jobs = Vec::new(alloc);
+/// jobs.push(job)?;
+/// match serve_in_turn(alloc, jobs, Book::new(alloc, 100), &stamp) {
+///     Ok(run) => Ok(run),
+///     Err(_) => Err(Fail::new("memory")),
+/// }
+/// ```
 pub fn serve_in_turn<R: Source + Drop, W: Sink + Drop, A: Allocator + Copy + Drop>(
     alloc: A,
     mut jobs: Vec<Job<R, W>, A>,
@@ -49,7 +62,15 @@ pub fn serve_in_turn<R: Source + Drop, W: Sink + Drop, A: Allocator + Copy + Dro
     })
 }
 
-/// Works the jobs, the last of the list first, from a session on. Its outcomes and jobs come back in the same order.
+/// Works the jobs of a list, the last one first. Returns the book, the jobs and their outcomes, both in the order of
+/// the list.
+///
+/// - `alloc` is where memory comes from.
+/// - `book` is where the calls are handed in.
+/// - `session` is that of the last job, from 1. Each job before it has the next session.
+/// - `jobs` are the jobs.
+/// - `outcomes` is empty, and has room for the outcome of each job.
+/// - `stamp` is who acknowledges, and when.
 fn turn_from<R: Source + Drop, W: Sink + Drop, A: Allocator + Copy + Drop>(
     alloc: A,
     book: Book<A>,
@@ -90,10 +111,16 @@ fn turn_from<R: Source + Drop, W: Sink + Drop, A: Allocator + Copy + Drop>(
     }
 }
 
-/// Works one job at a book that nobody else writes, as a session from 0 to 63.
+/// Works one job at a book that nobody else writes. Returns the book, the job and its outcome.
 ///
-/// The book and the job come back with the outcome. It takes no memory for a run, and one session may work job after
-/// job: so a book serves as many files as its limit allows, each decided after all that came before.
+/// - `alloc` is where memory comes from.
+/// - `book` is where the calls are handed in.
+/// - `session` is the session that they get in the book, from 0 to 63.
+/// - `job` is the job. Neither its reader nor its writer has failed.
+/// - `stamp` is who acknowledges, and when.
+///
+/// It takes no memory for a run, and one session may work job after job. So a book serves as many files as its limit
+/// allows, each decided after all that came before.
 pub fn work_alone<R: Source + Drop, W: Sink + Drop, A: Allocator + Copy + Drop>(
     alloc: A,
     mut book: Book<A>,
@@ -106,20 +133,20 @@ pub fn work_alone<R: Source + Drop, W: Sink + Drop, A: Allocator + Copy + Drop>(
     ensures { IsWorkedAlone (JobAccount R.Source W.Sink stamp.now false)
         session book result.0 job result.1 result.2 }
 {
-    let window = Lent {
+    let registry = Lent {
         book: &mut book,
         session,
     };
-    let (window, outcome) = work_file(
+    let (registry, outcome) = work_file(
         alloc,
-        window,
+        registry,
         &OpenGate,
         session,
         &mut job.reader,
         &mut job.writer,
         stamp,
     );
-    // The book is taken out of the window, which tells what has become of it.
-    let worked = replace(window.book, Book::new(alloc, 1));
+    // The book is taken out of `registry`, whose contract says what has become of it.
+    let worked = replace(registry.book, Book::new(alloc, 1));
     (worked, job, outcome)
 }

@@ -5,7 +5,7 @@ ghost use Rattle.byte_streams.specs.GivenBytes.{HasGiven};
 ghost use Rattle.cwr_source.specs.Input.{IsInput, IsUnjudged};
 ghost use Rattle.cwr_engine.specs.Judged.{WasJudged};
 
-use crate::judged_so_far::JudgedSoFar;
+use crate::call_collector::CallCollector;
 use byte_streams::Source;
 use cwr_call::Call;
 use cwr_grammar::{FileRefusal, visit_file};
@@ -22,7 +22,7 @@ pub struct Judged<A: Allocator = Global> {
     pub group: u32,
     /// Its transaction sequence, from 0, at most 99999999.
     pub sequence: u32,
-    /// What it asks of the registry, and its faults.
+    /// What it requests of the registry, and its faults.
     pub call: Call<A>,
 }
 
@@ -44,33 +44,35 @@ pub struct JudgedFile<A: Allocator = Global> {
     pub transactions: Vec<Judged<A>, A>,
 }
 
-/// Reads a file and judges each of its transactions on the way.
+/// Reads a file and judges each of its transactions while it reads.
 ///
-/// A well-formed file gives its header and, in order, what each transaction asks of the registry. Any other gives its
-/// first fault, as [`parse_file`](cwr_grammar::parse_file) does. The bytes are gone over once. Memory is asked for the
-/// list of the transactions and for what their rules need; that it was refused says nothing of the file.
+/// Of a well-formed file it returns the header and, in order, what each transaction requests of the registry. Of any
+/// other it returns the first fault, as [`parse_file`](cwr_grammar::parse_file) does. The bytes are gone over once.
+///
+/// Memory is asked for the list of the transactions and for what their rules need. A refusal of memory says nothing
+/// about the file.
 pub fn judge_file<A: Allocator + Copy>(alloc: A, bytes: &[u8]) -> Result<JudgedFile<A>, FileRefusal>
     ensures judged { IfOk result (λ file. WasJudged bytes.now file.header file.transactions.items) }
     ensures fault { IfErr result (IsRefusal (lines bytes.now)) }
 {
-    let mut so_far = JudgedSoFar::new(alloc);
-    let envelope = visit_file(bytes, &mut so_far)?;
+    let mut made = CallCollector::new(alloc);
+    let envelope = visit_file(bytes, &mut made)?;
     Ok(JudgedFile {
         header: envelope.header,
-        transactions: so_far.judged,
+        transactions: made.judged,
     })
 }
 
-/// Judges the file of a source as [`judge_file`] does, and holds no more of it than a window of `room` bytes, which grows
-/// only for a longer line.
+/// Judges the file of a source as [`judge_file`] does, through a window of `capacity` bytes. The window grows beyond
+/// that only for a longer line.
 ///
-/// At most `limit` bytes are taken, in at most two reads more than that; a reader that tells its bytes gave the first of
-/// them and holds the others. A fault is answered once the file was read to its end.
+/// At most `limit` bytes are taken, with at most `limit` + 2 reads. Where contracts see the reader's bytes, it gave the
+/// first of them and holds the others. A fault is returned once the file was read to its end.
 pub fn judge_source<R: Source, A: Allocator + Copy>(
     alloc: A,
     reader: &mut R,
     limit: usize,
-    room: usize,
+    capacity: usize,
 ) -> Result<JudgedFile<A>, SourceRefused>
     requires going { R.has_failed reader.old ≡ false }
     requires limit { limit < 4611686018427387904 }
@@ -79,9 +81,9 @@ pub fn judge_source<R: Source, A: Allocator + Copy>(
     ensures read_on { HasGiven (R.left reader.old) (R.left reader.new) }
     ensures few_reads { R.reads reader.new ≤ R.reads reader.old + limit + 2 }
 {
-    let (envelope, so_far) = visit_source(alloc, reader, limit, room, JudgedSoFar::new(alloc))?;
+    let (envelope, made) = visit_source(alloc, reader, limit, capacity, CallCollector::new(alloc))?;
     Ok(JudgedFile {
         header: envelope.header,
-        transactions: so_far.judged,
+        transactions: made.judged,
     })
 }

@@ -5,7 +5,7 @@ use crate::outcome::FileOutcome;
 use cwr_field::Memory;
 use std::alloc::Allocator;
 
-/// The line that tells how a job ended: the file's name, a colon and the outcome, with LF at its end.
+/// The line that reports how a job ended: the file's name, a colon and the outcome, with LF at its end.
 pub fn outcome_line<A: Allocator + Copy>(
     alloc: A,
     name: &[u8],

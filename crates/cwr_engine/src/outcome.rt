@@ -11,7 +11,7 @@ pub enum Why {
     Read,
     /// The file has more bytes than a file may have.
     TooLong,
-    /// The gate was shut.
+    /// The gate was closed.
     Gate,
     /// A write failed, or took nothing.
     Write {
@@ -23,7 +23,7 @@ pub enum Why {
 /// How a job ended: what became of one file.
 #[derive(Clone, Copy, Debug, PartialEq, Eq, Hash)]
 pub enum FileOutcome {
-    /// Each of the file's transactions was decided, and the acknowledgement was written whole.
+    /// Each of the file's transactions was decided, and the acknowledgement was written completely.
     Acked {
         /// How many transactions the file has.
         transactions: u32,
@@ -35,7 +35,7 @@ pub enum FileOutcome {
         /// The line that has it, from 1. The one after the last line is the end of the file.
         line: u64,
     },
-    /// So many of its transactions were decided, in file order, and then the job was stopped.
+    /// The job was stopped after the first `handed` of its transactions were decided, in file order.
     Stopped {
         /// How many transactions were decided. Their entries stay in the book.
         handed: u32,

@@ -1,11 +1,11 @@
-//! A job in three steps, which threads can take beside those of other jobs: only the second has the book.
+//! A job in three steps, which can run on threads beside those of other jobs. Only the second has the book.
 ghost use Rattle.std.specs.Prelude.{◌≡◌, ◌≤◌, List, false, IfOk, IfErr, IsErrAnd};
 ghost use Rattle.cwr_grammar.specs.RawParts.{RawParts};
-ghost use Rattle.cwr_engine.specs.Account.{most};
+ghost use Rattle.cwr_engine.specs.Account.{max_file_bytes};
 ghost use Rattle.cwr_engine.specs.Causes.{outcome_of};
 ghost use Rattle.cwr_engine.specs.Judged.{AreJudged};
 ghost use Rattle.cwr_engine.specs.JobSteps.{HasAnswered, IsAnsweredWhole, WasDecided, WasRead, entries_at};
-ghost use Rattle.cwr_engine.specs.Whole.{is_full};
+ghost use Rattle.cwr_engine.specs.WholeRun.{is_full};
 ghost use Rattle.cwr_engine.specs.declared.jobs.Job.{Job};
 
 use crate::answered::AnsweredFile;
@@ -13,9 +13,9 @@ use crate::engine::{answer_file, hand_in_file, unjudged};
 use crate::gates::OpenGate;
 use crate::jobs::Job;
 use crate::judged::{JudgedFile, judge_source};
-use crate::limits::MOST_BYTES;
+use crate::limits::MAX_BYTES;
 use crate::outcome::FileOutcome;
-use crate::window::Lent;
+use crate::submit::Lent;
 use byte_streams::{Sink, Source};
 use cwr_record::Stamp;
 use cwr_source::{SourceRefused, WINDOW};
@@ -26,13 +26,13 @@ use work_registry::Book;
 /// A job whose file was read to its end, or as far as it could be.
 #[derive(Drop)]
 pub struct ReadJob<R, W, A: Allocator = Global> {
-    /// The job, with what is left to its reader.
+    /// The job, with what is left in its reader.
     pub job: Job<R, W>,
     /// The file, judged, or why it is not.
     pub file: Result<JudgedFile<A>, SourceRefused>,
 }
 
-/// A job whose transactions were decided, as many of them as could be.
+/// A job whose transactions were decided, up to the first that got no reply.
 #[derive(Drop)]
 pub struct DecidedJob<R, W, A: Allocator = Global> {
     /// The job, to whose writer nothing was written.
@@ -49,13 +49,15 @@ pub fn read_job<R: Source + Drop, W: Drop, A: Allocator + Copy>(
     requires reads { R.has_failed job.reader ≡ false }
     ensures { WasRead R.Source job result }
 {
-    let file = judge_source(alloc, &mut job.reader, MOST_BYTES, WINDOW);
+    let file = judge_source(alloc, &mut job.reader, MAX_BYTES, WINDOW);
     ReadJob { job, file }
 }
 
-/// Hands the transactions of a job's file in at a book that nobody else writes, in file order, as a session from 0 to 63.
+/// Hands in the transactions of a job's file, in file order, at a book that nobody else writes, as a session from 0 to
+/// 63.
 ///
-/// The book comes back with the job. A transaction that gets no reply ends the job, and the entries made before it stay.
+/// The book comes back with the job. A transaction that gets no reply ends the job, and the entries made before it
+/// stay.
 pub fn decide_job<R: Source + Drop, W: Sink + Drop, A: Allocator + Copy + Drop>(
     alloc: A,
     mut book: Book<A>,
@@ -67,7 +69,7 @@ pub fn decide_job<R: Source + Drop, W: Sink + Drop, A: Allocator + Copy + Drop>(
     ensures limit { result.0.limit ≡ book.limit }
     ensures job { result.1.job ≡ read.job }
     ensures unjudged { IfErr read.file (λ why. (result.0 ≡ book) × IsErrAnd result.1.file (λ outcome. outcome ≡ outcome_of why)) }
-    ensures answered { IfOk read.file (λ file. IfOk result.1.file (λ all. (ts : List RawParts) → AreJudged most file.header ts file.transactions.items
+    ensures answered { IfOk read.file (λ file. IfOk result.1.file (λ all. (ts : List RawParts) → AreJudged max_file_bytes file.header ts file.transactions.items
         → IsAnsweredWhole session file.header ts all (entries_at session book) (entries_at session result.0))) }
     ensures decided { (job : Job R W) → WasRead R.Source job read
         → WasDecided R.Source W.Sink session job result.1 (is_full result.0) (entries_at session book) (entries_at session result.0) }
@@ -75,13 +77,13 @@ pub fn decide_job<R: Source + Drop, W: Sink + Drop, A: Allocator + Copy + Drop>(
     let ReadJob { job, file } = read;
     match file {
         Ok(file) => {
-            let window = Lent {
+            let registry = Lent {
                 book: &mut book,
                 session,
             };
-            let (window, file) = hand_in_file(alloc, window, &OpenGate, session, file);
-            // The book is taken out of the window, which tells what has become of it.
-            let book = replace(window.book, Book::new(alloc, 1));
+            let (registry, file) = hand_in_file(alloc, registry, &OpenGate, session, file);
+            // The book is taken out of `registry`, whose contract says what has become of it.
+            let book = replace(registry.book, Book::new(alloc, 1));
             (book, DecidedJob { job, file })
         }
         Err(refused) => {
@@ -91,9 +93,9 @@ pub fn decide_job<R: Source + Drop, W: Sink + Drop, A: Allocator + Copy + Drop>(
     }
 }
 
-/// Writes the acknowledgement of a job whose transactions all got replies, and tells how the job ended.
+/// Writes the acknowledgement of a job whose transactions all got replies, and returns how the job ended.
 ///
-/// Of a job that has ended nothing is written.
+/// For a job that has ended already nothing is written.
 pub fn answer_job<R: Source + Drop, W: Sink + Drop, A: Allocator + Copy + Drop>(
     alloc: A,
     decided: DecidedJob<R, W, A>,

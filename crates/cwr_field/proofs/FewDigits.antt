@@ -1,6 +1,5 @@
 -- Numbers of other widths than eight, of which eight digits are read at once.
 use Rattle.std.proofs.Common.{◌≡◌, ◌∙◌, ℕ, ◌+◌, ◌-◌, ◌*◌, ◌<◌, ◌^◌, Bool, true, false, cond, eqb, ◌≤◌, List, [], ◌∷◌, ◌++◌, length, Some, None, not, subst, sym, refl, ap, arith}
-use Rattle.std.proofs.Math.Bool.{and-false}
 use Rattle.std.specs.Prelude.{codes, nat_le, if◌then◌else◌}
 use Rattle.std.specs.List.{list_all}
 use Rattle.std.specs.Str.{bytes_eq}

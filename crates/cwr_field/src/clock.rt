@@ -2,7 +2,7 @@ ghost use Rattle.std.specs.Prelude.{◌≡◌, ◌≤◌, ◌<◌, length, IsTru
 ghost use Rattle.cwr_field.specs.Calendar.{time_of, is_time};
 
 use crate::field::Field;
-use crate::number::number_of_others;
+use crate::number::number_in;
 use std::marker::Model;
 
 /// A time of a day, to the second, from 00:00:00 to 23:59:59.
@@ -42,7 +42,7 @@ pub fn time(text: Field) -> Option<Clock>
     requires { length text ≡ 6 }
     ensures { result ≡ time_of text.entry }
 {
-    let number = number_of_others(text)?;
+    let number = number_in(&text.bytes::<6>())?;
     let hour = (number / 10000) as u8;
     let minute = (number / 100 % 100) as u8;
     let second = (number % 100) as u8;

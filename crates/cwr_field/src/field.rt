@@ -25,10 +25,10 @@ impl<'a> Model for Field<'a> {
     ghost invariant = { λ f. (length f.bytes.now ≤ f.width) × (f.width ≤ 150) };
 }
 
-/// The field of a line from a position, counted from 1, with so many bytes.
+/// The field of a line that starts at a position, counted from 1, and is `width` bytes wide.
 ///
-/// The position is at most 4096, the longest line of a file; the width is from 1 to 150.
-/// A line that is too short for the field reads as if blanks followed it without end.
+/// The position is at most 4096, the longest line of a file. The width is from 1 to 150. A line that is too short for
+/// the field reads as if it went on in blanks without end.
 pub fn cut(line: &[u8], start: usize, width: usize) -> Field<'_>
     requires start { (1 ≤ start) × (start ≤ 4096) }
     requires width { (1 ≤ width) × (width ≤ 150) }
@@ -57,7 +57,7 @@ impl Field<'_> {
         self.bytes.get(index).copied().unwrap_or(b' ')
     }
 
-    /// The bytes, of a field of that width.
+    /// The bytes of a field that is `N` bytes wide.
     pub fn bytes<const N: usize>(&self) -> [u8; N]
         requires { length self.now ≡ N }
         ensures { result ≡ self.now }
@@ -75,7 +75,7 @@ impl Field<'_> {
         are_blank(self.bytes)
     }
 
-    /// The bytes, where the line has them all.
+    /// The bytes of the field as they lie in the line. `None` where the line ends before the field does.
     pub(crate) fn whole(&self) -> Option<&[u8]>
         ensures some { IfSome result (λ bytes. bytes.now ≡ self.now) }
         ensures none { IfNone result (list_any (λ b. b == 32) self.now ≡ true) }

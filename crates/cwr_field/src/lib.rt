@@ -1,11 +1,15 @@
 //! Fields of fixed width in a line of bytes, as CWR 2.2 writes them: numbers, shares, days, times, work codes
 //! (ISWC), interested party numbers and texts.
 //!
-//! A line is read by [`cut`], which gives a [`Field`], and each kind of value has one reader of a field:
-//! [`digits`], [`share`], [`date`], [`time`], [`iswc`], [`party`]. [`put_digits`] and [`put_text`] write fields,
-//! [`put_decimal`] numbers between words; [`last_digits`] gives them as an array, [`filled`] fills a text with blanks, and [`fill_digits`] and [`fill_text`] write them over bytes that are there; [`is_printable`] tells whether it has no control byte, and
-//! [`is_free_before`] looks at many bytes at once for those below or above a limit.
-//! Positions are counted from 1, as in the CWR manual.
+//! A line is read by [`cut`], which gives a [`Field`]. Each kind of value has one reader of a field: [`digits`],
+//! [`share`], [`date`], [`time`], [`iswc`], [`party`].
+//!
+//! [`put_digits`] and [`put_text`] append fields, and [`put_decimal`] appends numbers between words. [`last_digits`]
+//! gives digits as an array, and [`filled`] gives a text filled up with blanks. [`fill_digits`] and [`fill_text`] write
+//! over bytes that are there.
+//!
+//! [`is_printable`] reports whether a text has no control byte. [`is_free_before`] tests many bytes at once for those
+//! below or above a limit. Positions are counted from 1, as in the CWR manual.
 #![tactic(auto)]
 
 mod clock;
@@ -24,9 +28,9 @@ pub use day::{Day, date};
 pub use field::{Field, cut, is_blank, party};
 pub use memory::Memory;
 pub use number::{
-    LEAST_WHOLE, MOST_COUNT, MOST_WHOLE, WHOLE, digits, fill_digits, last_digits, number_of_four,
+    MAX_COUNT, MAX_WHOLE, MIN_WHOLE, WHOLE, digits, fill_digits, last_digits, number_of_four,
     put_decimal, put_digits, share,
 };
 pub use scan::{BLOCK, CONTROLS, Sought, has_in_block, is_free_before, line_end};
-pub use text::{LEAST_PRINTABLE, fill_text, filled, is_printable, put_text};
-pub use work_code::{MOST_CODE, check_digit, iswc, iswc_text};
+pub use text::{MIN_PRINTABLE, fill_text, filled, is_printable, put_text};
+pub use work_code::{MAX_CODE, check_digit, iswc, iswc_text};

@@ -9,22 +9,23 @@ use itoa::Buffer;
 use std::alloc::Allocator;
 use std::simd::prelude::*;
 
-/// All of a right, in hundredths of one per cent.
+/// The whole of a right (100 per cent), in hundredths of one per cent.
 pub const WHOLE: u64 = 10000;
 
 /// The whole of a right less the tolerance of 0.06 per cent.
-pub const LEAST_WHOLE: u64 = 9994;
+pub const MIN_WHOLE: u64 = 9994;
 
 /// The whole of a right and the tolerance of 0.06 per cent.
-pub const MOST_WHOLE: u64 = 10006;
+pub const MAX_WHOLE: u64 = 10006;
 
 /// The greatest number of eight digits, which sequences, counts and the numbers of works have.
-pub const MOST_COUNT: u32 = 99999999;
+pub const MAX_COUNT: u32 = 99999999;
 
 /// What a digit is worth at each of eight places.
 const WORTHS: [u32; 8] = [10000000, 1000000, 100000, 10000, 1000, 100, 10, 1];
 
-/// The number that eight bytes spell, where each is a digit. They are looked at, and added up by their worths, at once.
+/// The number that eight bytes spell, where each is a digit. All eight are tested, and added up by their worths, at
+/// once.
 #[inline(always)]
 pub(crate) fn number_of_eight(bytes: [u8; 8]) -> Option<u64>
     ensures value { result ≡ number_of bytes }
@@ -60,7 +61,8 @@ pub(crate) fn number_of_nine(bytes: [u8; 9]) -> Option<u64>
     }
 }
 
-/// The number that twelve bytes spell, where each is a digit. Most begin with four zeros, and then the other eight tell it.
+/// The number that twelve bytes spell, where each is a digit. Most fields begin with four zeros; then the other eight
+/// bytes give the number.
 #[inline(always)]
 fn number_of_twelve(bytes: [u8; 12]) -> Option<u64>
     ensures value { result ≡ number_of bytes }
@@ -75,7 +77,7 @@ fn number_of_twelve(bytes: [u8; 12]) -> Option<u64>
 
 /// The number that at most 18 bytes spell, where each is a digit, byte by byte.
 #[inline(always)]
-fn number_in(bytes: &[u8]) -> Option<u64>
+pub(crate) fn number_in(bytes: &[u8]) -> Option<u64>
     requires { length bytes.now ≤ 18 }
     ensures value { result ≡ number_of bytes.now }
     ensures bound { IfSome result (λ n. n < 10 ^ length bytes.now) }
@@ -92,7 +94,8 @@ fn number_in(bytes: &[u8]) -> Option<u64>
 
 /// The number that a field spells, where each of its bytes is a digit.
 ///
-/// Of eight, nine or twelve bytes eight are looked at at once; a group's five, which each transaction has, one by one.
+/// Of eight, nine or twelve bytes, eight are tested at once. The five bytes of a group ID, which each transaction has,
+/// are read one by one.
 #[inline(always)]
 pub fn digits(text: Field) -> Option<u64>
     requires { length text ≤ 18 }
@@ -108,9 +111,9 @@ pub fn digits(text: Field) -> Option<u64>
     }
 }
 
-/// The same of a field of any width, byte by byte.
+/// The number that a field of any width spells, where each of its bytes is a digit. It is read byte by byte.
 #[inline(never)]
-pub(crate) fn number_of_others(text: Field) -> Option<u64>
+fn number_of_others(text: Field) -> Option<u64>
     requires { length text ≤ 18 }
     ensures value { result ≡ number_of text.entry }
     ensures bound { IfSome result (λ n. n < 10 ^ length text.entry) }
@@ -135,7 +138,7 @@ pub fn share(text: Field) -> Option<u16>
     }
 }
 
-/// The share in five bytes that are not all digits: blanks are none, 0.
+/// The share in five bytes that are not all digits: 0 for five blanks, and otherwise no share.
 #[inline(never)]
 fn no_share(bytes: &[u8]) -> Option<u16>
     requires { number_of bytes.now ≡ None }
@@ -158,24 +161,24 @@ fn pair_of(number: u64) -> [u8; 2]
     [PAIRS[at], PAIRS[at + 1]]
 }
 
-/// Writes the last digits of a number over the bytes, as many as there are, with leading zeros.
+/// Overwrites the bytes with the last digits of a number, one digit for each byte, with leading zeros.
 #[inline(always)]
-pub fn fill_digits(room: &mut [u8], value: u64)
-    ensures { room.new ≡ number_text (length room.old) value }
+pub fn fill_digits(buffer: &mut [u8], value: u64)
+    ensures { buffer.new ≡ number_text (length buffer.old) value }
 {
     let mut rest = value;
-    let mut end = room.len();
+    let mut end = buffer.len();
     while 2 <= end {
         end -= 2;
-        room[end..end + 2].copy_from_slice(&pair_of(rest % 100));
+        buffer[end..end + 2].copy_from_slice(&pair_of(rest % 100));
         rest /= 100;
     }
     if end == 1 {
-        room[0] = b'0' + (rest % 10) as u8;
+        buffer[0] = b'0' + (rest % 10) as u8;
     }
 }
 
-/// The last digits of a number, as many as the array has, with leading zeros.
+/// The last `N` digits of a number, with leading zeros.
 #[inline]
 pub fn last_digits<const N: usize>(value: u64) -> [u8; N]
     ensures { result ≡ number_text N value }
@@ -185,7 +188,7 @@ pub fn last_digits<const N: usize>(value: u64) -> [u8; N]
     digits
 }
 
-/// Appends a number in so many digits, at most 18, with leading zeros. It fits them.
+/// Appends a number in `width` digits, at most 18, with leading zeros. The number has at most that many digits.
 ///
 /// A refusal leaves the vector as it was.
 pub fn put_digits<A: Allocator>(
@@ -198,7 +201,7 @@ pub fn put_digits<A: Allocator>(
     ensures ok { OnOk result (out.new.items ≡ out.old.items ++ number_text width value) }
     ensures err { OnErr result (out.new.items ≡ out.old.items) }
     ensures len { OnOk result (vec_len out.new ≡ vec_len out.old + width) }
-    // The capacity never shrinks, and memory is answered only where there was no room.
+    // The capacity never shrinks, and `Memory` is returned only where the capacity was too small.
     ensures capacity { vec_capacity out.old ≤ vec_capacity out.new }
     ensures full { OnErr result (vec_capacity out.old < vec_len out.old + width) }
 {
@@ -214,7 +217,7 @@ pub fn put_digits<A: Allocator>(
 pub fn put_decimal<A: Allocator>(out: &mut Vec<u8, A>, number: u64) -> Result<(), Memory>
     ensures ok { OnOk result (out.new.items ≡ out.old.items ++ decimal number) }
     ensures err { OnErr result (out.new.items ≡ out.old.items) }
-    // Memory is answered only where there was no room.
+    // `Memory` is returned only where the capacity was too small.
     ensures full { OnErr result (vec_capacity out.old < vec_len out.old + length (decimal number)) }
 {
     let mut digits = Buffer::new();

@@ -1,16 +1,16 @@
-//! Bytes that are looked at many at once.
+//! Searches that test many bytes at once.
 
 ghost use Rattle.std.specs.Prelude.{◌≡◌, ◌+◌, ◌≤◌, ◌<◌, ◌==◌, ℕ, true, false, length, slice_index, IfSome};
 ghost use Rattle.std.specs.List.{position};
 ghost use Rattle.cwr_field.specs.Scan.{is_sought};
 
-use crate::text::LEAST_PRINTABLE;
+use crate::text::MIN_PRINTABLE;
 use std::simd::prelude::*;
 
-/// How many bytes are looked at together.
+/// How many bytes are tested together.
 pub const BLOCK: usize = 64;
 
-/// And how many of them together, where there are fewer.
+/// How many bytes are tested together where there are fewer than a block.
 const HALF: usize = 32;
 
 /// Which bytes are looked for.
@@ -23,10 +23,11 @@ pub enum Sought {
 }
 
 /// Control bytes, as those of line ends are.
-pub const CONTROLS: Sought = Sought::Below(LEAST_PRINTABLE);
+pub const CONTROLS: Sought = Sought::Below(MIN_PRINTABLE);
 
-/// Whether one of 64 bytes from an index on is looked for: the lesser, or the greater, of each two of them tell it sooner
-/// than a mask of all.
+/// Whether any of the 64 bytes from an index on is looked for.
+///
+/// It tests the lesser, or the greater, of each pair of bytes (k and k + 32), which is faster than a mask of all 64.
 #[inline(always)]
 pub fn has_in_block(bytes: &[u8], at: usize, sought: Sought) -> bool
     requires { at + 64 ≤ length bytes.now }
@@ -41,7 +42,7 @@ pub fn has_in_block(bytes: &[u8], at: usize, sought: Sought) -> bool
     }
 }
 
-/// Whether one of 32 bytes from an index on is looked for.
+/// Whether any of the 32 bytes from an index on is looked for.
 #[inline(always)]
 fn has_in_half(bytes: &[u8], at: usize, sought: Sought) -> bool
     requires { at + 32 ≤ length bytes.now }
@@ -75,7 +76,7 @@ pub fn is_free_before(bytes: &[u8], end: usize, sought: Sought) -> bool
     !has_in_block(bytes, end - BLOCK, sought)
 }
 
-/// The same of an index in the first block.
+/// Whether none of the bytes before an index, which is at most 64, is looked for.
 #[inline(always)]
 fn is_half_free_before(bytes: &[u8], end: usize, sought: Sought) -> bool
     requires { (end ≤ length bytes.now) × (end ≤ 64) }
@@ -88,7 +89,7 @@ fn is_half_free_before(bytes: &[u8], end: usize, sought: Sought) -> bool
     !has_in_half(bytes, 0, sought) && !has_in_half(bytes, end - HALF, sought)
 }
 
-/// The same of any index, byte by byte.
+/// Whether none of the bytes before an index is looked for, byte by byte.
 fn are_few_free(bytes: &[u8], end: usize, sought: Sought) -> bool
     requires { end ≤ length bytes.now }
     ensures none { result ≡ true → (k : ℕ) → k < end → is_sought sought (slice_index bytes.now k) ≡ false }

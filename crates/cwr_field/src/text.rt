@@ -5,26 +5,26 @@ use crate::memory::Memory;
 use std::alloc::Allocator;
 
 /// The least byte that is no control byte: a blank.
-pub const LEAST_PRINTABLE: u8 = 32;
+pub const MIN_PRINTABLE: u8 = 32;
 
-/// Whether no byte is below 32, as those of line ends and other controls are.
+/// Whether no byte is below 32. The bytes below 32 are those of line ends and other controls.
 pub fn is_printable(text: &[u8]) -> bool
     ensures { result ≡ is_printable text.now }
 {
-    text.iter().all(|byte| LEAST_PRINTABLE <= *byte)
+    text.iter().all(|byte| MIN_PRINTABLE <= *byte)
 }
 
-/// Writes a text, which is no longer than the bytes, over them, and blanks over the rest of them.
+/// Overwrites the bytes with a text, which is no longer than they are, and the rest of them with blanks.
 #[inline(always)]
-pub fn fill_text(room: &mut [u8], text: &[u8])
-    requires { length text.now ≤ length room.old }
-    ensures { room.new ≡ padded (length room.old) text.now }
+pub fn fill_text(buffer: &mut [u8], text: &[u8])
+    requires { length text.now ≤ length buffer.old }
+    ensures { buffer.new ≡ padded (length buffer.old) text.now }
 {
-    room[..text.len()].copy_from_slice(text);
-    room[text.len()..].fill(b' ');
+    buffer[..text.len()].copy_from_slice(text);
+    buffer[text.len()..].fill(b' ');
 }
 
-/// A text, which is no longer than the width, and blanks up to the width.
+/// A text, which is at most `N` bytes long, and blanks up to `N`.
 #[inline]
 pub fn filled<const N: usize>(text: &[u8]) -> [u8; N]
     requires { length text.now ≤ N }
@@ -43,7 +43,7 @@ pub fn put_text<A: Allocator>(out: &mut Vec<u8, A>, text: &[u8], width: usize) -
     ensures ok { OnOk result (out.new.items ≡ out.old.items ++ padded width text.now) }
     ensures err { OnErr result (out.new.items ≡ out.old.items) }
     ensures len { OnOk result (vec_len out.new ≡ vec_len out.old + width) }
-    // The capacity never shrinks, and memory is answered only where there was no room.
+    // The capacity never shrinks, and `Memory` is returned only where the capacity was too small.
     ensures capacity { vec_capacity out.old ≤ vec_capacity out.new }
     ensures full { OnErr result (vec_capacity out.old < vec_len out.old + width) }
 {

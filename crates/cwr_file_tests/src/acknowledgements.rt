@@ -2,16 +2,16 @@
 
 ghost use Rattle.std.specs.Prelude.{◌≡◌, ◌+◌, ◌<◌, ◌≤◌, ◌^◌, [], false, length};
 ghost use Rattle.std.specs.List.{AllByRecursion};
-ghost use Rattle.cwr_acknowledgement.specs.AckItem.{is_rejected, told_faults};
-ghost use Rattle.cwr_acknowledgement.specs.Acknowledgement.{FitsItem, FitsFault, told_count, most_told};
+ghost use Rattle.cwr_acknowledgement.specs.AckItem.{is_rejected, reported_faults};
+ghost use Rattle.cwr_acknowledgement.specs.Acknowledgement.{FitsItem, FitsFault, reported_fault_count, max_ack_records};
 
 use crate::sent::expect_sent;
 use cwr_field::{cut, date, put_text, time};
 use cwr_file::{AckItem, Fault, Faults, Header, Lines, Memory, Stamp, Status, WorkKind, ack_file};
 use cwr_record::{read_header, read_message};
-use cwr_sheets::{same, same_bytes, same_lists};
 use std::alloc::Global;
 use std::test::Fail;
+use test_files::{same, same_bytes, same_lists};
 
 /// Both first lines, which the stamp alone determines.
 const START: &str = "\
@@ -75,7 +75,7 @@ pub(crate) fn item(sequence: u32, kind: WorkKind, status: Status) -> AckItem<'st
     requires sequence { sequence < 10 ^ 8 }
     requires status { is_rejected status ≡ false }
     ensures fits { FitsItem result }
-    ensures told { told_faults result ≡ [] }
+    ensures told { reported_faults result ≡ [] }
 {
     AckItem {
         group: 1,
@@ -103,7 +103,7 @@ fn fault(sequence: u32, number: u8, rtype: [u8; 3]) -> Fault
 pub(crate) fn rejected<'a>(title: &[u8], number: &[u8], faults: &'a [Fault]) -> AckItem<'a>
     requires { AllByRecursion FitsFault faults.now }
     ensures fits { FitsItem result }
-    ensures told { told_faults result ≡ faults.now }
+    ensures told { reported_faults result ≡ faults.now }
 {
     AckItem {
         group: 1,
@@ -119,16 +119,16 @@ pub(crate) fn rejected<'a>(title: &[u8], number: &[u8], faults: &'a [Fault]) -> 
 
 /// The acknowledgement of these items.
 pub(crate) fn acknowledged(alloc: Global, items: &[AckItem]) -> Result<Vec<u8>, Fail>
-    requires few { length items.now + told_count items.now ≤ most_told }
+    requires few { length items.now + reported_fault_count items.now ≤ max_ack_records }
     requires fit { AllByRecursion FitsItem items.now }
 {
     Ok(ack_file(alloc, &stamp()?, &header(alloc)?, items)?)
 }
 
-/// The acknowledgement of these items, which must be these texts, all room for it asked for at once, and the same when it
-/// is sent.
+/// The acknowledgement of these items must be these texts, with its memory allocated once, and the same when it is
+/// sent.
 fn expect_text(alloc: Global, items: &[AckItem], wanted: &[&str]) -> Result<(), Fail>
-    requires few { length items.now + told_count items.now ≤ most_told }
+    requires few { length items.now + reported_fault_count items.now ≤ max_ack_records }
     requires fit { AllByRecursion FitsItem items.now }
 {
     let text = acknowledged(alloc, items)?;
@@ -136,7 +136,7 @@ fn expect_text(alloc: Global, items: &[AckItem], wanted: &[&str]) -> Result<(), 
     expect_sent(alloc, items, &text)
 }
 
-/// An acknowledgement is these texts, and has no more room than it needs.
+/// An acknowledgement must be these texts, and have no more capacity than it needs.
 fn expect_spelled(alloc: Global, text: &Vec<u8>, wanted: &[&str]) -> Result<(), Fail> {
     same_bytes("an acknowledgement", text, &spelled(alloc, wanted)?)?;
     same("its room", &text.capacity(), &text.len())
@@ -255,7 +255,7 @@ fn tells_a_share(rt: HostRuntime) -> Result<(), Fail> {
 /// An item in conflict, which has faults all the same.
 fn in_conflict(faults: &[Fault]) -> AckItem<'_>
     ensures fits { FitsItem result }
-    ensures told { told_faults result ≡ [] }
+    ensures told { reported_faults result ≡ [] }
 {
     AckItem {
         group: 1,
@@ -269,15 +269,15 @@ fn in_conflict(faults: &[Fault]) -> AckItem<'_>
     }
 }
 
-/// The acknowledgement of these items tells these faults, and no others.
+/// The acknowledgement of these items has these faults, and no others.
 fn expect_told(alloc: Global, items: &[AckItem], wanted: &[Fault]) -> Result<(), Fail>
-    requires few { length items.now + told_count items.now ≤ most_told }
+    requires few { length items.now + reported_fault_count items.now ≤ max_ack_records }
     requires fit { AllByRecursion FitsItem items.now }
 {
     expect_messages(&acknowledged(alloc, items)?, wanted)
 }
 
-/// A message tells this fault.
+/// A message has this fault.
 fn expect_message(line: &[u8], fault: &Fault) -> Result<(), Fail> {
     let message = read_message(line)?;
     same("a sequence", &message.original_record, &fault.sequence)?;
@@ -289,7 +289,7 @@ fn expect_message(line: &[u8], fault: &Fault) -> Result<(), Fail> {
     same("a type", &message.record_type, &fault.rtype)
 }
 
-/// The messages of an acknowledgement tell these faults, and no others.
+/// The messages of an acknowledgement have these faults, and no others.
 fn expect_messages(text: &[u8], wanted: &[Fault]) -> Result<(), Fail> {
     let mut told: usize = 0;
     for line in Lines::of(text) {
@@ -322,14 +322,14 @@ fn keeps_faults(rt: HostRuntime) -> Result<(), Fail> {
     same_lists("faults", &faults.into_vec(), &TWO_FAULTS)
 }
 
-/// A rejected item tells them.
+/// The acknowledgement has those of a rejected item.
 #[test]
 fn tells_the_faults_of_a_rejected_item(rt: HostRuntime) -> Result<(), Fail> {
     let items = [rejected(b"SONG ONE", b"W1", &TWO_FAULTS)];
     expect_told(rt.alloc(), &items, &TWO_FAULTS)
 }
 
-/// No other item does.
+/// It has those of no other item.
 #[test]
 fn tells_no_faults_of_a_conflict(rt: HostRuntime) -> Result<(), Fail> {
     let items = [in_conflict(&TWO_FAULTS)];

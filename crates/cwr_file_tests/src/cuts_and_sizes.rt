@@ -8,9 +8,9 @@ use crate::lines::{
 };
 use cwr_field::put_digits;
 use cwr_file::{FileRefusal, parse_file};
-use cwr_sheets::same;
 use std::alloc::{AllocError, Global};
 use std::test::Fail;
+use test_files::same;
 
 /// The file of one work with a tail after its last line.
 fn expect_tail(alloc: Global, tail: &str, wanted: Option<FileRefusal>) -> Result<(), Fail> {
@@ -29,7 +29,7 @@ fn takes_a_tail_of_blanks_and_file_ends(rt: HostRuntime) -> Result<(), Fail> {
     expect_tail(alloc, "\r", fault(11, 7))
 }
 
-/// The file of nine records with a PER that begins so and is filled with blanks to this width.
+/// The file of nine records with a PER that begins with these bytes and is filled with blanks to this width.
 fn expect_wide(
     alloc: Global,
     start: &[u8],
@@ -52,8 +52,9 @@ fn takes_lines_of_4096_bytes(rt: HostRuntime) -> Result<(), Fail> {
     expect_wide(alloc, b"PER0000000000000005X\t", 4096, fault(2, 8))
 }
 
-/// The fault of the file of one work after a cut, where the cut leaves no whole type of its first record, or takes a
-/// part of the end of its fifth line or of its last. The first five lines, and all of them, have so many bytes.
+/// The fault of the file of one work after a cut. It has one if the cut leaves no complete type of its first record, or
+/// removes a part of the end of its fifth line or of its last. `left` is the number of bytes that are left, `five` that
+/// of the first five lines, and `all` that of the file.
 fn fault_of_cut(left: usize, five: usize, all: usize) -> Option<FileRefusal> {
     if left < 3 {
         fault(1, 1)
@@ -72,8 +73,8 @@ fn fault_of_cut(left: usize, five: usize, all: usize) -> Option<FileRefusal> {
     }
 }
 
-/// What a cut leaves is taken only where the last line's end alone is gone. Else it has the fault that the cut tells, or
-/// some other.
+/// What a cut leaves is taken only if the last line's end alone is missing. Else it has the fault of [`fault_of_cut`],
+/// or if that is none, some other.
 fn expect_cut(alloc: Global, text: &[u8], five: usize, left: usize) -> Result<(), Fail> {
     let refusal = parse_file(alloc, text.get(..left).ok_or("a cut")?).err();
     let wanted = fault_of_cut(left, five, text.len());

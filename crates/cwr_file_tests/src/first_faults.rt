@@ -5,9 +5,9 @@ use crate::lines::{
     text_of,
 };
 use cwr_file::{FileRefusal, Memory};
-use cwr_sheets::same_text;
 use std::alloc::Global;
 use std::test::Fail;
+use test_files::same_text;
 
 /// A line in the place of one of the file of one work: that one's index, the line, and the number and the line of the
 /// fault.

@@ -1,15 +1,15 @@
-//! Readers and writers of std that fail once, or are interrupted, and how often they are called.
+//! Readers and writers of std that fail once, or are interrupted, and the number of calls that they get.
 
 use byte_streams::{
-    Failed, MOST_REPEATS, ReadRefused, Source, Through, WriteStopped, read_file, write_out,
+    Failed, MAX_REPEATS, ReadRefused, Source, Through, WriteStopped, read_file, write_out,
 };
-use cwr_sheets::{same, same_bytes};
 use std::alloc::Global;
 use std::io;
 use std::io::ErrorKind;
 use std::test::Fail;
+use test_files::{same, same_bytes};
 
-/// What a call answers.
+/// What a call returns.
 #[derive(Clone, Copy)]
 enum Call {
     Works,
@@ -21,12 +21,12 @@ use Call::{Broken, Interrupted, Works};
 
 const TEXT: &[u8] = b"HDRPB1234";
 
-/// As many interruptions as a call gets over.
+/// The number of interruptions that a call gets over.
 const EIGHT: [Call; 8] = [Interrupted; 8];
 
 const NINE: [Call; 9] = [Interrupted; 9];
 
-/// A reader and a writer that moves three bytes a call. Its first calls answer as a list says, and all others work.
+/// A reader and a writer that moves three bytes a call. Its first calls answer as a list says, and all others succeed.
 #[derive(Drop)]
 struct Scripted<'a> {
     left: &'a [u8],
@@ -45,7 +45,7 @@ impl<'a> Scripted<'a> {
         }
     }
 
-    /// Whether the next call works.
+    /// Whether the next call succeeds.
     fn answer(&mut self) -> io::Result<()> {
         let call = self.first.get(self.calls).copied().unwrap_or(Works);
         self.calls = self.calls.saturating_add(1);
@@ -81,7 +81,7 @@ impl io::Write for Scripted<'_> {
     }
 }
 
-/// One read of a reader: what it answers, and how often the reader is called for it.
+/// One read of a reader: what it returns, and the number of calls that the reader gets for it.
 fn expect_read(
     alloc: Global,
     first: &[Call],
@@ -99,7 +99,7 @@ fn expect_read(
 #[test]
 fn reads_again_where_it_is_interrupted(rt: HostRuntime) -> Result<(), Fail> {
     let alloc = rt.alloc();
-    same("repeats", &MOST_REPEATS, &8)?;
+    same("repeats", &MAX_REPEATS, &8)?;
     expect_read(alloc, &[], Ok(3), 1)?;
     expect_read(alloc, &[Interrupted], Ok(3), 2)?;
     expect_read(alloc, &EIGHT, Ok(3), 9)?;
@@ -114,7 +114,9 @@ fn reads_no_more_where_it_fails(rt: HostRuntime) -> Result<(), Fail> {
     expect_read(alloc, &[Interrupted, Broken], Err(Failed), 2)
 }
 
-/// A whole file from a reader: why it is not read, if it is not, what the reader has left, and how often it was called.
+/// A file that is read from a reader. `alloc` allocates, and `first` says how the reader's first calls answer.
+/// `refused` is why the file is not read, if it is not. `left` is what the reader has left, and `calls` the number of
+/// calls that it got.
 fn expect_file(
     alloc: Global,
     first: &[Call],
@@ -145,7 +147,8 @@ fn reads_a_file_up_to_a_failure(rt: HostRuntime) -> Result<(), Fail> {
     expect_file(alloc, &[Works, Works, Works, Broken], failed, b"", 4)
 }
 
-/// A text to a writer: how that ends, what the writer took, and how often it was called.
+/// A text that is written to a writer. `alloc` allocates, and `first` says how the writer's first calls answer. `ended`
+/// is how that ends, `taken` what the writer took, and `calls` the number of calls that it got.
 fn expect_written(
     alloc: Global,
     first: &[Call],

@@ -4,6 +4,8 @@
 #[cfg(test)]
 mod acknowledgements;
 #[cfg(test)]
+mod chunks;
+#[cfg(test)]
 mod cuts_and_sizes;
 #[cfg(test)]
 mod first_faults;
@@ -11,8 +13,6 @@ mod first_faults;
 mod interruptions;
 #[cfg(test)]
 mod lines;
-#[cfg(test)]
-mod pieces;
 #[cfg(test)]
 mod sent;
 #[cfg(test)]

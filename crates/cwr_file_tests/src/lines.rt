@@ -1,9 +1,9 @@
-//! Lines of submission files, and what must become of the files that they make.
+//! Lines of submission files, and the required outcomes of the files that they make.
 
 use cwr_file::{FileRefusal, Submission, parse_file};
-use cwr_sheets::same;
 use std::alloc::{AllocError, Global};
 use std::test::Fail;
+use test_files::same;
 
 pub(crate) const HDR: &[u8] =
     b"HDRPB000000123PUBLISHER A                                  01.102024050112000020240501";
@@ -54,7 +54,7 @@ pub(crate) fn fault(number: u8, line: u64) -> Option<FileRefusal> {
     Some(FileRefusal::Fault { number, line })
 }
 
-/// Why the file of these bytes, which this names, must not be taken, or nothing where it must be.
+/// Why the file of these bytes, which `what` names, must not be taken, or `None` if it must be.
 pub(crate) fn expect_refusal(
     alloc: Global,
     what: &str,
@@ -64,7 +64,7 @@ pub(crate) fn expect_refusal(
     same(what, &parse_file(alloc, text).err(), &wanted)
 }
 
-/// The same of one of many files, which this place tells apart.
+/// The same for one of many files, which this place tells apart.
 pub(crate) fn expect_refusal_at(
     alloc: Global,
     place: usize,
@@ -79,7 +79,7 @@ pub(crate) fn expect_refusal_at(
     )
 }
 
-/// The same of lines that each end with CR LF.
+/// The same for lines that each end with CR LF.
 pub(crate) fn expect_lines(
     alloc: Global,
     what: &str,
@@ -89,7 +89,7 @@ pub(crate) fn expect_lines(
     expect_refusal(alloc, what, &text_of(alloc, lines, b"\r\n")?, wanted)
 }
 
-/// How many groups, records and transactions a file has.
+/// The number of groups, records and transactions of a file.
 pub(crate) fn expect_counts(
     file: &Submission,
     groups: u32,

@@ -2,17 +2,17 @@
 
 ghost use Rattle.std.specs.Prelude.{◌+◌, ◌≤◌, length, IfOk};
 ghost use Rattle.std.specs.List.{AllByRecursion};
-ghost use Rattle.cwr_acknowledgement.specs.Acknowledgement.{FitsFault, FitsItem, told_count, most_told};
+ghost use Rattle.cwr_acknowledgement.specs.Acknowledgement.{FitsFault, FitsItem, reported_fault_count, max_ack_records};
 
 use crate::acknowledgements::{acknowledged, header, item, rejected, stamp};
 use byte_streams::Spool;
-use cwr_file::{AckItem, AckStopped, Fault, Memory, Room, Status, Through, WorkKind, send_ack};
-use cwr_sheets::{same, same_bytes};
+use cwr_file::{AckError, AckItem, Fault, Memory, Room, Status, Through, WorkKind, send_ack};
 use std::alloc::Global;
 use std::io;
 use std::test::Fail;
+use test_files::{same, same_bytes};
 
-/// A writer that takes so many bytes a call at most.
+/// A writer that takes at most this number of bytes a call.
 #[derive(Drop)]
 struct Few {
     taken: Vec<u8>,
@@ -31,9 +31,9 @@ impl io::Write for Few {
     }
 }
 
-/// The acknowledgement of these items goes out whole, however few bytes a write takes.
+/// The acknowledgement of these items goes out completely, however few bytes a write takes.
 pub(crate) fn expect_sent(alloc: Global, items: &[AckItem], wanted: &[u8]) -> Result<(), Fail>
-    requires few { length items.now + told_count items.now ≤ most_told }
+    requires few { length items.now + reported_fault_count items.now ≤ max_ack_records }
     requires fit { AllByRecursion FitsItem items.now }
 {
     expect_spooled(alloc, items, wanted)?;
@@ -43,9 +43,9 @@ pub(crate) fn expect_sent(alloc: Global, items: &[AckItem], wanted: &[u8]) -> Re
     Ok(())
 }
 
-/// It goes out whole into a spool.
+/// It goes out completely into a spool.
 fn expect_spooled(alloc: Global, items: &[AckItem], wanted: &[u8]) -> Result<(), Fail>
-    requires few { length items.now + told_count items.now ≤ most_told }
+    requires few { length items.now + reported_fault_count items.now ≤ max_ack_records }
     requires fit { AllByRecursion FitsItem items.now }
 {
     let (stamp, header) = (stamp()?, header(alloc)?);
@@ -54,9 +54,9 @@ fn expect_spooled(alloc: Global, items: &[AckItem], wanted: &[u8]) -> Result<(),
     same_bytes("what was sent", spool.bytes(), wanted)
 }
 
-/// It goes out whole where a write takes so many bytes at most.
+/// It goes out completely if a write takes at most `most` bytes.
 fn expect_sent_by(alloc: Global, items: &[AckItem], wanted: &[u8], most: usize) -> Result<(), Fail>
-    requires few { length items.now + told_count items.now ≤ most_told }
+    requires few { length items.now + reported_fault_count items.now ≤ max_ack_records }
     requires fit { AllByRecursion FitsItem items.now }
 {
     let (stamp, header) = (stamp()?, header(alloc)?);
@@ -66,7 +66,9 @@ fn expect_sent_by(alloc: Global, items: &[AckItem], wanted: &[u8], most: usize) 
     same_bytes("what was sent", &sink.into_inner().taken, wanted)
 }
 
-/// A sink that takes so many bytes, and then fails or takes none, has taken these, and that is told.
+/// A sink that takes the front of an acknowledgement, which is reported. `alloc` allocates, `items` are acknowledged,
+/// and `wanted` is the acknowledgement. The sink takes `size` bytes; then it fails if `fails` is true, and else takes
+/// nothing more.
 fn expect_cut(
     alloc: Global,
     items: &[AckItem],
@@ -74,14 +76,14 @@ fn expect_cut(
     size: usize,
     fails: bool,
 ) -> Result<(), Fail>
-    requires few { length items.now + told_count items.now ≤ most_told }
+    requires few { length items.now + reported_fault_count items.now ≤ max_ack_records }
     requires fit { AllByRecursion FitsItem items.now }
 {
     let (stamp, header) = (stamp()?, header(alloc)?);
     let front = wanted.get(..size).ok_or("a front")?;
     let mut room = Room::new(alloc, size, fails)?;
     let ended = send_ack(alloc, &mut room, &stamp, &header, items);
-    let stopped = AckStopped::Write { sent: size as u64 };
+    let stopped = AckError::Write { sent: size as u64 };
     same("how it ended", &ended, &Err(stopped))?;
     same_bytes("what was taken", room.bytes(), front)
 }
@@ -95,7 +97,7 @@ fn stops_after_each_byte(rt: HostRuntime) -> Result<(), Fail> {
 
 /// The acknowledgement of these items has 425 bytes, and can be cut after each.
 fn expect_each_cut(alloc: Global, items: &[AckItem], wanted: &[u8]) -> Result<(), Fail>
-    requires few { length items.now + told_count items.now ≤ most_told }
+    requires few { length items.now + reported_fault_count items.now ≤ max_ack_records }
     requires fit { AllByRecursion FitsItem items.now }
 {
     same("its length", &wanted.len(), &425)?;
@@ -124,16 +126,16 @@ fn thousand_faults(alloc: Global) -> Result<Vec<Fault>, Memory>
 
 /// A thousand messages go out in three pieces. The first has 351 lines, the second 350.
 #[test]
-fn stops_in_each_piece(rt: HostRuntime) -> Result<(), Fail> {
+fn stops_in_each_chunk(rt: HostRuntime) -> Result<(), Fail> {
     let faults = thousand_faults(rt.alloc())?;
     let items = [rejected(b"SONG ONE", b"W1", &faults)];
     let wanted = acknowledged(rt.alloc(), &items)?;
-    expect_pieces(rt.alloc(), &items, &wanted)
+    expect_chunks(rt.alloc(), &items, &wanted)
 }
 
 /// The acknowledgement of these items goes out in those pieces, and can be cut where they end.
-fn expect_pieces(alloc: Global, items: &[AckItem], wanted: &[u8]) -> Result<(), Fail>
-    requires few { length items.now + told_count items.now ≤ most_told }
+fn expect_chunks(alloc: Global, items: &[AckItem], wanted: &[u8]) -> Result<(), Fail>
+    requires few { length items.now + reported_fault_count items.now ≤ max_ack_records }
     requires fit { AllByRecursion FitsItem items.now }
 {
     same("its length", &wanted.len(), &187_425)?;

@@ -3,12 +3,12 @@
 ghost use Rattle.std.specs.Prelude.{◌≡◌, ◌<◌, false};
 
 use cwr_file::{Failed, Feed, Lines, Memory, Room, Sink, Source, Through, WriteStopped, write_out};
-use cwr_sheets::{same, same_bytes, same_lists, same_text};
 use std::alloc::Global;
 use std::test::Fail;
 use std::{io, str};
+use test_files::{same, same_bytes, same_lists, same_text};
 
-/// What a source gives in rooms of four bytes, up to its end or its failure, and the number of reads that answered.
+/// What a source gives in reads of four bytes, up to its end or its failure, and the number of reads that answered.
 fn drained<R: Source>(alloc: Global, source: &mut R) -> Result<(Vec<u8>, u64), Fail> {
     let mut bytes = Vec::new(alloc);
     let mut room = [b'?'; 4];
@@ -34,7 +34,8 @@ fn long_text() -> [u8; 150] {
     text
 }
 
-/// What the source gives up to its end or its failure, in so many reads that answer, and whether it has failed then.
+/// What a source gives up to its end or its failure. `alloc` allocates, and `source` is read. `bytes` is what it must
+/// give, and `reads` the number of reads that must answer. `failed` says whether it must have failed then.
 fn expect_drained<R: Source>(
     alloc: Global,
     source: &mut R,
@@ -47,17 +48,17 @@ fn expect_drained<R: Source>(
     same("reads", &(answered, source.failed()), &(reads, failed))
 }
 
-/// A feed of this text gives all of it, at most so many bytes in a read.
-fn expect_fed(alloc: Global, text: &[u8], piece: usize, reads: u64) -> Result<(), Fail>
-    requires { 0 < piece }
+/// A feed of this text gives all of it, at most `chunk` bytes in a read.
+fn expect_fed(alloc: Global, text: &[u8], chunk: usize, reads: u64) -> Result<(), Fail>
+    requires { 0 < chunk }
 {
-    expect_drained(alloc, &mut Feed::new(text, piece, None), text, reads, false)
+    expect_drained(alloc, &mut Feed::new(text, chunk, None), text, reads, false)
 }
 
 const TEXT: &[u8] = b"HDRPB 1234";
 
 #[test]
-fn feeds_in_pieces(rt: HostRuntime) -> Result<(), Fail> {
+fn feeds_in_chunks(rt: HostRuntime) -> Result<(), Fail> {
     let alloc = rt.alloc();
     expect_fed(alloc, TEXT, 1, 11)?;
     expect_fed(alloc, TEXT, 3, 5)?;
@@ -112,7 +113,7 @@ fn reads_into_no_room() -> Result<(), Fail> {
     same("room", &feed.read_some(&mut room), &Ok(2))
 }
 
-/// A room of this size takes a text so far, and has failed then.
+/// A room of this size takes the front of a text, and has failed then.
 fn expect_stopped(alloc: Global, size: usize, fails: bool) -> Result<(), Fail> {
     let text = long_text();
     let front = text.get(..size).ok_or("a front")?;
@@ -171,7 +172,7 @@ fn expect_two_texts(room: &mut Room) -> Result<(), Fail>
     same_bytes("what is there then", room.bytes(), b"HDRGRH")
 }
 
-/// A room of two bytes, which are in it, answers one byte more so, and has failed then.
+/// A room of two bytes, which are in it, answers one more byte like this, and has failed then.
 fn expect_full(alloc: Global, fails: bool, wanted: Result<usize, Failed>) -> Result<(), Fail> {
     let mut room = Room::new(alloc, 2, fails)?;
     expect_one_byte_more(&mut room, wanted)
@@ -282,7 +283,7 @@ fn cuts_lines(rt: HostRuntime) -> Result<(), Fail> {
     expect_lines(alloc, "HDR\r\nGRH\nTRL\r\n", &["HDR", "GRH", "TRL"])
 }
 
-/// CR is a byte like others where no LF follows it.
+/// CR is a byte like others unless LF follows it.
 #[test]
 fn cuts_no_lines_at_cr(rt: HostRuntime) -> Result<(), Fail> {
     let alloc = rt.alloc();

@@ -2,9 +2,9 @@
 
 use crate::lines::{GRH, HDR, NINE_RECORDS, NWR, ONE_WORK, SWR, expect_counts, text_of};
 use cwr_file::{Header, RawTransaction, Submission, WorkKind, parse_file};
-use cwr_sheets::{same, same_bytes};
 use std::alloc::Global;
 use std::test::Fail;
+use test_files::{same, same_bytes};
 
 /// The file of one work is taken.
 fn expect_one_work(alloc: Global, text: &[u8]) -> Result<(), Fail> {
@@ -88,8 +88,8 @@ pub(crate) const THREE_WORKS: [&[u8]; 10] = [
     b"TRL000020000000300000010",
 ];
 
-/// What a transaction must be: its group, its sequence, its kind, and how many lines it has.
-struct Told {
+/// What a transaction must be: its group, its sequence, its kind, and its number of lines.
+struct ExpectedTransaction {
     group: u32,
     sequence: u32,
     kind: WorkKind,
@@ -97,20 +97,20 @@ struct Told {
 }
 
 /// The transactions of that file.
-const THREE_TOLD: [Told; 3] = [
-    Told {
+const THREE_TOLD: [ExpectedTransaction; 3] = [
+    ExpectedTransaction {
         group: 1,
         sequence: 0,
         kind: WorkKind::Nwr,
         lines: 2,
     },
-    Told {
+    ExpectedTransaction {
         group: 1,
         sequence: 1,
         kind: WorkKind::Nwr,
         lines: 1,
     },
-    Told {
+    ExpectedTransaction {
         group: 2,
         sequence: 0,
         kind: WorkKind::Rev,
@@ -118,7 +118,10 @@ const THREE_TOLD: [Told; 3] = [
     },
 ];
 
-fn expect_transaction(transaction: &RawTransaction, wanted: &Told) -> Result<(), Fail> {
+fn expect_transaction(
+    transaction: &RawTransaction,
+    wanted: &ExpectedTransaction,
+) -> Result<(), Fail> {
     same("a group", &transaction.group(), &wanted.group)?;
     same("a sequence", &transaction.sequence(), &wanted.sequence)?;
     same("a kind", &transaction.kind(), &wanted.kind)?;

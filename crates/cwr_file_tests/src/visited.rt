@@ -7,20 +7,20 @@ use crate::taken::{REV, THREE_WORKS};
 use cwr_field::put_digits;
 use cwr_file::{Envelope, FileRefusal, Header, Memory, Visitor, WorkKind, visit_file};
 use cwr_record::RecordType;
-use cwr_sheets::{same, same_bytes};
 use std::alloc::Global;
 use std::test::Fail;
+use test_files::{same, same_bytes};
 
-/// A visitor that notes what it is given. It is refused memory once it was called so many times.
+/// A visitor that notes what it is given. It reports an allocation failure after a number of calls.
 #[derive(Drop)]
-pub(crate) struct Noted {
+pub(crate) struct VisitLog {
     pub(crate) text: Vec<u8>,
-    /// The sender of its header, where that came once and first.
+    /// The sender of its header, if that came once and first.
     sender: Option<[u8; 11]>,
     calls: u32,
 }
 
-impl Noted {
+impl VisitLog {
     /// Ends what it notes of one call.
     fn end_note(&mut self, line: &[u8]) -> Result<(), Memory> {
         if self.calls == 0 {
@@ -33,7 +33,7 @@ impl Noted {
     }
 }
 
-impl Visitor for Noted {
+impl Visitor for VisitLog {
     ghost keeps = { λ _ _ _ _ _. ⊤ };
 
     fn header(&mut self, header: &Header) {
@@ -66,9 +66,9 @@ impl Visitor for Noted {
     }
 }
 
-/// A visitor that is called so many times at most.
-pub(crate) fn visitor_called(alloc: Global, calls: u32) -> Noted {
-    Noted {
+/// A visitor that takes at most `calls` calls.
+pub(crate) fn visitor_called(alloc: Global, calls: u32) -> VisitLog {
+    VisitLog {
         text: Vec::new(alloc),
         sender: None,
         calls,
@@ -95,10 +95,10 @@ const THREE_NOTED: [&[&[u8]]; 7] = [
 /// A visitor noted the transactions of the file of three works, in order.
 fn expect_three(text: &[u8]) -> Result<(), Fail> {
     let mut rest = text;
-    for pieces in THREE_NOTED {
-        for piece in pieces {
-            same_bytes("a piece", rest.get(..piece.len()).ok_or("bytes")?, piece)?;
-            rest = rest.get(piece.len()..).ok_or("bytes")?;
+    for chunks in THREE_NOTED {
+        for chunk in chunks {
+            same_bytes("a piece", rest.get(..chunk.len()).ok_or("bytes")?, chunk)?;
+            rest = rest.get(chunk.len()..).ok_or("bytes")?;
         }
         same_bytes("a line's end", rest.get(..1).ok_or("an end")?, b"\n")?;
         rest = rest.get(1..).ok_or("an end")?;
@@ -106,8 +106,8 @@ fn expect_three(text: &[u8]) -> Result<(), Fail> {
     same("bytes left", &rest.len(), &0)
 }
 
-/// The file of three works was visited: its sender, how many records it has, and what a visitor noted.
-pub(crate) fn expect_three_works(envelope: &Envelope, visitor: &Noted) -> Result<(), Fail> {
+/// The file of three works was visited: its sender, its number of records, and what a visitor noted.
+pub(crate) fn expect_three_works(envelope: &Envelope, visitor: &VisitLog) -> Result<(), Fail> {
     same("the sender", &envelope.header.sender, SENDER)?;
     same("the header", &visitor.sender, &Some(*SENDER))?;
     same("records", &envelope.records, &10)?;

@@ -1,19 +1,19 @@
-//! Lines of each width, and bytes below 32 at each place of a line. The end of a line is looked for in blocks of 64 bytes,
-//! and first where the line before it ended whose record has the same name.
+//! Lines of each width, and bytes below 32 at each place of a line. The end of a line is looked for in blocks of 64
+//! bytes. The search begins where the earlier line of the same record name ended.
 
 use crate::lines::{GRH, HDR, NWR, fault, text_of};
 use crate::visited::visitor_called;
 use crate::windows::{by, visit};
 use cwr_file::{FileRefusal, visit_file};
-use cwr_sheets::{same, same_bytes};
 use std::alloc::{AllocError, Global};
 use std::test::Fail;
+use test_files::{same, same_bytes};
 
-/// The bytes of the least line of a detail: its record type and its sequence numbers.
-const LEAST: usize = 19;
+/// The bytes of the shortest line of a detail: its record type and its sequence numbers.
+const MIN: usize = 19;
 
 /// The bytes of the widest line here: two blocks, and some.
-const MOST: usize = 131;
+const MAX: usize = 131;
 
 /// The line of a performer with this digit as its record sequence, which asterisks fill to a width.
 fn performer(alloc: Global, digit: u8, width: usize) -> Result<Vec<u8>, AllocError> {
@@ -67,7 +67,7 @@ fn expect_given(alloc: Global, details: [&[u8]; 3], end: &[u8]) -> Result<(), Fa
     Ok(())
 }
 
-/// Details of two widths, of which the second follows a shorter one of its name and the third a longer one.
+/// Details of two widths. The second follows a shorter one of its name, and the third a longer one.
 fn expect_widths(alloc: Global, width: usize, other: usize) -> Result<(), Fail> {
     let first = performer(alloc, b'1', width)?;
     let second = performer(alloc, b'2', other)?;
@@ -78,7 +78,7 @@ fn expect_widths(alloc: Global, width: usize, other: usize) -> Result<(), Fail> 
 
 #[test]
 fn gives_details_of_each_width(rt: HostRuntime) -> Result<(), Fail> {
-    for width in LEAST..=MOST {
+    for width in MIN..=MAX {
         expect_widths(rt.alloc(), width, width)?;
         expect_widths(rt.alloc(), width, width.saturating_add(1))?;
         expect_widths(rt.alloc(), width, width.saturating_add(64))?;
@@ -93,9 +93,9 @@ fn expect_byte(
     place: usize,
     wanted: Option<FileRefusal>,
 ) -> Result<(), Fail> {
-    let first = performer(alloc, b'1', MOST)?;
-    let mut second = performer(alloc, b'2', MOST)?;
-    let third = performer(alloc, b'3', MOST)?;
+    let first = performer(alloc, b'1', MAX)?;
+    let mut second = performer(alloc, b'2', MAX)?;
+    let third = performer(alloc, b'3', MAX)?;
     *second.get_mut(place).ok_or("a place")? = byte;
     let text = file_of(alloc, [&first, &second, &third], b"\r\n")?;
     let refusal = visit_file(&text, &mut visitor_called(alloc, 5)).err();
@@ -106,10 +106,10 @@ fn expect_byte(
     )
 }
 
-/// A CR is no part of a line only where an LF follows it.
+/// A CR is not part of a line only if an LF follows it.
 #[test]
 fn refuses_a_control_byte_at_each_place(rt: HostRuntime) -> Result<(), Fail> {
-    for place in 0..MOST {
+    for place in 0..MAX {
         for byte in [0, 9, b'\r', 31] {
             expect_byte(rt.alloc(), byte, place, fault(2, 5))?;
         }
@@ -117,7 +117,7 @@ fn refuses_a_control_byte_at_each_place(rt: HostRuntime) -> Result<(), Fail> {
             rt.alloc(),
             0x80,
             place,
-            if place < LEAST { broken(place) } else { None },
+            if place < MIN { broken(place) } else { None },
         )?;
     }
     Ok(())
@@ -131,8 +131,8 @@ fn broken(place: usize) -> Option<FileRefusal> {
 /// What follows an LF is a line of its own, which has no record type here.
 #[test]
 fn ends_a_line_at_each_newline(rt: HostRuntime) -> Result<(), Fail> {
-    for place in 0..MOST {
-        let wanted = if place < LEAST {
+    for place in 0..MAX {
+        let wanted = if place < MIN {
             broken(place)
         } else {
             fault(3, 6)

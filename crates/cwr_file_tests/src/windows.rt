@@ -4,67 +4,67 @@ ghost use Rattle.std.specs.Prelude.{◌≡◌, ◌<◌};
 
 use crate::lines::{GRH, HDR, NWR, text_of};
 use crate::taken::THREE_WORKS;
-use crate::visited::{Noted, expect_three_works, visitor_called};
+use crate::visited::{VisitLog, expect_three_works, visitor_called};
 use cwr_file::{Envelope, Feed};
-use cwr_sheets::same;
 use cwr_source::{SourceRefused, visit_source};
 use std::alloc::Global;
 use std::test::Fail;
+use test_files::same;
 
 /// How a source gives its bytes, and how they are read.
 #[derive(Clone, Copy)]
 pub(crate) struct Ways {
-    /// How many bytes it gives at a time.
-    piece: usize,
+    /// The number of bytes that it gives at a time.
+    chunk: usize,
     /// The read that fails, counted from 1; none for 0.
     failing: u64,
-    /// The most bytes that a file may have.
+    /// The greatest number of bytes that a file may have.
     limit: usize,
-    /// How many bytes the window has.
+    /// The number of bytes of the window.
     room: usize,
 }
 
-/// The most bytes of the files here.
-const MOST: usize = 4096;
+/// A bound on the bytes of the files here.
+const MAX: usize = 4096;
 
 /// Visits a file that comes from a source.
 pub(crate) fn visit(
     alloc: Global,
     text: &[u8],
     ways: Ways,
-    visitor: Noted,
-) -> Result<(Envelope, Noted), SourceRefused>
-    requires piece { 0 < ways.piece }
+    visitor: VisitLog,
+) -> Result<(Envelope, VisitLog), SourceRefused>
+    requires chunk { 0 < ways.chunk }
     requires limit { ways.limit < 4611686018427387904 }
 {
-    let mut reader = Feed::new(text, ways.piece, Some(ways.failing));
+    let mut reader = Feed::new(text, ways.chunk, Some(ways.failing));
     visit_source(alloc, &mut reader, ways.limit, ways.room, visitor)
 }
 
 /// The file of three works gives a visitor all of them.
 fn expect_three_by(alloc: Global, text: &[u8], ways: Ways) -> Result<(), Fail>
-    requires piece { 0 < ways.piece }
+    requires chunk { 0 < ways.chunk }
     requires limit { ways.limit < 4611686018427387904 }
 {
     let (envelope, visitor) = visit(alloc, text, ways, visitor_called(alloc, 7))?;
     expect_three_works(&envelope, &visitor)
 }
 
-/// A file is refused so.
+/// A file is refused with this error.
 fn expect_refused_by(
     alloc: Global,
     text: &[u8],
     ways: Ways,
     wanted: SourceRefused,
 ) -> Result<(), Fail>
-    requires piece { 0 < ways.piece }
+    requires chunk { 0 < ways.chunk }
     requires limit { ways.limit < 4611686018427387904 }
 {
     let refusal = visit(alloc, text, ways, visitor_called(alloc, 7)).err();
     same("the refusal", &refusal, &Some(wanted))
 }
 
-/// A file is refused so through each window.
+/// A file is refused with this error through each window.
 fn expect_refused_by_each(alloc: Global, text: &[u8], wanted: SourceRefused) -> Result<(), Fail> {
     for room in 0..300 {
         expect_refused_by(alloc, text, by(7, room), wanted)?;
@@ -73,14 +73,14 @@ fn expect_refused_by_each(alloc: Global, text: &[u8], wanted: SourceRefused) -> 
 }
 
 /// A source that does not fail, which gives a piece at a time.
-pub(crate) fn by(piece: usize, room: usize) -> Ways
-    ensures piece { result.piece ≡ piece }
+pub(crate) fn by(chunk: usize, room: usize) -> Ways
+    ensures chunk { result.chunk ≡ chunk }
     ensures limit { result.limit ≡ 4096 }
 {
     Ways {
-        piece,
+        chunk,
         failing: 0,
-        limit: MOST,
+        limit: MAX,
         room,
     }
 }
@@ -89,8 +89,8 @@ pub(crate) fn by(piece: usize, room: usize) -> Ways
 fn gives_the_same_through_each_window(rt: HostRuntime) -> Result<(), Fail> {
     let text = text_of(rt.alloc(), &THREE_WORKS, b"\r\n")?;
     for room in 0..300 {
-        for piece in [1, 2, 7, 1000] {
-            expect_three_by(rt.alloc(), &text, by(piece, room))?;
+        for chunk in [1, 2, 7, 1000] {
+            expect_three_by(rt.alloc(), &text, by(chunk, room))?;
         }
     }
     Ok(())
@@ -124,7 +124,7 @@ fn answers_a_line_after_the_trailer_through_each_window(rt: HostRuntime) -> Resu
 #[test]
 fn takes_no_byte_past_the_limit(rt: HostRuntime) -> Result<(), Fail> {
     let text = text_of(rt.alloc(), &THREE_WORKS, b"\n")?;
-    let size = text.len().min(MOST);
+    let size = text.len().min(MAX);
     let ways = Ways {
         limit: size,
         ..by(7, 64)
@@ -137,7 +137,7 @@ fn takes_no_byte_past_the_limit(rt: HostRuntime) -> Result<(), Fail> {
     expect_refused_by(rt.alloc(), &text, less, SourceRefused::TooLong)
 }
 
-/// A fault is told only of a file that can be read to its end.
+/// A fault is reported only of a file that can be read to its end.
 #[test]
 fn tells_a_failed_read_behind_a_fault(rt: HostRuntime) -> Result<(), Fail> {
     let text = text_of(rt.alloc(), &[HDR, HDR, GRH, NWR], b"\n")?;

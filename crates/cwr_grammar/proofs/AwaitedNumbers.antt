@@ -4,7 +4,7 @@ use Rattle.std.specs.Int.{w64, from_be_bytes}
 use Rattle.std.proofs.lemmas.Nat.{be_bytes_8}
 use Rattle.cwr_field.specs.Number.{number_of, number_text}
 use Rattle.cwr_field.proofs.lemmas.DigitText.{number_of-number_text, length-number_text}
-use Rattle.cwr_grammar.specs.Awaited.{digits_of}
+use Rattle.cwr_grammar.specs.Awaited.{packed_digits_of}
 
 -- ---- the number after it
 
@@ -32,12 +32,12 @@ next_byte (x1 ∷ x2 ∷ x3 ∷ x4 ∷ x5 ∷ x6 ∷ []) b len = absurd (omega a
 next_byte (x1 ∷ x2 ∷ x3 ∷ x4 ∷ x5 ∷ x6 ∷ x7 ∷ []) b len = omega arith
 next_byte (x1 ∷ x2 ∷ x3 ∷ x4 ∷ x5 ∷ x6 ∷ x7 ∷ x8 ∷ xs) b len = absurd (omega arith)
 
-pub last_digit : (n : ℕ) → digits_of n % 256 ≡ 48 + n % 10
-unfolding digits_of
+pub last_digit : (n : ℕ) → packed_digits_of n % 256 ≡ 48 + n % 10
+unfolding packed_digits_of
 last_digit n = low_byte (number_text 7 (n / 10)) (48 + n % 10) (length-number_text 7 (n / 10)) (omega arith)
 
-pub next_digit : (n : ℕ) → n % 10 < 9 → digits_of (n + 1) ≡ digits_of n + 1
-unfolding digits_of
+pub next_digit : (n : ℕ) → n % 10 < 9 → packed_digits_of (n + 1) ≡ packed_digits_of n + 1
+unfolding packed_digits_of
 next_digit n lt =
     let same : (n + 1) / 10 ≡ n / 10 = omega (arith, lt) in
     let more : 48 + (n + 1) % 10 ≡ 48 + n % 10 + 1 = omega (arith, lt) in
@@ -58,8 +58,8 @@ digit_small n (suc (suc (suc (suc (suc (suc zero)))))) = omega arith
 digit_small n (suc (suc (suc (suc (suc (suc (suc zero))))))) = omega arith
 digit_small n (suc (suc (suc (suc (suc (suc (suc (suc i)))))))) = omega arith
 
-pub number_read : (field : List ℕ) (n : ℕ) → length field ≡ 8 → ((i : ℕ) → get_or field i 0 < 256) → n < 10 ^ 8 → from_be_bytes w64 field ≡ digits_of n → number_of field ≡ Some n
-unfolding digits_of
+pub number_read : (field : List ℕ) (n : ℕ) → length field ≡ 8 → ((i : ℕ) → get_or field i 0 < 256) → n < 10 ^ 8 → from_be_bytes w64 field ≡ packed_digits_of n → number_of field ≡ Some n
+unfolding packed_digits_of
 number_read field n len bytes few is =
     let same : field ≡ number_text 8 n =
     sym (be_bytes_8 field (from_be_bytes w64 field) len bytes refl) ∙ be_bytes_8 (number_text 8 n) (from_be_bytes w64 field) (length-number_text 8 n) (digit_small n) is in

@@ -13,7 +13,7 @@ use Rattle.std.proofs.lemmas.List.{get_or-take, take_more}
 use Rattle.std.proofs.lemmas.List.Sums.{fails_before_first}
 use Rattle.cwr_field.proofs.lemmas.Tests.{both}
 use Rattle.std.specs.Str.Lines.{lines, strip_carriage_return}
-use Rattle.cwr_field.specs.Layout.{least_printable, is_control, is_printable}
+use Rattle.cwr_field.specs.Layout.{min_printable, is_control, is_printable}
 use Rattle.cwr_grammar.proofs.FirstLine.{lines-ended, lines-take_ended}
 use Rattle.cwr_grammar.specs.FaultTests.{has_control}
 use lib.Count.{count_trailing_zeros, trailing_of_zero}
@@ -21,7 +21,7 @@ use lib.Lanes.{mask_l, top, zip2}
 use mir.Val.{bits, hbits}
 
 abbrev pub mask_of : List ℕ → ℕ
-mask_of xs = mask_l (map (top (hbits w8)) (zip2 (λ a b. cond (ltb a b) (2 ^ bits w8 - 1) 0) xs (replicate 64 least_printable))) % 2 ^ 64
+mask_of xs = mask_l (map (top (hbits w8)) (zip2 (λ a b. cond (ltb a b) (2 ^ bits w8 - 1) 0) xs (replicate 64 min_printable))) % 2 ^ 64
 
 block_length : (text : List ℕ) (at : ℕ) → at + 64 ≤ length text → length (take 64 (drop at text)) ≡ 64
 block_length text at le = omega (arith, le, length-take 64 (drop at text), length-drop at text)
@@ -34,7 +34,7 @@ lowest_bit (suc mask) n e = let some : eqb (suc mask) 0 ≡ false = grind (arith
 pub mask_tells : (text : List ℕ) (at : ℕ) → at + 64 ≤ length text → count_trailing_zeros 64 (mask_of (take 64 (drop at text))) ≡ position_or_len is_control (take 64 (drop at text))
 mask_tells text at le =
     let long = block_length text at le in
-    ap (count_trailing_zeros 64) (bitmask_splat w8 ltb (take 64 (drop at text)) 64 least_printable long (omega arith))
+    ap (count_trailing_zeros 64) (bitmask_splat w8 ltb (take 64 (drop at text)) 64 min_printable long (omega arith))
     ∙ lowest_bit _ _ (first_set_mask_l is_control (take 64 (drop at text)) 64 long (omega arith))
 
 pub none_tells : (text : List ℕ) (at : ℕ) → at + 64 ≤ length text → ((k : ℕ) → at ≤ k → k < at + 64 → is_control (get_or text k 0) ≡ false) → 64 ≡ position_or_len is_control (take 64 (drop at text))
@@ -57,7 +57,7 @@ block_stops text at n le is short before =
     sym (position_or_len_is is_control text (at + n) 0 (omega (arith, le, short)) (λ k lt. passes_before text at n (λ j low high. run_in_chunk_fails is_control text at 64 n 0 le is j low high) before k lt)
     (λ lt. run_in_chunk_stops is_control text at 64 n 0 le is short))
 
-pub stops_at : (text : List ℕ) (at : ℕ) → at < length text → get_or text at 0 < least_printable → ((k : ℕ) → k < at → is_control (get_or text k 0) ≡ false) → at ≡ position_or_len is_control text
+pub stops_at : (text : List ℕ) (at : ℕ) → at < length text → get_or text at 0 < min_printable → ((k : ℕ) → k < at → is_control (get_or text k 0) ≡ false) → at ≡ position_or_len is_control text
 stops_at text at lt small before = let h : is_control (get_or text at 0) ≡ true = grind (arith, nat_tests) in sym (position_or_len_is is_control text at 0 (omega (arith, lt)) before (λ _. h))
 
 pub stops_after : (text : List ℕ) (at : ℕ) → at ≤ length text → length text ≤ at → ((k : ℕ) → k < at → is_control (get_or text k 0) ≡ false) → at ≡ position_or_len is_control text
@@ -98,13 +98,13 @@ ends_return text end is lt at next =
     position_at text (end + 1) lt
     (λ k l. ⊎_elim (λ (less : k < end). no_newline _ (below text end is k less)) (λ (ge : end ≤ k). let same : k ≡ end = omega (arith, l, ge) in ap (λ (j : ℕ). eqb (get_or text j 0) 10) same ∙ ap (λ (b : ℕ). eqb b 10) at) (cases_lt k end)) next
 
-printable_byte : (b : ℕ) → is_control b ≡ false → leb least_printable b ≡ true
+printable_byte : (b : ℕ) → is_control b ≡ false → leb min_printable b ≡ true
 printable_byte b e = grind (arith, nat_tests)
 
 each_printable : (xs : List ℕ) → ((i : ℕ) → i < length xs → is_control (get_or xs i 0) ≡ false) → is_printable xs ≡ true
 each_printable [] each = refl
 each_printable (x ∷ xs) each =
-    both (leb least_printable x) (is_printable xs) (printable_byte x (each 0 (omega arith))) (each_printable xs (λ i lt. each (suc i) (omega (arith, lt))))
+    both (leb min_printable x) (is_printable xs) (printable_byte x (each 0 (omega arith))) (each_printable xs (λ i lt. each (suc i) (omega (arith, lt))))
 
 no_control : (xs : List ℕ) → is_printable xs ≡ true → has_control xs ≡ false
 no_control xs h = ap not h

@@ -3,7 +3,7 @@ use Rattle.std.proofs.Common.{ℕ, ◌+◌, ◌≤◌, List, [], ◌∷◌, ◌+
 use Rattle.std.specs.Prelude.{IsTrue}
 use Rattle.std.specs.List.{AllByRecursion}
 use Rattle.cwr_field.specs.Layout.{is_printable}
-use Rattle.cwr_field.specs.Number.{most_count}
+use Rattle.cwr_field.specs.Number.{max_count}
 use Rattle.cwr_record.specs.declared.works.WorkKind.{WorkKind}
 use Rattle.cwr_grammar.specs.declared.role.Role.TheVariants.{GroupTrailer}
 use Rattle.cwr_grammar.specs.declared.span.Span.{Span}
@@ -36,7 +36,7 @@ all_printable (line ∷ ls) h = (printable line h.0.0, all_printable ls h.1)
 abbrev pub HasText : RawParts → Type 0
 HasText r = IsTransactionText r.lines
 
-group_texts : (ts : List (List (List ℕ))) (g t : ℕ) (kind : WorkKind) → AreTransactions kind t ts → length (joined ts) ≤ most_count → AllByRecursion IsPlain (joined ts) → AllByRecursion HasText (raws_of_group g t kind ts)
+group_texts : (ts : List (List (List ℕ))) (g t : ℕ) (kind : WorkKind) → AreTransactions kind t ts → length (joined ts) ≤ max_count → AllByRecursion IsPlain (joined ts) → AllByRecursion HasText (raws_of_group g t kind ts)
 group_texts [] g t kind are few plain = tt
 group_texts ([] ∷ ts) g t kind are few plain = absurd are.0
 group_texts ((line ∷ ds) ∷ ts) g t kind are few plain = (

@@ -103,11 +103,11 @@ module _ (K L : Option Header → List RawParts → Option RawParts → Type 0) 
 
   ended_after : after.counts.is_ended ≡ true → EndedBefore (L after.header) after text (at + n)
   ended_after e =
-      let last = visiting_ends (K s.header) text s.counts after.counts at n g.before s.is_open g.whole g.current line role g.visiting one e in
+      let last = visiting_ends (K s.header) text at n _ after.counts line role g.visiting one e in
       let few = last.ended.few in
       record {
         whole = whole_after role g.whole g.current;
-        kept = visiting_kept (K s.header) (L after.header) text s.counts after.counts at n g.before s.is_open g.whole g.current line role g.visiting one e gave;
+        kept = visiting_kept (K s.header) (L after.header) text at n _ after.counts line role g.visiting one e gave;
         parts = last.parts;
         inside = last.ended.inside;
         some = omega (arith, lines_after);
@@ -127,7 +127,7 @@ module _ (K L : Option Header → List RawParts → Option RawParts → Type 0) 
           before = line ∷ g.before;
           whole = whole_after role g.whole g.current;
           current = open_after role line s.counts.groups s.counts.transactions g.current;
-          visiting = visiting_goes (K s.header) (L after.header) text s.counts after.counts at n g.before s.is_open after.is_open g.whole g.current line role g.visiting one e past.is_open gave;
+          visiting = visiting_goes (K s.header) (L after.header) text at n _ after line role g.visiting one e past.is_open gave;
           no_tail = no_tail;
         };
         ended = ended_after;
@@ -144,7 +144,7 @@ before_header K s text at line read g role_is clear =
     let before = map role_of g.before in
     let none = no_lines before (file_head_is before true (ap (role_fault before) role_is ∙ clear_role g.before line g.visiting.going.goes clear)) in
     let counted = ap (λ (x : FileCounts). x.lines) g.visiting.going.counted in
-    let yet = none_given (K s.header) text s.counts at g.before s.is_open g.whole g.current g.visiting (omega (arith, none, length-map g.before role_of)) in
+    let yet = none_given (K s.header) text at _ g.visiting (omega (arith, none, length-map g.before role_of)) in
     (yet.0, yet.1, rw (yet.0, yet.1, read.headless (omega (arith, counted, none))) at g.visiting.kept)
 
 -- the header's line

@@ -4,7 +4,7 @@ use Rattle.std.specs.Prelude.{IfSome}
 use Rattle.std.specs.Str.Lines.{lines}
 use Rattle.std.proofs.lemmas.List.{append-nil}
 use Rattle.std.proofs.Math.Bool.{and-false}
-use Rattle.cwr_field.specs.Number.{most_count}
+use Rattle.cwr_field.specs.Number.{max_count}
 use Rattle.cwr_record.specs.declared.works.WorkKind.{WorkKind}
 use Rattle.cwr_grammar.specs.declared.role.Role.{Role}
 use Rattle.cwr_grammar.specs.declared.role.Role.TheVariants.{FileHeader, GroupHeader, TransactionHeader, Detail, GroupTrailer, FileTrailer, Unnamed}
@@ -19,20 +19,17 @@ use Rattle.cwr_grammar.proofs.Accepted.{detail_is, head_is, head_named, file_hea
 use Rattle.cwr_grammar.specs.Collected.{details, raws, raws_after}
 use Rattle.cwr_grammar.proofs.Numbers.{HasSmallNumbers, clear_role, small_role}
 use Rattle.cwr_grammar.proofs.OneLineFurther.{IsReadTo, OneLine, going_begins, goes_on, no_trailer, trailer, ends_on}
-use Rattle.cwr_grammar.specs.ReadUpTo.{IsOpen, going_on, IsGiven, Visiting}
+use Rattle.cwr_grammar.specs.ReadUpTo.{Progress, ReaderState, IsOpen, going_on, IsGiven, Visiting}
 
 -- ---- what is open
 
-pub open_begins : (s : FileCounts) → s ≡ counts_of [] → IsOpen s false None
-open_begins s is = rw is (record { open_is = refl; counted = refl; long = tt; few = tt })
-
-small_place : (o : Option ℕ) (n : ℕ) → o ≡ Some n → IfSome o (λ m. m < 10 ^ 8) → n ≤ most_count
+small_place : (o : Option ℕ) (n : ℕ) → o ≡ Some n → IfSome o (λ m. m < 10 ^ 8) → n ≤ max_count
 small_place None n e h = absurd cc
 small_place (Some m) n e h = let same : m ≡ n = cc in omega (arith, same, h)
 
 -- nothing is open after a line that ends all
-nothing : (s : FileCounts) → (s.in_group && s.in_transaction) ≡ false → IsOpen s false None
-nothing s e = record { open_is = refl; counted = sym e; long = tt; few = tt }
+nothing : (s : FileCounts) (p : Progress) → (s.in_group && s.in_transaction) ≡ false → IsOpen (record p { counts = s; is_open = false; current = None })
+nothing s p e = record { open_is = refl; counted = sym e; long = tt; few = tt }
 
 one_line_more : (line : List ℕ) (current : Option RawParts) (n : ℕ) → IfSome current (λ t. length t.lines ≡ n) → IfSome (option_map (with_line line) current) (λ t. length t.lines ≡ n + 1)
 one_line_more line None n h = tt
@@ -47,23 +44,23 @@ some_mapped line None = refl
 some_mapped line (Some t) = refl
 
 -- a line without a fault may be given
-pub may_be_given : (role : Role) (before : List Role) (is_open : Bool) (current : Option RawParts) → role_fault before role ≡ None → HasSmallNumbers role
-    → IsOpen (counts_of before) is_open current → MayBeGiven role is_open current
-may_be_given (Detail j d) before is_open current clear small h =
+may_be_given : (role : Role) (before : List Role) (p : Progress) → role_fault before role ≡ None → HasSmallNumbers role
+    → IsOpen (record p { counts = counts_of before }) → MayBeGiven role p.is_open p.current
+may_be_given (Detail j d) before p clear small h =
     let is = detail_is before j d clear in
     let place = small_place d _ is.5 small in
     record {
       open_is = h.open_is;
       detail = λ e. h.counted ∙ ap (λ (b : Bool). b && in_transaction before) is.0 ∙ is.1;
-      room = λ e. at_most current _ most_count h.long (omega (arith, place));
+      room = λ e. at_most p.current _ max_count h.long (omega (arith, place));
       few = h.few;
     }
-may_be_given (FileHeader valid) before is_open current clear small h = record { open_is = h.open_is; detail = λ e. absurd cc; room = λ e. absurd cc; few = h.few }
-may_be_given (GroupHeader k i) before is_open current clear small h = record { open_is = h.open_is; detail = λ e. absurd cc; room = λ e. absurd cc; few = h.few }
-may_be_given (TransactionHeader k j d) before is_open current clear small h = record { open_is = h.open_is; detail = λ e. absurd cc; room = λ e. absurd cc; few = h.few }
-may_be_given (GroupTrailer i t r) before is_open current clear small h = record { open_is = h.open_is; detail = λ e. absurd cc; room = λ e. absurd cc; few = h.few }
-may_be_given (FileTrailer g t r) before is_open current clear small h = record { open_is = h.open_is; detail = λ e. absurd cc; room = λ e. absurd cc; few = h.few }
-may_be_given Unnamed before is_open current clear small h = record { open_is = h.open_is; detail = λ e. absurd cc; room = λ e. absurd cc; few = h.few }
+may_be_given (FileHeader valid) before p clear small h = record { open_is = h.open_is; detail = λ e. absurd cc; room = λ e. absurd cc; few = h.few }
+may_be_given (GroupHeader k i) before p clear small h = record { open_is = h.open_is; detail = λ e. absurd cc; room = λ e. absurd cc; few = h.few }
+may_be_given (TransactionHeader k j d) before p clear small h = record { open_is = h.open_is; detail = λ e. absurd cc; room = λ e. absurd cc; few = h.few }
+may_be_given (GroupTrailer i t r) before p clear small h = record { open_is = h.open_is; detail = λ e. absurd cc; room = λ e. absurd cc; few = h.few }
+may_be_given (FileTrailer g t r) before p clear small h = record { open_is = h.open_is; detail = λ e. absurd cc; room = λ e. absurd cc; few = h.few }
+may_be_given Unnamed before p clear small h = record { open_is = h.open_is; detail = λ e. absurd cc; room = λ e. absurd cc; few = h.few }
 
 in_no_group : (a b : Bool) → a ≡ false → (a && b) ≡ false
 in_no_group a b e = rw e refl
@@ -73,59 +70,64 @@ no_lines [] e = refl
 no_lines (b ∷ before) e = absurd cc
 
 -- what is open after it
-pub open_goes : (role : Role) (before : List Role) (line : List ℕ) (is_open : Bool) (current : Option RawParts) → role_fault before role ≡ None → HasSmallNumbers role
-    → IsOpen (counts_of before) is_open current → IsOpen (counts_of (role ∷ before)) (leaves_open role) (open_after role line (groups before) (transactions before) current)
-open_goes (Detail j d) before line is_open current clear small h =
+open_goes : (role : Role) (before : List Role) (line : List ℕ) (p q : Progress) → role_fault before role ≡ None → HasSmallNumbers role → IsOpen (record p { counts = counts_of before })
+    → IsOpen (record q { counts = counts_of (role ∷ before); is_open = leaves_open role; current = open_after role line (groups before) (transactions before) p.current })
+open_goes (Detail j d) before line p q clear small h =
     let is = detail_is before j d clear in
     let place = small_place d _ is.5 small in
-    let here : is_open ≡ true = h.counted ∙ ap (λ (b : Bool). b && in_transaction before) is.0 ∙ is.1 in
-    let longer = one_line_more line current _ h.long in
+    let here : p.is_open ≡ true = h.counted ∙ ap (λ (b : Bool). b && in_transaction before) is.0 ∙ is.1 in
+    let longer = one_line_more line p.current _ h.long in
     record {
-      open_is = some_mapped line current ∙ h.open_is ∙ here;
+      open_is = some_mapped line p.current ∙ h.open_is ∙ here;
       counted = sym (ap (λ (b : Bool). b && in_transaction before) is.0 ∙ is.1);
-      long = subst (λ (n : ℕ). IfSome (option_map (with_line line) current) (λ t. length t.lines ≡ n)) (omega arith) longer;
-      few = at_most (option_map (with_line line) current) _ (most_count + 1) longer (omega (arith, place));
+      long = subst (λ (n : ℕ). IfSome (option_map (with_line line) p.current) (λ t. length t.lines ≡ n)) (omega arith) longer;
+      few = at_most (option_map (with_line line) p.current) _ (max_count + 1) longer (omega (arith, place));
     }
-open_goes (TransactionHeader (Some k) j d) before line is_open current clear small h =
+open_goes (TransactionHeader (Some k) j d) before line p q clear small h =
     let is = head_is before (Some k) j d clear in
     record { open_is = refl; counted = sym (ap (λ (b : Bool). b && true) is.0); long = refl; few = omega arith }
-open_goes (TransactionHeader None j d) before line is_open current clear small h = absurd (head_named before j d clear)
-open_goes (FileHeader valid) before line is_open current clear small h = nothing _ (in_no_group (in_group before) (in_transaction before) (no_lines before (file_head_is before valid clear)))
-open_goes (GroupHeader k i) before line is_open current clear small h = nothing _ refl
-open_goes (GroupTrailer i t r) before line is_open current clear small h = nothing _ (in_no_group _ (in_transaction before) (and-false _))
-open_goes (FileTrailer g t r) before line is_open current clear small h = nothing _ (in_no_group (in_group before) (in_transaction before) (file_end_is before g t r clear).0)
-open_goes Unnamed before line is_open current clear small h = absurd (unnamed_is before clear)
+open_goes (TransactionHeader None j d) before line p q clear small h = absurd (head_named before j d clear)
+open_goes (FileHeader valid) before line p q clear small h = nothing _ q (in_no_group (in_group before) (in_transaction before) (no_lines before (file_head_is before valid clear)))
+open_goes (GroupHeader k i) before line p q clear small h = nothing _ q refl
+open_goes (GroupTrailer i t r) before line p q clear small h = nothing _ q (in_no_group _ (in_transaction before) (and-false _))
+open_goes (FileTrailer g t r) before line p q clear small h = nothing _ q (in_no_group (in_group before) (in_transaction before) (file_end_is before g t r clear).0)
+open_goes Unnamed before line p q clear small h = absurd (unnamed_is before clear)
 
 -- ---- what was found
+
+-- IsGiven for parts that no Progress holds together: the whole transactions, the open one, and the numbers of groups
+-- and of transactions
+abbrev AreAll : List RawParts → List RawParts → Option RawParts → (g t : ℕ) → List (List ℕ) → Type 0
+AreAll all whole current g t rest = whole ++ going_on current rest ++ raws rest g t ≡ all
 
 ends : (whole : List RawParts) (current : Option RawParts) (line : List ℕ) (rest : List (List ℕ)) → is_detail (role_of line) ≡ false → whole ++ going_on current (line ∷ rest) ≡ closed whole current
 ends whole None line rest e = append-nil whole
 ends whole (Some t) line rest e = rw (e, append-nil t.lines) refl
 
 -- after a line that ends the open transaction
-ended : (all whole : List RawParts) (current : Option RawParts) (g t : ℕ) (line : List ℕ) (rest : List (List ℕ)) → is_detail (role_of line) ≡ false → IsGiven all whole current g t (line ∷ rest)
+ended : (all whole : List RawParts) (current : Option RawParts) (g t : ℕ) (line : List ℕ) (rest : List (List ℕ)) → is_detail (role_of line) ≡ false → AreAll all whole current g t (line ∷ rest)
     → closed whole current ++ raws_after (role_of line) line (details rest) (raws rest) g t ≡ all
 ended all whole current g t line rest e h = ap (λ (xs : List RawParts). xs ++ raws (line ∷ rest) g t) (sym (ends whole current line rest e)) ∙ h
 
 between : (all whole : List RawParts) (current : Option RawParts) (g t g' t' : ℕ) (line : List ℕ) (rest : List (List ℕ)) → is_detail (role_of line) ≡ false
-    → raws_after (role_of line) line (details rest) (raws rest) g t ≡ raws rest g' t' → IsGiven all whole current g t (line ∷ rest) → IsGiven all (closed whole current) None g' t' rest
+    → raws_after (role_of line) line (details rest) (raws rest) g t ≡ raws rest g' t' → AreAll all whole current g t (line ∷ rest) → AreAll all (closed whole current) None g' t' rest
 between all whole current g t g' t' line rest e more h =
     ap (λ (xs : List RawParts). xs ++ raws rest g' t') (append-nil (closed whole current)) ∙ ap (λ (xs : List RawParts). closed whole current ++ xs) (sym more) ∙ ended all whole current g t line rest e h
 
 goes : (all whole : List RawParts) (current : Option RawParts) (g t : ℕ) (line : List ℕ) (rest : List (List ℕ)) → is_detail (role_of line) ≡ true
-    → raws_after (role_of line) line (details rest) (raws rest) g t ≡ raws rest g t → IsGiven all whole current g t (line ∷ rest) → IsGiven all whole (option_map (with_line line) current) g t rest
+    → raws_after (role_of line) line (details rest) (raws rest) g t ≡ raws rest g t → AreAll all whole current g t (line ∷ rest) → AreAll all whole (option_map (with_line line) current) g t rest
 goes all whole None g t line rest e more h = ap (λ (xs : List RawParts). whole ++ [] ++ xs) (sym more) ∙ h
 goes all whole (Some r) g t line rest e more h =
     let longer : r.lines ++ details (line ∷ rest) ≡ (r.lines ++ line ∷ []) ++ details rest = rw e (sym (append_assoc r.lines (line ∷ []) (details rest))) in
     ap (λ (xs : List (List ℕ)). whole ++ record r { lines = xs } ∷ [] ++ raws rest g t) (sym longer)
     ∙ ap (λ (xs : List RawParts). whole ++ record r { lines = r.lines ++ details (line ∷ rest) } ∷ [] ++ xs) (sym more) ∙ h
 
-given_at : (all whole : List RawParts) (current : Option RawParts) (g t g' t' : ℕ) (rest : List (List ℕ)) → g ≡ g' → t ≡ t' → IsGiven all whole current g t rest → IsGiven all whole current g' t' rest
+given_at : (all whole : List RawParts) (current : Option RawParts) (g t g' t' : ℕ) (rest : List (List ℕ)) → g ≡ g' → t ≡ t' → AreAll all whole current g t rest → AreAll all whole current g' t' rest
 given_at all whole current g t g' t' rest p q h = rw (← p, ← q) h
 
-pub given_goes : (kind : Role) (before : List Role) (all whole : List RawParts) (current : Option RawParts) (line : List ℕ) (rest : List (List ℕ)) → role_of line ≡ kind → is_file_trailer kind ≡ false
-    → IsGiven all whole current (groups before) (transactions before) (line ∷ rest)
-    → IsGiven all (whole_after kind whole current) (open_after kind line (groups before) (transactions before) current) (groups (kind ∷ before)) (transactions (kind ∷ before)) rest
+given_goes : (kind : Role) (before : List Role) (all whole : List RawParts) (current : Option RawParts) (line : List ℕ) (rest : List (List ℕ)) → role_of line ≡ kind → is_file_trailer kind ≡ false
+    → AreAll all whole current (groups before) (transactions before) (line ∷ rest)
+    → AreAll all (whole_after kind whole current) (open_after kind line (groups before) (transactions before) current) (groups (kind ∷ before)) (transactions (kind ∷ before)) rest
 given_goes (FileHeader valid) before all whole current line rest p e h = between all whole current (groups before) (transactions before) (groups before) (transactions before) line rest (ap is_detail p) (rw p refl) h
 given_goes Unnamed before all whole current line rest p e h = between all whole current (groups before) (transactions before) (groups before) (transactions before) line rest (ap is_detail p) (rw p refl) h
 given_goes (GroupTrailer i t r) before all whole current line rest p e h = between all whole current (groups before) (transactions before) (groups before) (transactions before) line rest (ap is_detail p) (rw p refl) h
@@ -144,8 +146,8 @@ given_goes (Detail j d) before all whole current line rest p e h = goes all whol
 given_goes (FileTrailer g t r) before all whole current line rest p e h = absurd cc
 
 -- all of them, once the file ended
-pub given_whole : (kind : Role) (all whole : List RawParts) (current : Option RawParts) (g t : ℕ) (line : List ℕ) (rest : List (List ℕ)) → role_of line ≡ kind → is_file_trailer kind ≡ true
-    → IsGiven all whole current g t (line ∷ rest) → whole_after kind whole current ≡ all
+given_whole : (kind : Role) (all whole : List RawParts) (current : Option RawParts) (g t : ℕ) (line : List ℕ) (rest : List (List ℕ)) → role_of line ≡ kind → is_file_trailer kind ≡ true
+    → AreAll all whole current g t (line ∷ rest) → whole_after kind whole current ≡ all
 given_whole (FileTrailer a b c) all whole current g t line rest p e h =
     let none : raws_after (role_of line) line (details rest) (raws rest) g t ≡ [] = rw p refl in
     sym (append-nil (closed whole current)) ∙ ap (λ (xs : List RawParts). closed whole current ++ xs) (sym none) ∙ ended all whole current g t line rest (ap is_detail p) h
@@ -161,11 +163,11 @@ given_whole (Detail j d) all whole current g t line rest p e h = absurd cc
 abbrev pub Kept : (List RawParts → Option RawParts → Type 0) → Role → Bool → Type 0
 Kept K role is_open = (whole : List RawParts) × (current : Option RawParts) × K whole current × MayBeGiven role is_open current × (length whole < 2 ^ 63)
 
-pub kept_detail : (K : List RawParts → Option RawParts → Type 0) (role : Role) (is_open : Bool) → Kept K role is_open → is_detail role ≡ true → (whole : List RawParts) × (t : RawParts) × K whole (Some t) × (length t.lines ≤ most_count)
+pub kept_detail : (K : List RawParts → Option RawParts → Type 0) (role : Role) (is_open : Bool) → Kept K role is_open → is_detail role ≡ true → (whole : List RawParts) × (t : RawParts) × K whole (Some t) × (length t.lines ≤ max_count)
 kept_detail K role is_open (whole, Some t, kept, may, few) e = (whole, t, kept, may.room e)
 kept_detail K role is_open (whole, None, kept, may, few) e = absurd (let h : false ≡ true = may.open_is ∙ may.detail e in cc)
 
-pub kept_open : (K : List RawParts → Option RawParts → Type 0) (role : Role) (is_open : Bool) → Kept K role is_open → is_open ≡ true → (whole : List RawParts) × (t : RawParts) × K whole (Some t) × (length t.lines ≤ most_count + 1) × (length whole < 2 ^ 63)
+pub kept_open : (K : List RawParts → Option RawParts → Type 0) (role : Role) (is_open : Bool) → Kept K role is_open → is_open ≡ true → (whole : List RawParts) × (t : RawParts) × K whole (Some t) × (length t.lines ≤ max_count + 1) × (length whole < 2 ^ 63)
 kept_open K role is_open (whole, Some t, kept, may, few) e = (whole, t, kept, may.few, few)
 kept_open K role is_open (whole, None, kept, may, few) e = absurd (let h : false ≡ true = may.open_is ∙ e in cc)
 
@@ -203,55 +205,67 @@ whole_few Unnamed whole current n le = closed_few whole current n le
 
 -- ---- all that holds before a line
 
-pub visiting_begins : (K : List RawParts → Option RawParts → Type 0) (text : List ℕ) (s : FileCounts) → s ≡ counts_of [] → K [] None → Visiting K text s 0 [] false [] None
-visiting_begins K text s is kept = record {
-  going = going_begins text s is;
-  kept = kept;
-  is = open_begins s is;
-  few = omega arith;
-  given = rw is refl;
-}
+-- before the first line
+abbrev nothing_read : Progress
+nothing_read = record { counts = counts_of []; before = []; is_open = false; whole = []; current = None }
+
+pub visiting_begins : (K : List RawParts → Option RawParts → Type 0) (text : List ℕ) → K [] None → Visiting K text 0 nothing_read
+visiting_begins K text kept = record { going = going_begins text (counts_of []) refl; kept = kept; is = nothing (counts_of []) nothing_read refl; few = omega arith; given = refl }
 
 -- a line without a fault may be given
-pub visiting_gives : (K : List RawParts → Option RawParts → Type 0) (text : List ℕ) (s : FileCounts) (at : ℕ) (before : List (List ℕ)) (is_open : Bool) (whole : List RawParts) (current : Option RawParts) (line : List ℕ) (role : Role)
-    → Visiting K text s at before is_open whole current → role ≡ role_of line → None ≡ line_fault before line → at < 2 ^ 63 → Kept K role is_open
-visiting_gives K text s at before is_open whole current line role v read clear small =
-    let none = ap (role_fault (map role_of before)) read ∙ clear_role before line v.going.goes clear in
-    let is = subst (λ (x : FileCounts). IsOpen x is_open current) v.going.counted v.is in
-    (whole, current, v.kept, may_be_given role (map role_of before) is_open current none (small_role line role (sym read)) is, omega (arith, v.few, v.going.few, small))
+pub visiting_gives : (K : List RawParts → Option RawParts → Type 0) (text : List ℕ) (at : ℕ) (p : Progress) (line : List ℕ) (role : Role)
+    → Visiting K text at p → role ≡ role_of line → None ≡ line_fault p.before line → at < 2 ^ 63 → Kept K role p.is_open
+visiting_gives K text at p line role v read clear small =
+    let none = ap (role_fault (map role_of p.before)) read ∙ clear_role p.before line v.going.goes clear in
+    let is = subst (λ (x : FileCounts). IsOpen (record p { counts = x })) v.going.counted v.is in
+    (p.whole, p.current, v.kept, may_be_given role (map role_of p.before) p none (small_role line role (sym read)) is, omega (arith, v.few, v.going.few, small))
+
+-- what was read with one line more, which has this role
+abbrev further : Progress → Role → List ℕ → ReaderState → Progress
+further p role line next = record {
+  counts = next.counts;
+  before = line ∷ p.before;
+  is_open = next.is_open;
+  whole = whole_after role p.whole p.current;
+  current = open_after role line p.counts.groups p.counts.transactions p.current;
+}
 
 -- and then all holds before the next line
-pub visiting_goes : (K L : List RawParts → Option RawParts → Type 0) (text : List ℕ) (s next : FileCounts) (at n : ℕ) (before : List (List ℕ)) (is_open is_next : Bool) (whole : List RawParts) (current : Option RawParts) (line : List ℕ) (role : Role)
-    → Visiting K text s at before is_open whole current → OneLine text before at n line role next → next.is_ended ≡ false → is_next ≡ leaves_open role
-    → L (whole_after role whole current) (open_after role line s.groups s.transactions current)
-    → Visiting L text next (at + n) (line ∷ before) is_next (whole_after role whole current) (open_after role line s.groups s.transactions current)
-visiting_goes K L text s next at n before is_open is_next whole current line role v one goes next_is gave =
-    let more = no_trailer text s next at n before line role v.going one goes in
-    let none = ap (role_fault (map role_of before)) one.read ∙ clear_role before line v.going.goes one.clear in
-    let is = subst (λ (x : FileCounts). IsOpen x is_open current) v.going.counted v.is in
-    let P : FileCounts → Type 0 = λ x. IsOpen x is_next (open_after role line s.groups s.transactions current) in
-    let Q : FileCounts → Type 0 = λ x. IsOpen (counts_of (role ∷ map role_of before)) (leaves_open role) (open_after role line x.groups x.transactions current) in
-    let opened = subst Q (sym v.going.counted) (open_goes role (map role_of before) line is_open current none (small_role line role (sym one.read)) is) in
-    let given = subst (λ (ls : List (List ℕ)). IsGiven (raws (lines text) 0 0) whole current s.groups s.transactions ls) one.split v.given in
-    let R : FileCounts → Type 0 = λ x. IsGiven (raws (lines text) 0 0) whole current x.groups x.transactions (line ∷ lines (drop (at + n) text)) in
-    let S : FileCounts → Type 0 = λ x. IsGiven (raws (lines text) 0 0) (whole_after role whole current) (open_after role line x.groups x.transactions current) (counts_of (role ∷ map role_of before)).groups (counts_of (role ∷ map role_of before)).transactions (lines (drop (at + n) text)) in
-    let T : FileCounts → Type 0 = λ x. IsGiven (raws (lines text) 0 0) (whole_after role whole current) (open_after role line s.groups s.transactions current) x.groups x.transactions (lines (drop (at + n) text)) in
+pub visiting_goes : (K L : List RawParts → Option RawParts → Type 0) (text : List ℕ) (at n : ℕ) (p : Progress) (next : ReaderState) (line : List ℕ) (role : Role)
+    → Visiting K text at p → OneLine text p.before at n line role next.counts → next.counts.is_ended ≡ false → next.is_open ≡ leaves_open role
+    → L (whole_after role p.whole p.current) (open_after role line p.counts.groups p.counts.transactions p.current) → Visiting L text (at + n) (further p role line next)
+visiting_goes K L text at n p next line role v one goes next_is gave =
+    let roles = map role_of p.before in
+    let all = raws (lines text) 0 0 in
+    let rest = lines (drop (at + n) text) in
+    let q : Progress = further p role line next in
+    let more = no_trailer text p.counts next.counts at n p.before line role v.going one goes in
+    let none = ap (role_fault roles) one.read ∙ clear_role p.before line v.going.goes one.clear in
+    let is = subst (λ (x : FileCounts). IsOpen (record p { counts = x })) v.going.counted v.is in
+    let P : FileCounts → Type 0 = λ x. IsOpen (record q { counts = x }) in
+    let Q : FileCounts → Type 0 = λ x. IsOpen (record q { counts = counts_of (role ∷ roles); is_open = leaves_open role; current = open_after role line x.groups x.transactions p.current }) in
+    let opened = subst Q (sym v.going.counted) (open_goes role roles line p q none (small_role line role (sym one.read)) is) in
+    let given = subst (IsGiven all p) one.split v.given in
+    let R : FileCounts → Type 0 = λ x. IsGiven all (record p { counts = x }) (line ∷ rest) in
+    let S : FileCounts → Type 0 = λ x. IsGiven all (record q { counts = counts_of (role ∷ roles); current = open_after role line x.groups x.transactions p.current }) rest in
+    let T : FileCounts → Type 0 = λ x. IsGiven all (record q { counts = x }) rest in
     record {
-      going = goes_on text s next at n before line role v.going one goes;
+      going = goes_on text p.counts next.counts at n p.before line role v.going one goes;
       kept = gave;
       is = subst P (sym one.counted) (rw next_is opened);
-      few = omega (arith, whole_few role whole current _ v.few);
-      given = subst T (sym one.counted) (subst S (sym v.going.counted) (given_goes role (map role_of before) (raws (lines text) 0 0) whole current line (lines (drop (at + n) text)) (sym one.read) more (subst R v.going.counted given)));
+      few = omega (arith, whole_few role p.whole p.current _ v.few);
+      given = subst T (sym one.counted) (subst S (sym v.going.counted) (given_goes role roles all p.whole p.current line rest (sym one.read) more (subst R v.going.counted given)));
     }
 
 -- the file ended
-pub visiting_ends : (K : List RawParts → Option RawParts → Type 0) (text : List ℕ) (s next : FileCounts) (at n : ℕ) (before : List (List ℕ)) (is_open : Bool) (whole : List RawParts) (current : Option RawParts) (line : List ℕ) (role : Role)
-    → Visiting K text s at before is_open whole current → OneLine text before at n line role next → next.is_ended ≡ true
-    → IsReadTo text (whole_after role whole current) next (at + n)
-visiting_ends K text s next at n before is_open whole current line role v one ended =
-    let last = trailer text s next at n before line role v.going one ended in
-    let given = subst (λ (ls : List (List ℕ)). IsGiven (raws (lines text) 0 0) whole current s.groups s.transactions ls) one.split v.given in
-    ends_on text (whole_after role whole current) s next at n before line role v.going one (given_whole role (raws (lines text) 0 0) whole current s.groups s.transactions line (lines (drop (at + n) text)) (sym one.read) last given) ended
+pub visiting_ends : (K : List RawParts → Option RawParts → Type 0) (text : List ℕ) (at n : ℕ) (p : Progress) (next : FileCounts) (line : List ℕ) (role : Role)
+    → Visiting K text at p → OneLine text p.before at n line role next → next.is_ended ≡ true → IsReadTo text (whole_after role p.whole p.current) next (at + n)
+visiting_ends K text at n p next line role v one ended =
+    let all = raws (lines text) 0 0 in
+    let rest = lines (drop (at + n) text) in
+    let last = trailer text p.counts next at n p.before line role v.going one ended in
+    let given = subst (IsGiven all p) one.split v.given in
+    ends_on text (whole_after role p.whole p.current) p.counts next at n p.before line role v.going one (given_whole role all p.whole p.current p.counts.groups p.counts.transactions line rest (sym one.read) last given) ended
 
 -- after TRL nothing is open
 pub none_after : (role : Role) (line : List ℕ) (g t : ℕ) (current : Option RawParts) → is_file_trailer role ≡ true → open_after role line g t current ≡ None
@@ -263,17 +277,21 @@ none_after (GroupHeader kind i) line g t current e = absurd cc
 none_after (TransactionHeader k j d) line g t current e = absurd cc
 none_after (Detail j d) line g t current e = absurd cc
 
-pub visiting_kept : (K L : List RawParts → Option RawParts → Type 0) (text : List ℕ) (s next : FileCounts) (at n : ℕ) (before : List (List ℕ)) (is_open : Bool) (whole : List RawParts) (current : Option RawParts) (line : List ℕ) (role : Role)
-    → Visiting K text s at before is_open whole current → OneLine text before at n line role next → next.is_ended ≡ true
-    → L (whole_after role whole current) (open_after role line s.groups s.transactions current) → L (whole_after role whole current) None
-visiting_kept K L text s next at n before is_open whole current line role v one ended gave =
-    subst (L (whole_after role whole current)) (none_after role line s.groups s.transactions current (trailer text s next at n before line role v.going one ended)) gave
+pub visiting_kept : (K L : List RawParts → Option RawParts → Type 0) (text : List ℕ) (at n : ℕ) (p : Progress) (next : FileCounts) (line : List ℕ) (role : Role)
+    → Visiting K text at p → OneLine text p.before at n line role next → next.is_ended ≡ true
+    → L (whole_after role p.whole p.current) (open_after role line p.counts.groups p.counts.transactions p.current) → L (whole_after role p.whole p.current) None
+visiting_kept K L text at n p next line role v one ended gave =
+    subst (L (whole_after role p.whole p.current))
+    (none_after role line p.counts.groups p.counts.transactions p.current (trailer text p.counts next at n p.before line role v.going one ended)) gave
+
+nothing_before : (before : List (List ℕ)) (whole : List RawParts) (current : Option RawParts) → length before ≡ 0 → length whole ≤ length before
+    → is_some current ≡ (in_group (map role_of before) && in_transaction (map role_of before)) → (whole ≡ []) × (current ≡ None)
+nothing_before (b ∷ before) whole current none few is = absurd (omega (arith, none))
+nothing_before [] (t ∷ whole) current none few is = absurd (omega (arith, few))
+nothing_before [] [] None none few is = (refl, refl)
+nothing_before [] [] (Some t) none few is = absurd cc
 
 -- before the first line nothing was given
-pub none_given : (K : List RawParts → Option RawParts → Type 0) (text : List ℕ) (s : FileCounts) (at : ℕ) (before : List (List ℕ)) (is_open : Bool) (whole : List RawParts) (current : Option RawParts)
-    → Visiting K text s at before is_open whole current → length before ≡ 0 → (whole ≡ []) × (current ≡ None)
-none_given K text s at (b ∷ before) is_open whole current v none = absurd (omega (arith, none))
-none_given K text s at [] is_open (t ∷ whole) current v none = absurd (let few = v.few in omega (arith, few))
-none_given K text s at [] is_open [] None v none = (refl, refl)
-none_given K text s at [] is_open [] (Some t) v none =
-    absurd (let never : true ≡ false = v.is.open_is ∙ v.is.counted ∙ ap (λ (x : FileCounts). x.in_group && x.in_transaction) v.going.counted in cc)
+pub none_given : (K : List RawParts → Option RawParts → Type 0) (text : List ℕ) (at : ℕ) (p : Progress) → Visiting K text at p → length p.before ≡ 0 → (p.whole ≡ []) × (p.current ≡ None)
+none_given K text at p v none =
+    nothing_before p.before p.whole p.current none v.few (v.is.open_is ∙ v.is.counted ∙ ap (λ (x : FileCounts). x.in_group && x.in_transaction) v.going.counted)

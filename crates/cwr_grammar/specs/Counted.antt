@@ -1,4 +1,4 @@
--- What is counted while a file is read, and what the lines before make of it.
+-- What is counted while a file is read, and its values after given lines.
 use Rattle.std.specs.Prelude.{◌<◌, ◌≤◌, ◌^◌, List, length}
 use Rattle.cwr_grammar.specs.declared.role.Role.{Role}
 use Rattle.cwr_grammar.specs.declared.role.Role.TheVariants.{TransactionHeader}
@@ -20,16 +20,18 @@ counts_of before = record {
   details = length (transaction_lines before);
 }
 
--- no count passes the number of lines, and that is less than the greatest length of a text
+-- no count is above the number of lines, which is below 2 ^ 63
 pub record AreSmall (s : FileCounts) : Type 0 where
   pub lines : s.lines < 2 ^ 63
   pub groups : s.groups ≤ s.lines
   pub group_lines : s.group_lines ≤ s.lines
   pub details : s.details ≤ s.lines
   pub transactions : s.transactions ≤ s.lines
+  -- the transactions of the file
   pub all : s.all_transactions ≤ s.lines
 
--- where a transaction begins, its group's number has five digits at most, and its own eight
+-- where the line begins a transaction, the number of groups has at most five digits, and that of the transactions
+-- before it in the group at most eight
 abbrev pub FitsHeader : Role → FileCounts → Type 0
 FitsHeader (TransactionHeader kind transaction place) s = (s.groups < 10 ^ 5) × (s.transactions < 10 ^ 8)
 FitsHeader _ s = Unit {0}

@@ -9,7 +9,7 @@ use crate::file_counts::FileCounts;
 use crate::role::Role;
 use cwr_field::is_printable;
 
-/// The bytes that a line may have at most, up to the end of the file.
+/// The greatest number of bytes of a line, up to the end of the file.
 pub(crate) const LONGEST_LINE: usize = 4096;
 
 /// The least fault of the next line, where the file did not end before it.

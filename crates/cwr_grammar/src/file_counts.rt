@@ -8,7 +8,7 @@ ghost use Rattle.cwr_grammar.specs.Roles.{role_of};
 use crate::role::{Role, role_at};
 use cwr_record::{WorkKind, type_of};
 
-/// What is counted while a file is read: what the lines up to one of them say, by their roles.
+/// What is counted while a file is read: what the lines so far say, by their roles.
 #[derive(Clone, Copy)]
 pub struct FileCounts {
     /// How many lines were read.
@@ -60,7 +60,7 @@ impl FileCounts {
         self.add(&role_at(type_of(line), line));
     }
 
-    /// Counts a line that has no fault, and begins and ends nothing.
+    /// Counts a line that has no fault, and that begins and ends nothing.
     #[inline(always)]
     pub(crate) fn add_line(&mut self)
         requires small { AreSmall self.old }
@@ -100,7 +100,7 @@ impl FileCounts {
         }
     }
 
-    /// The least fault that the role of the next line shows.
+    /// The least fault that the role of the next line has.
     #[inline(always)]
     pub(crate) fn fault(&self, role: &Role) -> Option<u8>
         requires small { AreSmall self.now }

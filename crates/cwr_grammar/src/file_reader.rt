@@ -29,10 +29,11 @@ use cwr_record::{Header, RecordType, WorkKind, read_header, type_of};
 use std::alloc::Allocator;
 use std::marker::Model;
 
-/// Reads a file whose bytes come a piece at a time, and gives its header and its transactions to a visitor on its way.
+/// Reads a file whose bytes come a chunk at a time, and gives its header and its transactions to a visitor as it comes
+/// to them.
 ///
-/// It keeps no byte of the file but its header. A file that comes as one piece is read by
-/// [`visit_file`](crate::visit_file). After an error it tells nothing any more.
+/// It keeps no byte of the file but its header. A file that comes as one text is read by
+/// [`visit_file`](crate::visit_file). After an error it is of no further use.
 #[derive(Drop)]
 pub struct FileReader {
     counts: FileCounts,
@@ -72,8 +73,8 @@ impl FileReader {
         }
     }
 
-    /// Goes past the lines that some bytes begin with, up to the last LF, and answers how many bytes these are. What is
-    /// behind them is part of a line: it is to come again, at the front of the next bytes.
+    /// Consumes the complete lines at the front of the bytes, up to the last LF, and returns how many bytes these are.
+    /// The bytes behind them are part of a line: they must come again, at the front of the next bytes.
     ///
     /// A fault is the file's first, whatever follows. No memory is asked for but by the visitor.
     pub fn take_lines<V: Visitor>(
@@ -104,10 +105,11 @@ impl FileReader {
         Ok(at)
     }
 
-    /// Goes past the last bytes of the file, and answers its envelope.
+    /// Consumes the last bytes of the file, and returns its envelope.
     ///
-    /// A well-formed file has given the visitor its header and all its transactions, in order. Of any other the first
-    /// fault is answered: what the visitor was given by then is of no file. No memory is asked for but by the visitor.
+    /// The visitor was then given the header and all transactions of a well-formed file, in order. Of any other file
+    /// the first fault is returned, and what the visitor was given belongs to no file. No memory is asked for but by
+    /// the visitor.
     pub fn finish<V: Visitor>(
         mut self,
         visitor: &mut V,
@@ -128,7 +130,7 @@ impl FileReader {
         self.envelope()
     }
 
-    /// The envelope of a file, of which no line is left, unless it lacks its end.
+    /// The envelope of a file of which no line is left. It is a fault where the file lacks its end.
     pub(crate) fn envelope(self) -> Result<Envelope, FileRefusal>
         requires few { self.counts.lines < 2 ^ 63 }
         requires ended { self.counts.is_ended ≡ true → (self.counts.groups < 10 ^ 5) × (self.counts.lines < 10 ^ 8) × (self.header ≡ None → ⊥) }
@@ -156,7 +158,7 @@ impl FileReader {
         })
     }
 
-    /// Goes past the next line.
+    /// Consumes the next line.
     #[inline(always)]
     fn take_line<V: Visitor>(
         &mut self,
@@ -182,7 +184,7 @@ impl FileReader {
         self.take_other(visitor, line, is_clean)
     }
 
-    /// Goes past the next detail of the open transaction, which so has no fault.
+    /// Consumes the next detail of the open transaction, which therefore has no fault.
     #[inline(always)]
     fn take_detail<V: Visitor>(
         &mut self,
@@ -204,7 +206,7 @@ impl FileReader {
         Ok(())
     }
 
-    /// Goes past the next detail of the open transaction.
+    /// Consumes the next detail of the open transaction: counts it, without a visitor.
     #[inline(always)]
     fn pass_detail(&mut self)
         requires opened { self.old.is_open ≡ true }
@@ -215,7 +217,8 @@ impl FileReader {
         self.counts.add_line();
     }
 
-    /// Goes past the header of the transaction that comes next in the group of the open one, which so has no fault.
+    /// Consumes the header of the transaction that comes next in the group of the open one, which therefore has no
+    /// fault.
     #[inline(never)]
     fn take_header<V: Visitor>(
         &mut self,
@@ -238,7 +241,7 @@ impl FileReader {
         self.take_clear(visitor, line, record_type, role)
     }
 
-    /// Goes past the next line, whatever it is.
+    /// Consumes the next line, whatever it is.
     #[inline(never)]
     fn take_other<V: Visitor>(
         &mut self,
@@ -264,7 +267,7 @@ impl FileReader {
         self.take_clear(visitor, line, record_type, role)
     }
 
-    /// Goes past the file's header, which has no fault, and so is its first line.
+    /// Consumes the file's header, which has no fault, and therefore is its first line.
     fn take_file_header<V: Visitor>(&mut self, visitor: &mut V, line: &[u8])
         requires goes { self.old.counts.is_ended ≡ false }
         requires role { role_of line.now ≡ FileHeader true }
@@ -279,7 +282,7 @@ impl FileReader {
         visitor.header(header);
     }
 
-    /// Goes past the next line, of this role, which has no fault and is not the file's header.
+    /// Consumes the next line, of this role, which has no fault and is not the file's header.
     #[inline(always)]
     fn take_clear<V: Visitor>(
         &mut self,
@@ -309,7 +312,13 @@ impl FileReader {
         Ok(())
     }
 
-    /// Goes past the next line, and takes the place of the transaction that it ends. Answers the one that is open then.
+    /// Consumes the next line, and appends the span of the transaction that it ends. Returns the transaction that is
+    /// open then.
+    ///
+    /// - `spans` are the spans of the transactions that have ended.
+    /// - `current` is the open transaction, or `None`.
+    /// - `at` is the index of the line's first byte in the file, counted from 0.
+    /// - `line` is the line.
     pub(crate) fn place_line<A: Allocator>(
         &mut self,
         spans: &mut Vec<Span, A>,
@@ -337,7 +346,7 @@ impl FileReader {
         Ok(next)
     }
 
-    /// Whether the next line is the next detail of the open transaction, which so has no fault.
+    /// Whether the next line is the next detail of the open transaction, which therefore has no fault.
     #[inline(always)]
     fn is_next_detail(&self, line: &FirstLine<'_>) -> bool
         requires clean { line.now.is_clean ≡ true → has_control line.now.bytes.now ≡ false }
@@ -351,7 +360,7 @@ impl FileReader {
                 .is_next(&self.counts, type_of(line.bytes), line.bytes)
     }
 
-    /// The role of the next line before the file's end, which so has no fault.
+    /// The role of the next line, which comes before the file's end; or its fault.
     #[inline(always)]
     fn clear_role(
         &self,
@@ -377,7 +386,7 @@ impl FileReader {
         Ok(role)
     }
 
-    /// Goes past a line of this role, which has no fault.
+    /// Consumes a line of this role, which has no fault.
     #[inline(always)]
     fn pass(&mut self, line: &[u8], role: &Role)
         requires role { role.now ≡ role_of line.now }
@@ -391,7 +400,7 @@ impl FileReader {
         self.is_open = leaves_open(role);
     }
 
-    /// Goes past a line that follows the file's end.
+    /// Consumes a line that follows the file's end.
     fn take_tail(&mut self, line: &[u8]) -> Result<(), FileRefusal>
         requires few { self.old.counts.lines + self.old.tail < 2 ^ 63 }
         ensures taken { OnOk result (is_tail line.now ≡ true) }
@@ -409,8 +418,8 @@ impl FileReader {
     }
 }
 
-/// Whether a line has no fault of its own, and the columns that tell the next detail and the next header: where they are
-/// all there, no test of each is made.
+/// Whether a line has no fault of its own, and is long enough for record type and sequence numbers. Then these columns
+/// are read without a test of each.
 #[inline(always)]
 fn is_plain(line: &[u8], is_clean: bool) -> bool
     requires { is_clean ≡ true → has_control line.now ≡ false }
@@ -419,7 +428,7 @@ fn is_plain(line: &[u8], is_clean: bool) -> bool
     is_clean && line.len() >= PREFIX_SIZE && line.len() <= LONGEST_LINE
 }
 
-/// Keeps the header, where a line is one.
+/// Keeps the file's header, where a line is one.
 #[inline(always)]
 fn keep_header(head: &mut Option<Header>, role: &Role, line: &[u8])
     requires read { role.now ≡ role_of line.now }

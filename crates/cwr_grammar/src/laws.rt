@@ -27,8 +27,8 @@ ghost use Rattle.cwr_grammar.specs.FirstFault.{first_fault};
 ghost use Rattle.cwr_record.specs.Kinds.{work_kind_named};
 ghost use Rattle.cwr_grammar.specs.Roles.{role_of};
 
-/// One fault or one reading, never both: lines have a first fault, or stand for exactly one file, which has a header
-/// line and groups, and then there is no fault at all.
+/// One fault or one reading, never both. Lines that stand for a file stand for exactly one, which has a header line and
+/// groups, and then there is no fault at all. All other lines have a first fault.
 pub fn one_fault_or_one_reading()
     ensures some { (text : List (List ℕ)) → ((line : ℕ) × (number : ℕ) × IsLeastFault text line number) ⊎ ((f : File) × IsFile text f) }
     ensures one_fault { (text : List (List ℕ)) (k n j m : ℕ) → IsLeastFault text k n → IsLeastFault text j m → (k ≡ j) × (n ≡ m) }
@@ -41,7 +41,7 @@ pub fn first_fault_is_least()
     ensures { (text : List (List ℕ)) (line number : ℕ) → first_fault text ≡ Some (line, number) → IsLeastFault text line number }
 {}
 
-/// The role of a line that stands for a control record tells the group id and the counts of that record; a file header's
+/// The role of a line that stands for a control record has the group id and the counts of that record. A file header's
 /// dates and time are valid.
 pub fn control_records_are_read()
     ensures header { (line : List ℕ) (x : Header) → StandsFor control.header line x → role_of line ≡ role.FileHeader true }
@@ -50,8 +50,8 @@ pub fn control_records_are_read()
     ensures file_trailer { (line : List ℕ) (x : FileTrailer) → StandsFor control.file_trailer line x → role_of line ≡ role.FileTrailer (Some x.groups) (Some x.transactions) (Some x.records) }
 {}
 
-/// The role of a line that stands for a record of a registration tells the transaction and the record sequence of that
-/// record, and of its head the kind.
+/// The role of a line that stands for a record of a registration has the transaction and the record sequence of that
+/// record. The role of its head also has the kind.
 pub fn sequences_are_read()
     ensures head { (line : List ℕ) (x : WorkHead) → StandsFor works.work_head line x → role_of line ≡ role.TransactionHeader (Some x.kind) (Some x.prefix.transaction) (Some x.prefix.detail) }
     ensures publisher { (line : List ℕ) (x : Publisher) → StandsFor publishers.publisher line x → role_of line ≡ role.Detail (Some x.prefix.transaction) (Some x.prefix.detail) }

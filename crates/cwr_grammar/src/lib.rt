@@ -1,9 +1,11 @@
 //! The grammar of CWR submission files.
 //!
-//! [`parse_file`] reads a submission file: its header and its transactions, or its first fault. Nothing is copied:
-//! a [`RawTransaction`] borrows the file's bytes, and [`Lines`] goes over lines. [`visit_file`] gives the same header
-//! and transactions to a [`Visitor`], these line by line, on its way, and a [`FileReader`] those of a file that comes a
-//! piece at a time. [`FileCounts`] are what the lines before one of them say.
+//! [`parse_file`] reads a submission file: its header and its transactions, or its first fault. Nothing is copied: a
+//! [`RawTransaction`] borrows the file's bytes, and [`Lines`] goes over lines.
+//!
+//! [`visit_file`] gives the same header and transactions to a [`Visitor`], line by line, as it comes to them. A
+//! [`FileReader`] does so for a file that comes a chunk at a time. [`FileCounts`] are what the lines before one of them
+//! say.
 #![tactic(auto)]
 
 mod awaited;

@@ -3,12 +3,12 @@ ghost use Rattle.std.specs.Prelude.{◌<◌};
 /// How many slots there are for the names of records.
 const SLOTS: usize = 64;
 
-/// How many bytes the last line of each record had: the next one mostly has as many.
+/// How many bytes the last line of each record type had. The next line of that type mostly has as many.
 ///
-/// This is a guess, and the search for a line's end tries it first. No contract rests on it.
+/// This is a guess that the search for a line's end tries first. No contract rests on it.
 #[derive(Drop)]
 pub(crate) struct LineLengths {
-    /// By the slot of the record's name. Names that share a slot spoil each other's guess, and nothing else.
+    /// The lengths, by the slot of the record's name. Names that share a slot only spoil each other's guess.
     last: [usize; SLOTS],
 }
 
@@ -18,20 +18,20 @@ impl LineLengths {
         LineLengths { last: [0; SLOTS] }
     }
 
-    /// How many bytes the line may have that a text begins with.
+    /// The guess for the length in bytes of the line at the front of a text.
     #[inline(always)]
     pub(crate) fn guess(&self, text: &[u8]) -> usize {
         self.last[slot(text)]
     }
 
-    /// Goes past a line.
+    /// Keeps the length of a line.
     #[inline(always)]
     pub(crate) fn pass(&mut self, line: &[u8]) {
         self.last[slot(line)] = line.len();
     }
 }
 
-/// The slot of the name that a line begins with: the names of CWR's details have one each, but for a few.
+/// The slot of the name that a line begins with. Most names of CWR's details have a slot of their own.
 #[inline(always)]
 fn slot(line: &[u8]) -> usize
     ensures { result < 64 }

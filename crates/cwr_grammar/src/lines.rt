@@ -11,8 +11,8 @@ use std::marker::Model;
 
 /// The lines of a text that are still to come, in order. They borrow the text.
 ///
-/// LF ends a line, and one CR before it is no part of the line. The last line may lack its LF, and then keeps a CR
-/// at its end. The empty text has no lines. A contract sees this iterator as the list of the lines.
+/// LF ends a line, and one CR before it is no part of the line. The last line may lack its LF, and then keeps a CR at
+/// its end. The empty text has no lines. A contract sees this iterator as the list of the lines.
 #[derive(Clone, Debug, Drop)]
 pub struct Lines<'a> {
     rest: &'a [u8],
@@ -64,7 +64,7 @@ pub(crate) struct FirstLine<'a> {
     pub(crate) is_whole: bool,
 }
 
-/// The first line of a text, which may have so many bytes.
+/// The first line of a text. `guess` is how many bytes it probably has without its end.
 #[inline(always)]
 pub(crate) fn first_line_near(text: &[u8], guess: usize) -> Option<FirstLine<'_>>
     ensures none { IfNone result (text.now ≡ []) }
@@ -94,7 +94,8 @@ pub(crate) fn first_line_near(text: &[u8], guess: usize) -> Option<FirstLine<'_>
     }
 }
 
-/// How many bytes the first line has with its end, where that begins with the first byte below 32.
+/// How many bytes the first line has with its end, where the first byte below 32, at `end`, begins a line end; `None`
+/// where it does not.
 fn line_end(text: &[u8], end: usize) -> Option<usize>
     requires { end ≡ position_or_len is_control text.now }
     ensures some { IfSome result (λ size. end < size) }
@@ -112,7 +113,7 @@ fn line_end(text: &[u8], end: usize) -> Option<usize>
     None
 }
 
-/// The first line of a text that has bytes, whatever stands in it: its LF is looked for alone.
+/// The first line of a text that is not empty, whatever bytes the line has: only its LF is looked for.
 fn other_line(text: &[u8]) -> FirstLine<'_>
     requires { 0 < length text.now }
     ensures line { lines text.now ≡ result.bytes.now ∷ lines (drop result.size text.now) }
@@ -141,7 +142,7 @@ fn other_line(text: &[u8]) -> FirstLine<'_>
     }
 }
 
-/// The bytes of a line that an LF ended, less one CR at their end.
+/// The bytes of a line that an LF ended, without one CR at their end.
 fn without_return(line: &[u8]) -> &[u8]
     ensures { result.now ≡ strip_carriage_return line.now }
 {

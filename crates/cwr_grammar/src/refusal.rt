@@ -13,9 +13,10 @@ pub enum FileRefusal {
     /// The file has this fault, and none before it.
     #[error("refused F{number} at line {line}")]
     Fault {
-        /// The number of the fault, from 1 to 12: of the line's faults the least.
+        /// The number of the fault, from 1 to 12: the least of the line's faults.
         number: u8,
-        /// The line, counted from 1: of the faulty lines the first. The line after the last one is the end.
+        /// The line, counted from 1: the first of the faulty lines. The line after the last one stands for the file's
+        /// end.
         line: u64,
     },
 }

@@ -9,16 +9,16 @@ use cwr_record::{
     FileTrailer, GroupHead, GroupTrailer, Header, Prefix, RecordType, WorkKind, digits_at, field_at,
 };
 
-/// A line by its role in a file: what its record opens, goes on with or closes, and the numbers that it states.
+/// A line by its role in a file: what its record opens, continues or closes, and the numbers that it states.
 ///
-/// A number is `None` where its field has other bytes than digits.
+/// A number is `None` where its field is not all digits.
 #[derive(Clone, Copy)]
 pub(crate) enum Role {
     /// HDR: whether its dates and its time are valid.
     FileHeader(bool),
-    /// GRH: the transaction type where it is one that is read, and the group id.
+    /// GRH: the transaction type, `None` for one that is not read; the group id.
     GroupHeader(Option<WorkKind>, Option<u64>),
-    /// The header of a transaction: its kind where it is one that is read, transaction sequence, record sequence.
+    /// The header of a transaction: its kind, `None` for one that is not read; transaction sequence; record sequence.
     TransactionHeader(Option<WorkKind>, Option<u64>, Option<u64>),
     /// A detail of a transaction: transaction sequence, record sequence.
     Detail(Option<u64>, Option<u64>),
@@ -95,7 +95,7 @@ fn detail(line: &[u8]) -> Role
     )
 }
 
-/// The transaction type of a group header, where it is one that is read.
+/// The transaction type of a group header; `None` for one that is not read.
 fn group_kind(line: &[u8]) -> Option<WorkKind>
     ensures { result ≡ work_kind_named (field_at line.now group_head_transaction_type) }
 {

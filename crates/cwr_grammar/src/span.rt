@@ -27,7 +27,14 @@ pub(crate) struct Open {
     pub(crate) kind: WorkKind,
 }
 
-/// Takes a line at a position: one that is no detail ends the open transaction, and a header opens the next one.
+/// Consumes a line: one that is no detail ends the open transaction, and a transaction's header opens the next one.
+/// Returns the transaction that is open then.
+///
+/// - `spans` gets the span of the transaction that ends.
+/// - `current` is the open transaction, or `None`.
+/// - `at` is the index of the line's first byte in the file, counted from 0.
+/// - `role` is the role of the line.
+/// - `counts` are those of the lines before it.
 pub(crate) fn take_line<A: Allocator>(
     spans: &mut Vec<Span, A>,
     current: Option<Open>,

@@ -26,11 +26,25 @@ pub struct Submission<'a, A: Allocator = Global> {
 
 /// Reads a file: an HDR line, groups and a TRL line, each group a GRH line, transactions and a GRT line.
 ///
-/// A well-formed file gives its header, its transactions and its counts: group ids of at most five digits, sequences of
-/// at most eight, transactions of at least one line, at most half as many lines as bytes, and a sender without a byte
-/// below 32. Any other gives its first fault: of its faulty lines the first, and of that line's faults the least. The
-/// bytes are gone over once. Memory is asked for the spans of the transactions alone; that it was refused says nothing
-/// of the file.
+/// Of a well-formed file it returns the header, the transactions and the counts. Group ids have at most five digits,
+/// and sequences at most eight. A transaction has at least one line. The transactions together have at most half as
+/// many lines as the file has bytes. No byte of the sender is below 32.
+///
+/// Of any other file it returns the first fault: that of the first faulty line, and of that line's faults the least.
+///
+/// The bytes are gone over once. Memory is asked for only for the spans of the transactions. A refusal of memory says
+/// nothing about the file.
+///
+/// # Examples
+///
+/// ```rust
+/// let file = parse_file(alloc, text)?;
+/// same("the sender", &file.header.sender, b"PB000000123")?;
+/// let transaction = file.transactions.get(0).ok_or("no transaction")?;
+/// for line in transaction.lines() {
+///     println!(rt; "{} bytes", line.len())?;
+/// }
+/// ```
 pub fn parse_file<'a, A: Allocator>(
     alloc: A,
     bytes: &'a [u8],

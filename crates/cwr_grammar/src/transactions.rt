@@ -54,7 +54,7 @@ impl<'a> RawTransaction<'a> {
         self.kind
     }
 
-    /// Its lines, the header first. They are found again in the bytes, without memory.
+    /// Its lines, the header first. They are searched for in the bytes again, which takes no memory.
     pub fn lines(&self) -> Lines<'a>
         ensures value { result ≡ self.now.lines }
         ensures text { IsTransactionText self.now.lines }
@@ -170,7 +170,7 @@ impl<'a> Iterator for TransactionIter<'a, '_> {
 
 impl FusedIterator for TransactionIter<'_, '_> {}
 
-/// The transaction in its span.
+/// The transaction that a span describes.
 fn transaction_at<'a>(bytes: &'a [u8], span: &Span) -> RawTransaction<'a>
     requires { IsSpan bytes.now span.now }
     ensures { result ≡ raw_at bytes.now span.now }

@@ -1,7 +1,7 @@
 ghost use Rattle.std.specs.Prelude.{◌≡◌, ◌+◌, ◌≤◌, ◌<◌, ◌^◌, ◌∷◌, ◌++◌, [], ℕ, List, Option, Some, None, length, is_some, IsTrue, IfOk, IfErr, OnOk};
 ghost use Rattle.std.specs.Str.Lines.{lines};
 ghost use Rattle.cwr_field.specs.Layout.{is_printable};
-ghost use Rattle.cwr_field.specs.Number.{most_count};
+ghost use Rattle.cwr_field.specs.Number.{max_count};
 ghost use Rattle.cwr_record.specs.RecordTypes.{type_of};
 ghost use Rattle.cwr_record.specs.declared.control.Header.{Header};
 ghost use Rattle.cwr_grammar.specs.Counted.{FitsHeader};
@@ -17,12 +17,12 @@ use crate::role::Role;
 use cwr_field::Memory;
 use cwr_record::{Header, RecordType, WorkKind};
 
-/// Takes the header of a file, and then its transactions line by line, as [`visit_file`] comes to them.
+/// Receives the header of a file, and then its transactions line by line, as [`visit_file`] comes to them.
 ///
-/// No line that it is given has a byte below 32. Where memory is refused, it is given nothing any more.
+/// No line that it is given has a byte below 32. Once it was refused memory, it is given nothing more.
 pub trait Visitor {
-    // What it keeps, since it was as at first, of the header that it was given, of the transactions that it was given
-    // whole, and of the lines of one that is open.
+    // What the second visitor keeps of what it was given since it was as the first: of the header, of the complete
+    // transactions, and of the lines of an open one.
     ghost keeps: { Self → Self → Option Header → List RawParts → Option RawParts → Type 0 };
 
     /// The file begins, with this header. No byte of its sender is below 32.
@@ -48,25 +48,25 @@ pub trait Visitor {
 
     /// The open transaction goes on with a detail's line, of this record type.
     fn detail(&mut self, line: &[u8], record_type: RecordType) -> Result<(), Memory>
-        requires begun { (first : Self) × (header : Header) × (whole : List RawParts) × (t : RawParts) × keeps first self.old (Some header) whole (Some t) × (length t.lines ≤ most_count) }
+        requires begun { (first : Self) × (header : Header) × (whole : List RawParts) × (t : RawParts) × keeps first self.old (Some header) whole (Some t) × (length t.lines ≤ max_count) }
         requires read { record_type ≡ type_of line.now }
         requires printable { IsTrue (is_printable line.now) }
         ensures { OnOk result ((first : Self) (header : Header) (whole : List RawParts) (t : RawParts) → keeps first self.old (Some header) whole (Some t)
             → keeps first self.new (Some header) whole (Some (with_line line.now t))) };
 
-    /// The open transaction is whole.
+    /// The open transaction is complete.
     fn end(&mut self) -> Result<(), Memory>
-        requires begun { (first : Self) × (header : Header) × (whole : List RawParts) × (t : RawParts) × keeps first self.old (Some header) whole (Some t) × (length t.lines ≤ most_count + 1) × (length whole < 2 ^ 63) }
+        requires begun { (first : Self) × (header : Header) × (whole : List RawParts) × (t : RawParts) × keeps first self.old (Some header) whole (Some t) × (length t.lines ≤ max_count + 1) × (length whole < 2 ^ 63) }
         ensures { OnOk result ((first : Self) (header : Header) (whole : List RawParts) (t : RawParts) → keeps first self.old (Some header) whole (Some t)
             → keeps first self.new (Some header) (whole ++ t ∷ []) None) };
 }
 
-/// Reads a file as [`parse_file`](crate::parse_file) does, and gives its header and its transactions to a visitor on its
-/// way. One whose bytes come a piece at a time is read by a [`FileReader`].
+/// Reads a file as [`parse_file`](crate::parse_file) does, and gives its header and its transactions to a visitor as it
+/// comes to them. A file that comes a chunk at a time is read by a [`FileReader`].
 ///
-/// A well-formed file gives it the header, and then all its transactions, in order, and answers the file's envelope. Of
-/// any other the first fault is answered: what the visitor was given by then is of no file. No memory is asked for but
-/// by the visitor.
+/// Of a well-formed file the visitor is given the header, and then all transactions, in order, and the file's envelope
+/// is returned. Of any other file the first fault is returned, and what the visitor was given belongs to no file. No
+/// memory is asked for but by the visitor.
 pub fn visit_file<V: Visitor>(bytes: &[u8], visitor: &mut V) -> Result<Envelope, FileRefusal>
     requires { V.keeps visitor.old visitor.old None [] None }
     ensures given { IfOk result (λ envelope. WasGiven (V.keeps visitor.old visitor.new) bytes.now envelope.header envelope.groups envelope.records) }
@@ -75,8 +75,15 @@ pub fn visit_file<V: Visitor>(bytes: &[u8], visitor: &mut V) -> Result<Envelope,
     FileReader::new().finish(visitor, bytes)
 }
 
-/// Gives a line behind the file's header to a visitor: one that is no detail ends the open transaction, and a header of a
-/// transaction opens the next one.
+/// Gives a line behind the file's header to a visitor. A line that is no detail ends the open transaction, and the
+/// header of a transaction opens the next one.
+///
+/// - `visitor` receives the line.
+/// - `is_open` is whether a transaction is open.
+/// - `line` is the line, without its end.
+/// - `record_type` is its record type.
+/// - `role` is its role.
+/// - `counts` are those of the lines before it.
 #[inline(always)]
 pub(crate) fn give<V: Visitor>(
     visitor: &mut V,

@@ -1,4 +1,5 @@
-//! What was written is read back, for each type of record: it follows from what the writer and the reader promise.
+//! Proofs that what was written is read back, for each type of record. They use only the contracts of writer and
+//! reader.
 #![tactic(auto)]
 
 ghost use Rattle.std.specs.Prelude.{◌≡◌, IfOk, Ok};

@@ -1,5 +1,5 @@
--- Where each field of each record stands (CWR 2.2, record layouts): the one place for the positions of a line. The tables
--- of the layouts name these columns, and so does whatever else reads a field of a line.
+-- Where each field of each record stands (CWR 2.2, record layouts): the one place for the positions of a line. The
+-- tables of the layouts name these columns, and so does whatever else reads a field of a line.
 use Rattle.std.specs.Prelude.{ℕ, List}
 use Rattle.cwr_field.specs.Layout.{field}
 use Rattle.cwr_record.specs.declared.columns.Column.{Column}
@@ -8,7 +8,7 @@ use Rattle.cwr_record.specs.declared.columns.Column.{Column}
 abbrev pub field_at : List ℕ → Column → List ℕ
 field_at line column = field line column.start column.width
 
--- from a position, counted from 1, so many bytes
+-- a column from a position, counted from 1, that is `width` bytes wide
 abbrev pub from : ℕ → ℕ → Column
 from start width = record { start = start; width = width }
 

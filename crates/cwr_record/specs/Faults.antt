@@ -7,7 +7,8 @@ use Rattle.cwr_record.specs.declared.slot.Slot.{Slot}
 use Rattle.cwr_record.specs.declared.slot.Content.{Content}
 use Rattle.cwr_record.specs.declared.slot.Content.TheVariants.{Kind, OneOf, Digits, Share, Day, Time, OptionalDay, OptionalTime, Code}
 
--- 1 not digits, 2 not a share, 3 not a date, 4 not a time, 5 a wrong ISWC, 6 another record type
+-- what a field's fault is called: 1 not digits, 2 not a share, 3 not a date, 4 not a time, 5 a wrong ISWC, 6 another
+-- record type
 abbrev pub fault_number : Content → ℕ
 fault_number Digits = 1
 fault_number Share = 2
@@ -19,6 +20,7 @@ fault_number Code = 5
 fault_number (Kind code) = 6
 fault_number (OneOf first second) = 6
 
+-- the fault of a field: the position of its first byte, from 1, and the fault's number
 abbrev pub fault_of : Slot → FieldFault
 fault_of s = record { start = s.column.start; number = fault_number s.content }
 

@@ -10,36 +10,36 @@ use Rattle.cwr_record.specs.declared.publishers.PublisherKind.TheVariants.{Spu, 
 use Rattle.cwr_record.specs.declared.writers.WriterKind.{WriterKind}
 use Rattle.cwr_record.specs.declared.writers.WriterKind.TheVariants.{Swr, Owr}
 
--- a new registration, and a revised one
+-- the record type of a registration: NWR for a new work, REV for a revision
 abbrev pub work_kind_code : WorkKind → List ℕ
 work_kind_code Nwr = codes "NWR"
 work_kind_code Rev = codes "REV"
 
--- the registration that a record type names
+-- the registration that a record type names; `None` for any other record type
 abbrev pub work_kind_named : List ℕ → Option WorkKind
 work_kind_named code =
     if bytes_eq code (codes "NWR") then Some Nwr
     else if bytes_eq code (codes "REV") then Some Rev
     else None
 
--- a publisher controlled by the submitter, and another one
+-- the record type of a publisher: SPU where the submitter controls it, OPU for another one
 abbrev pub publisher_kind_code : PublisherKind → List ℕ
 publisher_kind_code Spu = codes "SPU"
 publisher_kind_code Opu = codes "OPU"
 
--- a writer controlled by the submitter, and another one
+-- the record type of a writer: SWR where the submitter controls them, OWR for another one
 abbrev pub writer_kind_code : WriterKind → List ℕ
 writer_kind_code Swr = codes "SWR"
 writer_kind_code Owr = codes "OWR"
 
--- Transaction Status of an acknowledged transaction
+-- the two letters of a Transaction Status
 abbrev pub status_text : Status → List ℕ
 status_text Accepted = codes "AS"
 status_text Duplicate = codes "DU"
 status_text Conflict = codes "CO"
 status_text Rejected = codes "RJ"
 
--- the status that two letters name
+-- the status that two letters name; `None` for other letters
 abbrev pub status_named : List ℕ → Option Status
 status_named code =
     if bytes_eq code (codes "AS") then Some Accepted

@@ -14,29 +14,31 @@ use Rattle.cwr_record.specs.declared.slot.Slot.{Slot}
 use Rattle.cwr_record.specs.declared.slot.Content.{Content}
 use Rattle.cwr_record.specs.declared.slot.Content.TheVariants.{Kind, OneOf, Digits, Share, Day, Time, OptionalDay, OptionalTime, Code}
 
--- what a field is read as
+-- what a field is read as: bytes as they stand, a number, or a number that may be absent
 pub data Value : Type 0 where
   Bytes : List ℕ → Value
   Number : ℕ → Value
   Maybe : Option ℕ → Value
 
+-- a value that may be absent and is there; `None` where there is no number
 abbrev pub present : Option ℕ → Option Value
 present n = option_map (λ m. Maybe (Some m)) n
 
--- a work's code, or none where the field is blank
+-- the ISWC as a value, absent where the field is blank; `None` where it is wrong
 abbrev pub code_value : Iswc → Option Value
 code_value Blank = Some (Maybe None)
 code_value (Valid n) = Some (Maybe (Some n))
 code_value Wrong = None
 
--- eight zeros: no date
+-- eight zeros, which stand for no date
 abbrev pub zeros : List ℕ
 zeros = 48 ∷ 48 ∷ 48 ∷ 48 ∷ 48 ∷ 48 ∷ 48 ∷ 48 ∷ []
 
+-- the date field has no date: its bytes are all blanks, or eight zeros
 abbrev pub is_no_day : List ℕ → Bool
 is_no_day bytes = is_blank bytes || bytes_eq bytes zeros
 
--- the value that the bytes of a field stand for, where they stand for one
+-- the value that the bytes of a field stand for, by what the field holds; `None` where they stand for none
 abbrev pub value_of : Content → List ℕ → Option Value
 value_of (Kind code) bytes = if bytes_eq bytes code then Some (Bytes code) else None
 value_of (OneOf first second) bytes = if bytes_eq bytes first || bytes_eq bytes second then Some (Bytes bytes) else None
@@ -48,7 +50,7 @@ value_of OptionalDay bytes = if is_no_day bytes then Some (Maybe None) else pres
 value_of OptionalTime bytes = if is_blank bytes then Some (Maybe None) else present (time_of bytes)
 value_of Code bytes = code_value (iswc_of bytes)
 
--- what the line has in a field
+-- the value of a field in a line; `None` where its bytes stand for none
 abbrev pub reading : List ℕ → Slot → Option Value
 reading line s = value_of s.content (field_at line s.column)
 

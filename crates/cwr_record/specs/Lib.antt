@@ -16,5 +16,5 @@ pub mod LineOf
 pub mod Stamp
 pub mod Readable
 pub mod Ranges
-pub mod Pieces
+pub mod FieldValues
 pub mod FaultOrder

@@ -18,6 +18,7 @@ spelling content width (Maybe None) = padded width []
 spelling Code width (Maybe (Some n)) = iswc_text n
 spelling content width (Maybe (Some n)) = number_text width n
 
+-- the bytes that are written for one row of a table, as many as its column is wide
 abbrev pub text_of : {X : Type 0} → X → Part X → List ℕ
 text_of x (Read s part) = spelling s.content s.column.width (part x)
 text_of x (Kept column part) = padded column.width (part x)
@@ -34,8 +35,8 @@ are_adjacent start (Read s part ∷ parts) = (s.column.start == start) && are_ad
 are_adjacent start (Kept column part ∷ parts) = (column.start == start) && are_adjacent (start + column.width) parts
 are_adjacent start (Written column text ∷ parts) = (column.start == start) && nat_le (length text) column.width && are_adjacent (start + column.width) parts
 
--- what a writer asks of a value: a number has no more digits than its field, a share is at most the whole, and a code
--- has nine digits
+-- what a writer requires of a value: a number has no more digits than its field, a share is at most the whole, and a
+-- code has nine digits
 abbrev pub FitsField : Content → ℕ → Value → Type 0
 FitsField Digits width (Number n) = n < 10 ^ width
 FitsField Share width (Number n) = n ≤ whole

@@ -28,13 +28,13 @@ party_column Spt = column.publisher_territory_party
 party_column Swt = column.writer_territory_party
 party_column _ = column.writer_party
 
--- a column for each right
+-- a column for each right: performing, mechanical, synchronization
 pub record RightColumns : Type 0 where
   pub performing : Column
   pub mechanical : Column
   pub synchronization : Column
 
--- the shares that these columns hold
+-- the shares in these columns of a line: performing, mechanical, synchronization; `None` for one that is not valid
 abbrev pub shares_at : List ℕ → RightColumns → List (Option ℕ)
 shares_at line columns =
     share_of (column.field_at line columns.performing)
@@ -42,6 +42,7 @@ shares_at line columns =
     ∷ share_of (column.field_at line columns.synchronization)
     ∷ []
 
+-- where an SPU or OPU has its ownership shares
 abbrev pub publisher_ownership : RightColumns
 publisher_ownership = record {
   performing = column.publisher_performing_ownership;
@@ -49,6 +50,7 @@ publisher_ownership = record {
   synchronization = column.publisher_synchronization_ownership;
 }
 
+-- where an SWR or OWR has its ownership shares
 abbrev pub writer_ownership : RightColumns
 writer_ownership = record {
   performing = column.writer_performing_ownership;
@@ -62,6 +64,7 @@ ownership_columns Spu = publisher_ownership
 ownership_columns Opu = publisher_ownership
 ownership_columns _ = writer_ownership
 
+-- where an SPT has its collection shares
 abbrev pub publisher_collection : RightColumns
 publisher_collection = record {
   performing = column.publisher_territory_performing_collection;
@@ -69,6 +72,7 @@ publisher_collection = record {
   synchronization = column.publisher_territory_synchronization_collection;
 }
 
+-- where an SWT has its collection shares
 abbrev pub writer_collection : RightColumns
 writer_collection = record {
   performing = column.writer_territory_performing_collection;

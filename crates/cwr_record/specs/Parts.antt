@@ -1,4 +1,4 @@
--- The parts of which the tables are made.
+-- The rows of which the tables of layouts are made.
 use Rattle.std.specs.Prelude.{ℕ, List, [], Option}
 use Rattle.cwr_record.specs.Columns.{every_record_type}
 use Rattle.cwr_record.specs.Layout.{Part, Read, Kept, Written, Bytes, Number, Maybe, Value}
@@ -6,6 +6,7 @@ use Rattle.cwr_record.specs.declared.columns.Column.{Column}
 use Rattle.cwr_record.specs.declared.slot.Content.{Content}
 use Rattle.cwr_record.specs.declared.slot.Content.TheVariants.{Kind, OneOf, Digits, Share, Day, Time, OptionalDay, OptionalTime, Code}
 
+-- a field that is read: its column, what it holds, and the part of the record that it stands for
 abbrev pub at : {X : Type 0} → Column → Content → (X → Value) → Part X
 at column content part = Read (record { column = column; content = content }) part
 

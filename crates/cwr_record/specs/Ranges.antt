@@ -22,13 +22,15 @@ is_wide OptionalDay width = width == 8
 is_wide OptionalTime width = width == 6
 is_wide Code width = width == 11
 
+-- the field begins in the first 4096 bytes, and its width suits what it holds
 abbrev pub is_slot : Slot → Bool
 is_slot s = is_in_line s.column && is_wide s.content s.column.width
 
+-- each of the fields begins in the first 4096 bytes, and has a width that suits what it holds
 abbrev pub all_in_line : List Slot → Bool
 all_in_line slots = list_all is_slot slots
 
--- each field starts after the one before it
+-- each field begins after the start of the one before it
 abbrev pub starts_rise : List Slot → Bool
 starts_rise [] = true
 starts_rise (s ∷ []) = true

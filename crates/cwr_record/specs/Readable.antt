@@ -10,5 +10,6 @@ abbrev pub IsRead : Content → Option Value → Type 0
 IsRead (Kind code) value = value ≡ Some (Bytes code)
 IsRead content value = IsSome value
 
+-- the field of the line has a value; a field that can hold one value only has that one
 abbrev pub IsReadable : List ℕ → Slot → Type 0
 IsReadable line s = IsRead s.content (reading line s)

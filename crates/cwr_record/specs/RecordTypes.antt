@@ -7,11 +7,12 @@ use Rattle.cwr_record.specs.Columns.{field_at, every_record_type}
 use Rattle.cwr_record.specs.declared.record_type.RecordType.{RecordType}
 use Rattle.cwr_record.specs.declared.record_type.RecordType.TheVariants.{Hdr, Grh, Grt, Trl, Nwr, Rev, Ack, Spu, Spt, Opu, Swr, Swt, Pwr, Owr, Alt, Xrf, Other, Carried, Bad}
 
--- an agreement, an ISWC notification and a report of existing works are headers of other transactions
+-- AGR, ISW or EXC: the headers of transactions that are not read, an agreement, an ISWC notification and a report of
+-- existing works
 abbrev pub is_other : List ℕ → Bool
 is_other name = bytes_eq name (codes "AGR") || bytes_eq name (codes "ISW") || bytes_eq name (codes "EXC")
 
--- three capitals name a type; one that has no layout here is carried along
+-- the record type that three bytes name; other capitals are a type that is carried along, and anything else is no type
 abbrev pub type_named : List ℕ → RecordType
 type_named name =
     if bytes_eq name (codes "NWR") then Nwr
@@ -34,6 +35,6 @@ type_named name =
     else if list_all is_ascii_uppercase name then Carried
     else Bad
 
--- the type that a line names
+-- the record type of a line, by its first three bytes
 abbrev pub type_of : List ℕ → RecordType
 type_of line = type_named (field_at line every_record_type)

@@ -8,8 +8,8 @@ ghost use Rattle.cwr_record.specs.Acknowledgement as table;
 ghost use Rattle.cwr_record.specs.declared.acknowledgement.Ack.{Ack};
 ghost use Rattle.cwr_record.specs.declared.acknowledgement.Message.{Message};
 
+use crate::field_values::FieldValue;
 use crate::line_room::LineRoom;
-use crate::pieces::Piece;
 use crate::prefix::Prefix;
 use crate::record_type::RecordType;
 use crate::slot::{Content, FieldFault, Slot, check, slots};
@@ -55,20 +55,20 @@ const ACK: [Slot; 8] = slots! {
     Ack::PROCESSING_DATE: Content::Day;
 };
 
-/// The acknowledgement that a line is.
+/// Reads an acknowledgement (ACK) from a line.
 ///
-/// An error is the line's least fault.
+/// An error is the first field of the line that cannot be read.
 pub fn read_ack(line: &[u8]) -> Result<Ack, FieldFault>
     ensures ok { IfOk result (StandsFor table.ack line.now) }
     ensures fault { IfErr result (IsLeastFault line.now (checked table.ack)) }
-    // What was written is read again.
+    // What was written is read back.
     ensures again { (x : Ack) → IsWhole table.ack x → line.now ≡ line_of table.ack x → result ≡ Ok x }
 {
     check(line, &ACK)?;
     Ok(ack_at(line))
 }
 
-/// The acknowledgement of a line that was checked.
+/// The acknowledgement of a line whose fields were checked.
 fn ack_at(line: &[u8]) -> Ack
     requires { AllByRecursion (IsReadable line.now) (checked table.ack) }
     ensures { StandsFor table.ack line.now result }
@@ -97,23 +97,23 @@ fn ack_at(line: &[u8]) -> Ack
 pub fn ack_line(ack: &Ack) -> LineRoom<159>
     requires { Fits table.ack ack.now }
     ensures line { result ≡ line_of table.ack ack.now }
-    // This is what the reader asks of a value that it reads again.
+    // This is what the reader requires of a value that it reads back.
     ensures whole { IsWhole table.ack ack.now }
 {
     let mut line = LineRoom::<159>::new();
-    line.put(&Piece::Text(b"ACK", RecordType::COLUMN));
-    line.put(&Piece::Digits(ack.prefix.transaction as u64, Prefix::TRANSACTION));
-    line.put(&Piece::Digits(ack.prefix.detail as u64, Prefix::DETAIL));
-    line.put(&Piece::Day(ack.creation_date));
-    line.put(&Piece::Time(ack.creation_time));
-    line.put(&Piece::Digits(ack.original_group as u64, Ack::ORIGINAL_GROUP));
-    line.put(&Piece::Digits(ack.original_transaction as u64, Ack::ORIGINAL_TRANSACTION));
-    line.put(&Piece::Text(&ack.original_type, Ack::ORIGINAL_TYPE));
-    line.put(&Piece::Text(&ack.title, Ack::TITLE));
-    line.put(&Piece::Text(&ack.submitter_number, Ack::SUBMITTER_NUMBER));
-    line.put(&Piece::Text(&ack.recipient_number, Ack::RECIPIENT_NUMBER));
-    line.put(&Piece::Day(ack.processing_date));
-    line.put(&Piece::Text(&ack.status, Ack::STATUS));
+    line.put(&FieldValue::Text(b"ACK", RecordType::COLUMN));
+    line.put(&FieldValue::Digits(ack.prefix.transaction as u64, Prefix::TRANSACTION));
+    line.put(&FieldValue::Digits(ack.prefix.detail as u64, Prefix::DETAIL));
+    line.put(&FieldValue::Day(ack.creation_date));
+    line.put(&FieldValue::Time(ack.creation_time));
+    line.put(&FieldValue::Digits(ack.original_group as u64, Ack::ORIGINAL_GROUP));
+    line.put(&FieldValue::Digits(ack.original_transaction as u64, Ack::ORIGINAL_TRANSACTION));
+    line.put(&FieldValue::Text(&ack.original_type, Ack::ORIGINAL_TYPE));
+    line.put(&FieldValue::Text(&ack.title, Ack::TITLE));
+    line.put(&FieldValue::Text(&ack.submitter_number, Ack::SUBMITTER_NUMBER));
+    line.put(&FieldValue::Text(&ack.recipient_number, Ack::RECIPIENT_NUMBER));
+    line.put(&FieldValue::Day(ack.processing_date));
+    line.put(&FieldValue::Text(&ack.status, Ack::STATUS));
     line
 }
 
@@ -123,10 +123,10 @@ pub fn ack_line(ack: &Ack) -> LineRoom<159>
 pub fn write_ack<A: Allocator>(out: &mut Vec<u8, A>, ack: &Ack) -> Result<(), Memory>
     requires { Fits table.ack ack.now }
     ensures ok { OnOk result (out.new.items ≡ out.old.items ++ line_of table.ack ack.now) }
-    // This is what the reader asks of a value that it reads again.
+    // This is what the reader requires of a value that it reads back.
     ensures whole { OnOk result (IsWhole table.ack ack.now) }
     ensures err { OnErr result (out.new.items ≡ out.old.items) }
-    // Memory is answered only where there was no room for the line.
+    // `Memory` is returned only where there was no room for the line.
     ensures full { OnErr result (vec_capacity out.old < vec_len out.old + 159) }
 {
     out.extend_from_slice(ack_line(ack).bytes())?;
@@ -160,20 +160,20 @@ const MESSAGE: [Slot; 5] = slots! {
     Message::VALIDATION_NUMBER: Content::Digits;
 };
 
-/// The message that a line is.
+/// Reads a message (MSG) from a line.
 ///
-/// An error is the line's least fault.
+/// An error is the first field of the line that cannot be read.
 pub fn read_message(line: &[u8]) -> Result<Message, FieldFault>
     ensures ok { IfOk result (StandsFor table.message line.now) }
     ensures fault { IfErr result (IsLeastFault line.now (checked table.message)) }
-    // What was written is read again.
+    // What was written is read back.
     ensures again { (x : Message) → IsWhole table.message x → line.now ≡ line_of table.message x → result ≡ Ok x }
 {
     check(line, &MESSAGE)?;
     Ok(message_at(line))
 }
 
-/// The message of a line that was checked.
+/// The message of a line whose fields were checked.
 fn message_at(line: &[u8]) -> Message
     requires { AllByRecursion (IsReadable line.now) (checked table.message) }
     ensures { StandsFor table.message line.now result }
@@ -198,22 +198,22 @@ fn message_at(line: &[u8]) -> Message
 pub fn message_line(message: &Message) -> LineRoom<185>
     requires { Fits table.message message.now }
     ensures line { result ≡ line_of table.message message.now }
-    // This is what the reader asks of a value that it reads again.
+    // This is what the reader requires of a value that it reads back.
     ensures whole { IsWhole table.message message.now }
 {
     let mut line = LineRoom::<185>::new();
-    line.put(&Piece::Text(b"MSG", RecordType::COLUMN));
-    line.put(&Piece::Digits(message.prefix.transaction as u64, Prefix::TRANSACTION));
-    line.put(&Piece::Digits(message.prefix.detail as u64, Prefix::DETAIL));
-    line.put(&Piece::Text(&message.message_type, Message::MESSAGE_TYPE));
-    line.put(&Piece::Digits(message.original_record as u64, Message::ORIGINAL_RECORD));
-    line.put(&Piece::Text(&message.record_type, Message::RECORD_TYPE));
-    line.put(&Piece::Text(&message.message_level, Message::MESSAGE_LEVEL));
-    line.put(&Piece::Digits(
+    line.put(&FieldValue::Text(b"MSG", RecordType::COLUMN));
+    line.put(&FieldValue::Digits(message.prefix.transaction as u64, Prefix::TRANSACTION));
+    line.put(&FieldValue::Digits(message.prefix.detail as u64, Prefix::DETAIL));
+    line.put(&FieldValue::Text(&message.message_type, Message::MESSAGE_TYPE));
+    line.put(&FieldValue::Digits(message.original_record as u64, Message::ORIGINAL_RECORD));
+    line.put(&FieldValue::Text(&message.record_type, Message::RECORD_TYPE));
+    line.put(&FieldValue::Text(&message.message_level, Message::MESSAGE_LEVEL));
+    line.put(&FieldValue::Digits(
         message.validation_number as u32 as u64,
         Message::VALIDATION_NUMBER,
     ));
-    line.put(&Piece::Text(&message.text, Message::TEXT));
+    line.put(&FieldValue::Text(&message.text, Message::TEXT));
     line
 }
 
@@ -223,10 +223,10 @@ pub fn message_line(message: &Message) -> LineRoom<185>
 pub fn write_message<A: Allocator>(out: &mut Vec<u8, A>, message: &Message) -> Result<(), Memory>
     requires { Fits table.message message.now }
     ensures ok { OnOk result (out.new.items ≡ out.old.items ++ line_of table.message message.now) }
-    // This is what the reader asks of a value that it reads again.
+    // This is what the reader requires of a value that it reads back.
     ensures whole { OnOk result (IsWhole table.message message.now) }
     ensures err { OnErr result (out.new.items ≡ out.old.items) }
-    // Memory is answered only where there was no room for the line.
+    // `Memory` is returned only where there was no room for the line.
     ensures full { OnErr result (vec_capacity out.old < vec_len out.old + 185) }
 {
     out.extend_from_slice(message_line(message).bytes())?;

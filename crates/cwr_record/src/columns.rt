@@ -1,7 +1,7 @@
-//! Where each field of each record stands: the one place for the positions of a line in the code.
+//! Where each field of each record stands. No other code has the positions of a line.
 //!
-//! The definitions say them once as well, in `specs/Columns.antt`. Each function that reads a field has a contract in
-//! the words of the definitions, so the check refuses it where the two differ.
+//! The definitions have them as well, in `specs/Columns.antt`. Each function that reads a field has a contract in terms
+//! of the definitions, so the check refuses it where the two differ.
 
 ghost use Rattle.std.specs.Prelude.{◌≡◌, ◌≤◌, ◌<◌, ◌^◌, length, IfSome, IsTrue};
 ghost use Rattle.cwr_field.specs.Number.{number_of};
@@ -17,9 +17,9 @@ use crate::works::{AltTitle, CrossRef, WorkHead};
 use crate::writers::{Link, Writer, WriterTerritory};
 use cwr_field::{Field, cut, digits};
 
-/// Where a field of a line stands: from a position, so many bytes.
+/// Where a field of a line stands: its start and its width.
 ///
-/// Each field of a record has a constant of its own, as [`WorkHead::TITLE`].
+/// Each field of a record has a constant of its own, such as [`WorkHead::TITLE`].
 #[derive(Clone, Copy, Debug, PartialEq, Eq, Hash)]
 pub struct Column {
     /// The position of the field's first byte, counted from 1.
@@ -30,8 +30,8 @@ pub struct Column {
 
 /// The field of a line in a column.
 ///
-/// The column begins at one of the positions 1 to 4096 and has 1 to 150 bytes, as each constant does. A line that is too
-/// short for the field reads as if blanks followed it without end.
+/// The column begins at one of the positions 1 to 4096 and has 1 to 150 bytes, as each constant does. A line that is
+/// too short for the field reads as if it went on in blanks without end.
 #[inline(always)]
 pub fn field_at(line: &[u8], column: Column) -> Field<'_>
     requires { IsTrue (is_in_line column) }

@@ -10,8 +10,8 @@ ghost use Rattle.cwr_record.specs.declared.control.GroupHead.{GroupHead};
 ghost use Rattle.cwr_record.specs.declared.control.GroupTrailer.{GroupTrailer};
 ghost use Rattle.cwr_record.specs.declared.control.FileTrailer.{FileTrailer};
 
+use crate::field_values::FieldValue;
 use crate::line_room::LineRoom;
-use crate::pieces::Piece;
 use crate::record_type::RecordType;
 use crate::slot::{Content, FieldFault, Slot, check, slots};
 use crate::values::{day_at, number_at, text_at, time_at};
@@ -42,20 +42,21 @@ const HEADER: [Slot; 4] = slots! {
     Header::TRANSMISSION_DATE: Content::Day;
 };
 
-/// The file header that a line is.
+/// Reads a file header (HDR) from a line.
 ///
-/// The EDI version and what stands past the character set are not read. An error is the line's least fault.
+/// The EDI version and what stands past the character set are not read. An error is the first field of the line that
+/// cannot be read.
 pub fn read_header(line: &[u8]) -> Result<Header, FieldFault>
     ensures ok { IfOk result (StandsFor table.header line.now) }
     ensures fault { IfErr result (IsLeastFault line.now (checked table.header)) }
-    // What was written is read again.
+    // What was written is read back.
     ensures again { (x : Header) → IsWhole table.header x → line.now ≡ line_of table.header x → result ≡ Ok x }
 {
     check(line, &HEADER)?;
     Ok(header_at(line))
 }
 
-/// The header of a line that was checked.
+/// The header of a line whose fields were checked.
 fn header_at(line: &[u8]) -> Header
     requires { AllByRecursion (IsReadable line.now) (checked table.header) }
     ensures { StandsFor table.header line.now result }
@@ -73,22 +74,22 @@ fn header_at(line: &[u8]) -> Header
 /// The line of a file header, 167 bytes without a line end.
 pub fn header_line(header: &Header) -> LineRoom<167>
     ensures line { result ≡ line_of table.header header.now }
-    // This is what the reader asks of a value that it reads again.
+    // This is what the reader requires of a value that it reads back.
     ensures whole { IsWhole table.header header.now }
 {
     let mut line = LineRoom::<167>::new();
-    line.put(&Piece::Text(b"HDR", RecordType::COLUMN));
-    line.put(&Piece::Text(&header.sender, Header::SENDER));
-    line.put(&Piece::Text(&header.name, Header::NAME));
-    line.put(&Piece::Text(b"01.10", Header::STANDARD_VERSION));
-    line.put(&Piece::Day(header.creation_date));
-    line.put(&Piece::Time(header.creation_time));
-    line.put(&Piece::Day(header.transmission_date));
-    line.put(&Piece::Text(&header.character_set, Header::CHARACTER_SET));
-    line.put(&Piece::Text(b"2.2", Header::VERSION));
-    line.put(&Piece::Text(b"001", Header::REVISION));
-    line.put(&Piece::Text(b"CWR REGISTRY", Header::SOFTWARE_PACKAGE));
-    line.put(&Piece::Text(b"1.0", Header::SOFTWARE_VERSION));
+    line.put(&FieldValue::Text(b"HDR", RecordType::COLUMN));
+    line.put(&FieldValue::Text(&header.sender, Header::SENDER));
+    line.put(&FieldValue::Text(&header.name, Header::NAME));
+    line.put(&FieldValue::Text(b"01.10", Header::STANDARD_VERSION));
+    line.put(&FieldValue::Day(header.creation_date));
+    line.put(&FieldValue::Time(header.creation_time));
+    line.put(&FieldValue::Day(header.transmission_date));
+    line.put(&FieldValue::Text(&header.character_set, Header::CHARACTER_SET));
+    line.put(&FieldValue::Text(b"2.2", Header::VERSION));
+    line.put(&FieldValue::Text(b"001", Header::REVISION));
+    line.put(&FieldValue::Text(b"CWR REGISTRY", Header::SOFTWARE_PACKAGE));
+    line.put(&FieldValue::Text(b"1.0", Header::SOFTWARE_VERSION));
     line
 }
 
@@ -97,10 +98,10 @@ pub fn header_line(header: &Header) -> LineRoom<167>
 /// A refusal leaves the vector as it was.
 pub fn write_header<A: Allocator>(out: &mut Vec<u8, A>, header: &Header) -> Result<(), Memory>
     ensures ok { OnOk result (out.new.items ≡ out.old.items ++ line_of table.header header.now) }
-    // This is what the reader asks of a value that it reads again.
+    // This is what the reader requires of a value that it reads back.
     ensures whole { OnOk result (IsWhole table.header header.now) }
     ensures err { OnErr result (out.new.items ≡ out.old.items) }
-    // Memory is answered only where there was no room for the line.
+    // `Memory` is returned only where there was no room for the line.
     ensures full { OnErr result (vec_capacity out.old < vec_len out.old + 167) }
 {
     out.extend_from_slice(header_line(header).bytes())?;
@@ -127,20 +128,20 @@ const GROUP_HEAD: [Slot; 2] = slots! {
     GroupHead::GROUP: Content::Digits;
 };
 
-/// The group header that a line is.
+/// Reads a group header (GRH) from a line.
 ///
-/// An error is the line's least fault.
+/// An error is the first field of the line that cannot be read.
 pub fn read_group_head(line: &[u8]) -> Result<GroupHead, FieldFault>
     ensures ok { IfOk result (StandsFor table.group_head line.now) }
     ensures fault { IfErr result (IsLeastFault line.now (checked table.group_head)) }
-    // What was written is read again.
+    // What was written is read back.
     ensures again { (x : GroupHead) → IsWhole table.group_head x → line.now ≡ line_of table.group_head x → result ≡ Ok x }
 {
     check(line, &GROUP_HEAD)?;
     Ok(group_head_at(line))
 }
 
-/// The group header of a line that was checked.
+/// The group header of a line whose fields were checked.
 fn group_head_at(line: &[u8]) -> GroupHead
     requires { AllByRecursion (IsReadable line.now) (checked table.group_head) }
     ensures { StandsFor table.group_head line.now result }
@@ -160,16 +161,16 @@ fn group_head_at(line: &[u8]) -> GroupHead
 pub fn group_head_line(head: &GroupHead) -> LineRoom<28>
     requires { Fits table.group_head head.now }
     ensures line { result ≡ line_of table.group_head head.now }
-    // This is what the reader asks of a value that it reads again.
+    // This is what the reader requires of a value that it reads back.
     ensures whole { IsWhole table.group_head head.now }
 {
     let mut line = LineRoom::<28>::new();
-    line.put(&Piece::Text(b"GRH", RecordType::COLUMN));
-    line.put(&Piece::Text(&head.transaction_type, GroupHead::TRANSACTION_TYPE));
-    line.put(&Piece::Digits(head.group as u64, GroupHead::GROUP));
-    line.put(&Piece::Text(&head.version, GroupHead::VERSION));
-    line.put(&Piece::Text(&head.batch_request, GroupHead::BATCH_REQUEST));
-    line.put(&Piece::Text(&head.submission_type, GroupHead::SUBMISSION_TYPE));
+    line.put(&FieldValue::Text(b"GRH", RecordType::COLUMN));
+    line.put(&FieldValue::Text(&head.transaction_type, GroupHead::TRANSACTION_TYPE));
+    line.put(&FieldValue::Digits(head.group as u64, GroupHead::GROUP));
+    line.put(&FieldValue::Text(&head.version, GroupHead::VERSION));
+    line.put(&FieldValue::Text(&head.batch_request, GroupHead::BATCH_REQUEST));
+    line.put(&FieldValue::Text(&head.submission_type, GroupHead::SUBMISSION_TYPE));
     line
 }
 
@@ -179,10 +180,10 @@ pub fn group_head_line(head: &GroupHead) -> LineRoom<28>
 pub fn write_group_head<A: Allocator>(out: &mut Vec<u8, A>, head: &GroupHead) -> Result<(), Memory>
     requires { Fits table.group_head head.now }
     ensures ok { OnOk result (out.new.items ≡ out.old.items ++ line_of table.group_head head.now) }
-    // This is what the reader asks of a value that it reads again.
+    // This is what the reader requires of a value that it reads back.
     ensures whole { OnOk result (IsWhole table.group_head head.now) }
     ensures err { OnErr result (out.new.items ≡ out.old.items) }
-    // Memory is answered only where there was no room for the line.
+    // `Memory` is returned only where there was no room for the line.
     ensures full { OnErr result (vec_capacity out.old < vec_len out.old + 28) }
 {
     out.extend_from_slice(group_head_line(head).bytes())?;
@@ -207,20 +208,20 @@ const GROUP_TRAILER: [Slot; 4] = slots! {
     GroupTrailer::RECORDS: Content::Digits;
 };
 
-/// The group trailer that a line is.
+/// Reads a group trailer (GRT) from a line.
 ///
-/// What stands past the record count is not read. An error is the line's least fault.
+/// What stands past the record count is not read. An error is the first field of the line that cannot be read.
 pub fn read_group_trailer(line: &[u8]) -> Result<GroupTrailer, FieldFault>
     ensures ok { IfOk result (StandsFor table.group_trailer line.now) }
     ensures fault { IfErr result (IsLeastFault line.now (checked table.group_trailer)) }
-    // What was written is read again.
+    // What was written is read back.
     ensures again { (x : GroupTrailer) → IsWhole table.group_trailer x → line.now ≡ line_of table.group_trailer x → result ≡ Ok x }
 {
     check(line, &GROUP_TRAILER)?;
     Ok(group_trailer_at(line))
 }
 
-/// The group trailer of a line that was checked.
+/// The group trailer of a line whose fields were checked.
 fn group_trailer_at(line: &[u8]) -> GroupTrailer
     requires { AllByRecursion (IsReadable line.now) (checked table.group_trailer) }
     ensures { StandsFor table.group_trailer line.now result }
@@ -238,15 +239,15 @@ fn group_trailer_at(line: &[u8]) -> GroupTrailer
 pub fn group_trailer_line(trailer: &GroupTrailer) -> LineRoom<37>
     requires { Fits table.group_trailer trailer.now }
     ensures line { result ≡ line_of table.group_trailer trailer.now }
-    // This is what the reader asks of a value that it reads again.
+    // This is what the reader requires of a value that it reads back.
     ensures whole { IsWhole table.group_trailer trailer.now }
 {
     let mut line = LineRoom::<37>::new();
-    line.put(&Piece::Text(b"GRT", RecordType::COLUMN));
-    line.put(&Piece::Digits(trailer.group as u64, GroupTrailer::GROUP));
-    line.put(&Piece::Digits(trailer.transactions as u64, GroupTrailer::TRANSACTIONS));
-    line.put(&Piece::Digits(trailer.records as u64, GroupTrailer::RECORDS));
-    line.put(&Piece::Text(b"", GroupTrailer::MONETARY_VALUE));
+    line.put(&FieldValue::Text(b"GRT", RecordType::COLUMN));
+    line.put(&FieldValue::Digits(trailer.group as u64, GroupTrailer::GROUP));
+    line.put(&FieldValue::Digits(trailer.transactions as u64, GroupTrailer::TRANSACTIONS));
+    line.put(&FieldValue::Digits(trailer.records as u64, GroupTrailer::RECORDS));
+    line.put(&FieldValue::Text(b"", GroupTrailer::MONETARY_VALUE));
     line
 }
 
@@ -259,10 +260,10 @@ pub fn write_group_trailer<A: Allocator>(
 ) -> Result<(), Memory>
     requires { Fits table.group_trailer trailer.now }
     ensures ok { OnOk result (out.new.items ≡ out.old.items ++ line_of table.group_trailer trailer.now) }
-    // This is what the reader asks of a value that it reads again.
+    // This is what the reader requires of a value that it reads back.
     ensures whole { OnOk result (IsWhole table.group_trailer trailer.now) }
     ensures err { OnErr result (out.new.items ≡ out.old.items) }
-    // Memory is answered only where there was no room for the line.
+    // `Memory` is returned only where there was no room for the line.
     ensures full { OnErr result (vec_capacity out.old < vec_len out.old + 37) }
 {
     out.extend_from_slice(group_trailer_line(trailer).bytes())?;
@@ -287,20 +288,20 @@ const FILE_TRAILER: [Slot; 4] = slots! {
     FileTrailer::RECORDS: Content::Digits;
 };
 
-/// The file trailer that a line is.
+/// Reads a file trailer (TRL) from a line.
 ///
-/// An error is the line's least fault.
+/// An error is the first field of the line that cannot be read.
 pub fn read_file_trailer(line: &[u8]) -> Result<FileTrailer, FieldFault>
     ensures ok { IfOk result (StandsFor table.file_trailer line.now) }
     ensures fault { IfErr result (IsLeastFault line.now (checked table.file_trailer)) }
-    // What was written is read again.
+    // What was written is read back.
     ensures again { (x : FileTrailer) → IsWhole table.file_trailer x → line.now ≡ line_of table.file_trailer x → result ≡ Ok x }
 {
     check(line, &FILE_TRAILER)?;
     Ok(file_trailer_at(line))
 }
 
-/// The file trailer of a line that was checked.
+/// The file trailer of a line whose fields were checked.
 fn file_trailer_at(line: &[u8]) -> FileTrailer
     requires { AllByRecursion (IsReadable line.now) (checked table.file_trailer) }
     ensures { StandsFor table.file_trailer line.now result }
@@ -318,14 +319,14 @@ fn file_trailer_at(line: &[u8]) -> FileTrailer
 pub fn file_trailer_line(trailer: &FileTrailer) -> LineRoom<24>
     requires { Fits table.file_trailer trailer.now }
     ensures line { result ≡ line_of table.file_trailer trailer.now }
-    // This is what the reader asks of a value that it reads again.
+    // This is what the reader requires of a value that it reads back.
     ensures whole { IsWhole table.file_trailer trailer.now }
 {
     let mut line = LineRoom::<24>::new();
-    line.put(&Piece::Text(b"TRL", RecordType::COLUMN));
-    line.put(&Piece::Digits(trailer.groups as u64, FileTrailer::GROUPS));
-    line.put(&Piece::Digits(trailer.transactions as u64, FileTrailer::TRANSACTIONS));
-    line.put(&Piece::Digits(trailer.records as u64, FileTrailer::RECORDS));
+    line.put(&FieldValue::Text(b"TRL", RecordType::COLUMN));
+    line.put(&FieldValue::Digits(trailer.groups as u64, FileTrailer::GROUPS));
+    line.put(&FieldValue::Digits(trailer.transactions as u64, FileTrailer::TRANSACTIONS));
+    line.put(&FieldValue::Digits(trailer.records as u64, FileTrailer::RECORDS));
     line
 }
 
@@ -338,10 +339,10 @@ pub fn write_file_trailer<A: Allocator>(
 ) -> Result<(), Memory>
     requires { Fits table.file_trailer trailer.now }
     ensures ok { OnOk result (out.new.items ≡ out.old.items ++ line_of table.file_trailer trailer.now) }
-    // This is what the reader asks of a value that it reads again.
+    // This is what the reader requires of a value that it reads back.
     ensures whole { OnOk result (IsWhole table.file_trailer trailer.now) }
     ensures err { OnErr result (out.new.items ≡ out.old.items) }
-    // Memory is answered only where there was no room for the line.
+    // `Memory` is returned only where there was no room for the line.
     ensures full { OnErr result (vec_capacity out.old < vec_len out.old + 24) }
 {
     out.extend_from_slice(file_trailer_line(trailer).bytes())?;

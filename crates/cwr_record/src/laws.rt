@@ -1,4 +1,4 @@
-//! What the fields of a line are that stands for a record: the layouts and what reads single fields agree.
+//! Laws about the fields of a line that stands for a record: the layouts agree with the calls that read single fields.
 //!
 //! A law is a function that does nothing. Its contract is what is proved.
 
@@ -20,32 +20,32 @@ ghost use Rattle.cwr_record.specs.declared.writers.Link.{Link};
 use crate::control::{GroupTrailer, Header};
 use crate::publishers::PublisherTerritory;
 
-/// Of a line that stands for a registration's head, the record type is that of its kind.
+/// In a line that stands for a registration's head, the record type is that of its kind.
 pub fn heads_are_named()
     ensures { (line : List ℕ) (x : WorkHead) → StandsFor works.work_head line x → type_of line ≡ type_of_work x.kind }
 {}
 
-/// Of a line that stands for a publisher or for a writer, the record type, the party and the ownership shares, read
-/// alone, are those of the publisher or the writer.
+/// In a line that stands for a publisher or for a writer, the calls that read single fields give its record type, party
+/// and ownership shares.
 pub fn owners_are_read()
     ensures publisher { (line : List ℕ) (x : Publisher) → StandsFor publishers.publisher line x → IsLineOfPublisher line x }
     ensures writer { (line : List ℕ) (x : Writer) → StandsFor writers.writer line x → IsLineOfWriter line x }
 {}
 
-/// Of a line that stands for a territory of either, the record type, the party, the collection shares, the indicator and
-/// the territory, read alone, are those of the territory.
+/// In a line that stands for a territory of either, the calls that read single fields give its record type, party,
+/// collection shares, indicator and territory.
 pub fn territories_are_read()
     ensures publisher { (line : List ℕ) (x : PublisherTerritory) → StandsFor publishers.publisher_territory line x → IsLineOfPublisherTerritory line x }
     ensures writer { (line : List ℕ) (x : WriterTerritory) → StandsFor writers.writer_territory line x → IsLineOfWriterTerritory line x }
 {}
 
-/// Of a line that stands for a writer's publisher, the record type and the publisher's party, read alone, are its own.
+/// In a line that stands for a writer's publisher, the calls that read single fields give its record type and the
+/// publisher's party.
 pub fn links_are_read()
     ensures { (line : List ℕ) (x : Link) → StandsFor writers.link line x → IsLineOfLink line x }
 {}
 
-/// The columns of the code that no reader names are those of the definitions, too: their texts are written and never
-/// read.
+/// The columns that no reader names are those of the definitions, too. The texts in them are written and never read.
 pub fn written_columns_are_the_same()
     ensures standard_version { Header.STANDARD_VERSION ≡ columns.header_standard_version }
     ensures version { Header.VERSION ≡ columns.header_version }

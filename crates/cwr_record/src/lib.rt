@@ -1,6 +1,6 @@
 //! The records of CWR 2.2 (Common Works Registration, CISAC): what each line of a file says, read and written.
 //!
-//! A line here is a record without its line end. [`type_of`] tells its [`RecordType`]. Each type with a layout has a
+//! A line here is a record without its line end. [`type_of`] gives its [`RecordType`]. Each type with a layout has a
 //! struct with the layout's fields, a reader and a writer:
 //!
 //! - control records: [`Header`] (HDR), [`GroupHead`] (GRH), [`GroupTrailer`] (GRT), [`FileTrailer`] (TRL);
@@ -10,32 +10,33 @@
 //! - an acknowledgement: [`Ack`] (ACK), [`Message`] (MSG), and the [`Stamp`] of who acknowledges.
 //!
 //! A reader gives the value that the line stands for, or the least [`FieldFault`]: of the fields that cannot be read,
-//! the one that starts first. What a layout does not name is not read, and a line that is too short reads as if
-//! blanks followed it. A writer appends the line, or leaves the vector as it was where memory is refused. A line that
-//! was written is read as the value that was written.
+//! the one that starts first. What a layout does not name is not read. A line that is too short reads as if blanks
+//! followed it. A writer appends the line, or leaves the vector as it was where memory is refused. A line that was
+//! written is read as the value that was written.
 //!
-//! Where a field stands is a [`Column`]: each struct has one for each of its fields, as [`WorkHead::TITLE`], and
-//! [`field_at`] gives what a line has there, and [`digits_at`] the number, whatever its other fields hold. [`party_of`], [`publisher_of`],
-//! [`ownership_of`], [`collection_of`], [`indicator_of`] and [`territory_of`] read by it what each type of record has in
-//! columns of its own. None of these takes memory.
+//! Where a field stands is a [`Column`]: each struct has one for each of its fields, such as [`WorkHead::TITLE`].
+//! [`field_at`] gives what a line has in a column, and [`digits_at`] the number there, whatever the other fields hold.
+//! [`party_of`], [`publisher_of`], [`ownership_of`], [`collection_of`], [`indicator_of`] and [`territory_of`] read
+//! single fields whose columns differ between record types. None of these takes memory.
 //!
 //! Positions are bytes counted from 1, and a blank is byte 32. A text is an array of its field's width, blanks
 //! included. A share is in hundredths of one per cent, so that 10000 is the whole.
 //!
 //! The layouts stand in `specs/`, one table for each struct, which names the columns of `specs/Columns.antt`. There
 //! `StandsFor table line x` says that each field of the line is that part of `x`, `IsLeastFault` which fault is
-//! answered, and `line_of table x` is the line written. Any other layout can be told in the same words, by a table of its
-//! own: [`field_at`] reads its fields, and [`put_line`] writes a line of [`Piece`]s. [`laws`] says that the tables and the readers of single fields
-//! agree.
+//! returned, and `line_of table x` is the line written.
+//!
+//! Any other layout can be described in the same way, by a table of its own: [`field_at`] reads its fields, and
+//! [`put_line`] writes a line of [`FieldValue`]s. [`laws`] says that the tables and the readers of single fields agree.
 #![tactic(auto)]
 
 mod acknowledgement;
 mod columns;
 mod control;
+mod field_values;
 pub mod laws;
 mod line_room;
 mod parties;
-mod pieces;
 mod prefix;
 mod publishers;
 mod record_type;
@@ -56,11 +57,11 @@ pub use control::{
     read_header, write_file_trailer, write_group_head, write_group_trailer, write_header,
 };
 pub use cwr_field::{Clock, Day, Field, Memory};
+pub use field_values::{FieldValue, put_line};
 pub use line_room::LineRoom;
 pub use parties::{
     collection_of, indicator_of, ownership_of, party_of, publisher_of, territory_of,
 };
-pub use pieces::{Piece, put_line};
 pub use prefix::Prefix;
 pub use publishers::{
     Publisher, PublisherKind, PublisherTerritory, read_publisher, read_publisher_territory,

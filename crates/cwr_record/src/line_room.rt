@@ -1,9 +1,9 @@
 //! A line of known length that is put together field by field.
 
 ghost use Rattle.std.specs.Prelude.{◌≡◌, ℕ, List, ◌++◌, [], ◌≤◌, ◌+◌, length};
-ghost use Rattle.cwr_record.specs.Pieces.{piece_text, piece_width, FitsPiece, IsDated};
+ghost use Rattle.cwr_record.specs.FieldValues.{field_value_text, field_value_width, FitsField, IsDated};
 
-use crate::pieces::{Piece, fill_piece, width_of};
+use crate::field_values::{FieldValue, fill_field_value, width_of};
 use std::marker::Model;
 
 /// A line of at most `N` bytes that is put together field by field, in memory of its own.
@@ -37,20 +37,20 @@ impl<const N: usize> LineRoom<N> {
         }
     }
 
-    /// Appends a field, for which there is room.
+    /// Appends a field. There must be room for it.
     #[inline(always)]
-    pub fn put(&mut self, piece: &Piece)
-        requires fits { FitsPiece piece.now }
-        requires room { length self.old + piece_width piece.now ≤ N }
-        ensures text { self.new ≡ self.old ++ piece_text piece.now }
-        // The same, with what is put behind it.
-        ensures before { (behind : List ℕ) → self.new ++ behind ≡ self.old ++ (piece_text piece.now ++ behind) }
-        ensures dated { IsDated piece.now }
+    pub fn put(&mut self, field_value: &FieldValue)
+        requires fits { FitsField field_value.now }
+        requires room { length self.old + field_value_width field_value.now ≤ N }
+        ensures text { self.new ≡ self.old ++ field_value_text field_value.now }
+        // The same, with any bytes behind it.
+        ensures before { (behind : List ℕ) → self.new ++ behind ≡ self.old ++ (field_value_text field_value.now ++ behind) }
+        ensures dated { IsDated field_value.now }
     {
         let start = self.end;
-        let end = start + width_of(piece);
+        let end = start + width_of(field_value);
         let bytes = &mut self.bytes[..];
-        fill_piece(&mut bytes[start..end], piece);
+        fill_field_value(&mut bytes[start..end], field_value);
         self.end = end;
     }
 

@@ -111,8 +111,10 @@ pub fn indicator_of(line: &[u8], record_type: RecordType) -> u8
     field_at(line, column).byte(0)
 }
 
-/// The territory (TIS) of an SPT or SWT line of that type: the number of the one to four digits that remain of its
-/// field once blanks before and after are removed, or `None` where anything else remains.
+/// The territory (TIS) of an SPT or SWT line of that type, as a number.
+///
+/// It is the number of the one to four digits that remain of its field once blanks before and after are removed. `None`
+/// where anything else remains.
 #[inline(always)]
 pub fn territory_of(line: &[u8], record_type: RecordType) -> Option<u16>
     requires { IsTrue (has_collection record_type) }
@@ -138,7 +140,7 @@ fn territory_at(line: &[u8], column: Column) -> Option<u16>
     }
 }
 
-/// The territory that four bytes name, blanks before and after it.
+/// The territory that four bytes name, with blanks before and after it.
 #[inline(never)]
 fn spaced_code(code: [u8; 4]) -> Option<u16>
     ensures { result ≡ territory_of code }
@@ -146,7 +148,7 @@ fn spaced_code(code: [u8; 4]) -> Option<u16>
     some_number(without_trailing(without_leading(&code)))
 }
 
-/// The bytes from the first that is no blank.
+/// The bytes from the first one that is not a blank.
 fn without_leading(mut text: &[u8]) -> &[u8]
     ensures value { result.now ≡ without_leading text.entry.now }
     ensures shorter { length result.now ≤ length text.entry.now }
@@ -157,7 +159,7 @@ fn without_leading(mut text: &[u8]) -> &[u8]
     text
 }
 
-/// The bytes up to the last that is no blank.
+/// The bytes up to the last one that is not a blank.
 fn without_trailing(mut text: &[u8]) -> &[u8]
     ensures value { result.now ≡ without_trailing text.entry.now }
     ensures shorter { length result.now ≤ length text.entry.now }
@@ -168,7 +170,7 @@ fn without_trailing(mut text: &[u8]) -> &[u8]
     text
 }
 
-/// The number that digits spell, of which there is at least one.
+/// The number that one or more digits spell; `None` for no bytes, and where a byte is not a digit.
 fn some_number(text: &[u8]) -> Option<u16>
     requires { length text.now ≤ 4 }
     ensures { result ≡ some_number text.now }

@@ -11,7 +11,7 @@ ghost use Rattle.cwr_record.specs.Publishers as table;
 ghost use Rattle.cwr_record.specs.declared.publishers.Publisher.{Publisher};
 ghost use Rattle.cwr_record.specs.declared.publishers.PublisherTerritory.{PublisherTerritory};
 
-use crate::pieces::{Piece, put_line};
+use crate::field_values::{FieldValue, put_line};
 use crate::prefix::Prefix;
 use crate::record_type::RecordType;
 use crate::slot::{Content, FieldFault, Slot, check, slots};
@@ -85,7 +85,8 @@ pub struct Publisher {
     pub mechanical_ownership: u16,
     /// Society of the synchronization right, at [`Publisher::SYNCHRONIZATION_SOCIETY`].
     pub synchronization_society: [u8; 3],
-    /// Ownership share of the synchronization right, at [`Publisher::SYNCHRONIZATION_OWNERSHIP`], in hundredths of one per cent.
+    /// Ownership share of the synchronization right, at [`Publisher::SYNCHRONIZATION_OWNERSHIP`], in hundredths of one
+    /// per cent.
     pub synchronization_ownership: u16,
 }
 
@@ -98,20 +99,20 @@ const PUBLISHER: [Slot; 6] = slots! {
     Publisher::SYNCHRONIZATION_OWNERSHIP: Content::Share;
 };
 
-/// The publisher that a line is.
+/// Reads a publisher (SPU or OPU) from a line.
 ///
-/// An error is the line's least fault.
+/// An error is the first field of the line that cannot be read.
 pub fn read_publisher(line: &[u8]) -> Result<Publisher, FieldFault>
     ensures ok { IfOk result (StandsFor table.publisher line.now) }
     ensures fault { IfErr result (IsLeastFault line.now (checked table.publisher)) }
-    // What was written is read again.
+    // What was written is read back.
     ensures again { (x : Publisher) → IsWhole table.publisher x → line.now ≡ line_of table.publisher x → result ≡ Ok x }
 {
     check(line, &PUBLISHER)?;
     Ok(publisher_at(line))
 }
 
-/// The publisher of a line that was checked.
+/// The publisher of a line whose fields were checked.
 fn publisher_at(line: &[u8]) -> Publisher
     requires { AllByRecursion (IsReadable line.now) (checked table.publisher) }
     ensures { StandsFor table.publisher line.now result }
@@ -148,38 +149,38 @@ pub fn write_publisher<A: Allocator>(
 ) -> Result<(), Memory>
     requires { Fits table.publisher publisher.now }
     ensures ok { OnOk result (out.new.items ≡ out.old.items ++ line_of table.publisher publisher.now) }
-    // This is what the reader asks of a value that it reads again.
+    // This is what the reader requires of a value that it reads back.
     ensures whole { OnOk result (IsWhole table.publisher publisher.now) }
     ensures err { OnErr result (out.new.items ≡ out.old.items) }
-    // Memory is answered only where there was no room for the line.
+    // `Memory` is returned only where there was no room for the line.
     ensures full { OnErr result (vec_capacity out.old < vec_len out.old + 136) }
 {
     put_line(
         out,
         &[
-            Piece::Text(publisher.kind.code(), RecordType::COLUMN),
-            Piece::Digits(publisher.prefix.transaction as u64, Prefix::TRANSACTION),
-            Piece::Digits(publisher.prefix.detail as u64, Prefix::DETAIL),
-            Piece::Text(&publisher.sequence, Publisher::SEQUENCE),
-            Piece::Text(&publisher.party, Publisher::PARTY),
-            Piece::Text(&publisher.name, Publisher::NAME),
-            Piece::Text(&publisher.unknown_indicator, Publisher::UNKNOWN_INDICATOR),
-            Piece::Text(&publisher.publisher_type, Publisher::PUBLISHER_TYPE),
-            Piece::Text(&publisher.tax_id, Publisher::TAX_ID),
-            Piece::Text(&publisher.ipi_name_number, Publisher::IPI_NAME_NUMBER),
-            Piece::Text(
+            FieldValue::Text(publisher.kind.code(), RecordType::COLUMN),
+            FieldValue::Digits(publisher.prefix.transaction as u64, Prefix::TRANSACTION),
+            FieldValue::Digits(publisher.prefix.detail as u64, Prefix::DETAIL),
+            FieldValue::Text(&publisher.sequence, Publisher::SEQUENCE),
+            FieldValue::Text(&publisher.party, Publisher::PARTY),
+            FieldValue::Text(&publisher.name, Publisher::NAME),
+            FieldValue::Text(&publisher.unknown_indicator, Publisher::UNKNOWN_INDICATOR),
+            FieldValue::Text(&publisher.publisher_type, Publisher::PUBLISHER_TYPE),
+            FieldValue::Text(&publisher.tax_id, Publisher::TAX_ID),
+            FieldValue::Text(&publisher.ipi_name_number, Publisher::IPI_NAME_NUMBER),
+            FieldValue::Text(
                 &publisher.submitter_agreement,
                 Publisher::SUBMITTER_AGREEMENT,
             ),
-            Piece::Text(&publisher.performing_society, Publisher::PERFORMING_SOCIETY),
-            Piece::Share(publisher.performing_ownership),
-            Piece::Text(&publisher.mechanical_society, Publisher::MECHANICAL_SOCIETY),
-            Piece::Share(publisher.mechanical_ownership),
-            Piece::Text(
+            FieldValue::Text(&publisher.performing_society, Publisher::PERFORMING_SOCIETY),
+            FieldValue::Share(publisher.performing_ownership),
+            FieldValue::Text(&publisher.mechanical_society, Publisher::MECHANICAL_SOCIETY),
+            FieldValue::Share(publisher.mechanical_ownership),
+            FieldValue::Text(
                 &publisher.synchronization_society,
                 Publisher::SYNCHRONIZATION_SOCIETY,
             ),
-            Piece::Share(publisher.synchronization_ownership),
+            FieldValue::Share(publisher.synchronization_ownership),
         ],
     )
 }
@@ -191,11 +192,14 @@ pub struct PublisherTerritory {
     pub prefix: Prefix,
     /// Interested party number, at [`PublisherTerritory::PARTY`].
     pub party: [u8; 9],
-    /// Collection share of the performing right, at [`PublisherTerritory::PERFORMING_COLLECTION`], in hundredths of one per cent.
+    /// Collection share of the performing right, at [`PublisherTerritory::PERFORMING_COLLECTION`], in hundredths of one
+    /// per cent.
     pub performing_collection: u16,
-    /// Collection share of the mechanical right, at [`PublisherTerritory::MECHANICAL_COLLECTION`], in hundredths of one per cent.
+    /// Collection share of the mechanical right, at [`PublisherTerritory::MECHANICAL_COLLECTION`], in hundredths of one
+    /// per cent.
     pub mechanical_collection: u16,
-    /// Collection share of the synchronization right, at [`PublisherTerritory::SYNCHRONIZATION_COLLECTION`], in hundredths of one per cent.
+    /// Collection share of the synchronization right, at [`PublisherTerritory::SYNCHRONIZATION_COLLECTION`], in
+    /// hundredths of one per cent.
     pub synchronization_collection: u16,
     /// Inclusion or exclusion indicator, at [`PublisherTerritory::INDICATOR`].
     pub indicator: [u8; 1],
@@ -216,20 +220,21 @@ const PUBLISHER_TERRITORY: [Slot; 6] = slots! {
     PublisherTerritory::SYNCHRONIZATION_COLLECTION: Content::Share;
 };
 
-/// The publisher's territory that a line is.
+/// Reads a publisher's territory (SPT) from a line.
 ///
-/// What stands between the party and the shares is not read. An error is the line's least fault.
+/// What stands between the party and the shares is not read. An error is the first field of the line that cannot be
+/// read.
 pub fn read_publisher_territory(line: &[u8]) -> Result<PublisherTerritory, FieldFault>
     ensures ok { IfOk result (StandsFor table.publisher_territory line.now) }
     ensures fault { IfErr result (IsLeastFault line.now (checked table.publisher_territory)) }
-    // What was written is read again.
+    // What was written is read back.
     ensures again { (x : PublisherTerritory) → IsWhole table.publisher_territory x → line.now ≡ line_of table.publisher_territory x → result ≡ Ok x }
 {
     check(line, &PUBLISHER_TERRITORY)?;
     Ok(publisher_territory_at(line))
 }
 
-/// The publisher's territory of a line that was checked.
+/// The publisher's territory of a line whose fields were checked.
 fn publisher_territory_at(line: &[u8]) -> PublisherTerritory
     requires { AllByRecursion (IsReadable line.now) (checked table.publisher_territory) }
     ensures { StandsFor table.publisher_territory line.now result }
@@ -259,27 +264,27 @@ pub fn write_publisher_territory<A: Allocator>(
 ) -> Result<(), Memory>
     requires { Fits table.publisher_territory territory.now }
     ensures ok { OnOk result (out.new.items ≡ out.old.items ++ line_of table.publisher_territory territory.now) }
-    // This is what the reader asks of a value that it reads again.
+    // This is what the reader requires of a value that it reads back.
     ensures whole { OnOk result (IsWhole table.publisher_territory territory.now) }
     ensures err { OnErr result (out.new.items ≡ out.old.items) }
-    // Memory is answered only where there was no room for the line.
+    // `Memory` is returned only where there was no room for the line.
     ensures full { OnErr result (vec_capacity out.old < vec_len out.old + 58) }
 {
     put_line(
         out,
         &[
-            Piece::Text(b"SPT", RecordType::COLUMN),
-            Piece::Digits(territory.prefix.transaction as u64, Prefix::TRANSACTION),
-            Piece::Digits(territory.prefix.detail as u64, Prefix::DETAIL),
-            Piece::Text(&territory.party, PublisherTerritory::PARTY),
-            Piece::Text(b"", PublisherTerritory::CONSTANT),
-            Piece::Share(territory.performing_collection),
-            Piece::Share(territory.mechanical_collection),
-            Piece::Share(territory.synchronization_collection),
-            Piece::Text(&territory.indicator, PublisherTerritory::INDICATOR),
-            Piece::Text(&territory.territory, PublisherTerritory::TERRITORY),
-            Piece::Text(&territory.shares_change, PublisherTerritory::SHARES_CHANGE),
-            Piece::Text(&territory.sequence, PublisherTerritory::SEQUENCE),
+            FieldValue::Text(b"SPT", RecordType::COLUMN),
+            FieldValue::Digits(territory.prefix.transaction as u64, Prefix::TRANSACTION),
+            FieldValue::Digits(territory.prefix.detail as u64, Prefix::DETAIL),
+            FieldValue::Text(&territory.party, PublisherTerritory::PARTY),
+            FieldValue::Text(b"", PublisherTerritory::CONSTANT),
+            FieldValue::Share(territory.performing_collection),
+            FieldValue::Share(territory.mechanical_collection),
+            FieldValue::Share(territory.synchronization_collection),
+            FieldValue::Text(&territory.indicator, PublisherTerritory::INDICATOR),
+            FieldValue::Text(&territory.territory, PublisherTerritory::TERRITORY),
+            FieldValue::Text(&territory.shares_change, PublisherTerritory::SHARES_CHANGE),
+            FieldValue::Text(&territory.sequence, PublisherTerritory::SEQUENCE),
         ],
     )
 }

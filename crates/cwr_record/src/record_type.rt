@@ -7,7 +7,7 @@ ghost use Rattle.cwr_record.specs.Parties.{has_ownership, has_collection};
 
 use crate::columns::field_at;
 
-/// The type of a record, which the first three bytes of its line name: [`RecordType::COLUMN`].
+/// The type of a record. The first three bytes of its line name it: [`RecordType::COLUMN`].
 #[derive(Clone, Copy, Debug, PartialEq, Eq, Hash)]
 pub enum RecordType {
     /// HDR, Transmission Header.
@@ -46,7 +46,7 @@ pub enum RecordType {
     Other,
     /// Any other three capitals, from A to Z: a record that is carried along unread.
     Carried,
-    /// No type: one of the three bytes is no capital, or the line is too short.
+    /// No type: one of the three bytes is not a capital, or the line is too short.
     Bad,
 }
 
@@ -69,7 +69,7 @@ impl RecordType {
     }
 }
 
-/// The type of the record that a line is.
+/// The type of the record that a line has.
 #[inline(always)]
 pub fn type_of(line: &[u8]) -> RecordType
     ensures { result ≡ type_of line.now }
@@ -114,7 +114,7 @@ pub fn type_of(line: &[u8]) -> RecordType
     }
 }
 
-/// Three bytes as one number, the first of them the highest.
+/// Three bytes as one number, the first of them the most significant.
 fn packed(name: &[u8; 3]) -> u32
     ensures { result ≡ slice_index name.now 0 * 65536 + slice_index name.now 1 * 256 + slice_index name.now 2 }
 {

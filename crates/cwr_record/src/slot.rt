@@ -13,13 +13,13 @@ const NO_DAY: [u8; 8] = *b"00000000";
 
 /// The first field of a line that cannot be read.
 ///
-/// Of several such fields it is the one of least start.
+/// Of several such fields it is the one with the least start.
 #[derive(Clone, Copy, Debug, PartialEq, Eq, Hash)]
 pub struct FieldFault {
     /// The position of the field's first byte, counted from 1.
     pub start: usize,
-    /// What is wrong: 1 not digits, 2 not a share, 3 not a date, 4 not a time, 5 a wrong work code (ISWC),
-    /// 6 another record type (then `start` is 1).
+    /// What is wrong with it: 1 not digits, 2 not a share, 3 not a date, 4 not a time, 5 a wrong work code (ISWC). 6 is
+    /// another record type; then `start` is 1.
     pub number: u8,
 }
 
@@ -68,7 +68,7 @@ pub(crate) struct Slot {
     pub(crate) content: Content,
 }
 
-/// The slots of a layout, one a line: `column: content;`.
+/// The slots of a layout, each on a line: `column: content;`.
 macro_rules! slots {
     ($($column:path: $content:expr;)*) => {
         [$(Slot { column: $column, content: $content }),*]

@@ -32,7 +32,7 @@ impl Model for Stamp {
 }
 
 impl Stamp {
-    /// A stamp of these parts; the name is filled with blanks to 45 bytes.
+    /// A stamp with these parts. The name is filled with blanks to 45 bytes.
     ///
     /// `None` exactly where the society is above 999, or the name is longer than 45 bytes or has a byte below 32.
     pub fn new(society: u16, name: &[u8], date: Day, time: Clock) -> Option<Stamp>

@@ -96,7 +96,7 @@ pub(crate) fn code_at(line: &[u8], column: Column) -> Option<u64>
     }
 }
 
-/// Whether the record type is the first of two, of which it is one.
+/// Whether the record type of a line is `first`. It is known to be `first` or `second`.
 pub(crate) fn is_first(line: &[u8], first: [u8; 3], second: [u8; 3]) -> bool
     requires { IsSome (value_of (content.OneOf first second) (field_at line.now every_record_type)) }
     ensures { value_of (content.OneOf first second) (field_at line.now every_record_type) ≡ Some (Bytes (if result then first else second)) }

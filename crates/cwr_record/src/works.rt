@@ -13,7 +13,7 @@ ghost use Rattle.cwr_record.specs.declared.works.AltTitle.{AltTitle};
 ghost use Rattle.cwr_record.specs.declared.works.CrossRef.{CrossRef};
 
 use crate::columns::field_at;
-use crate::pieces::{Piece, put_line};
+use crate::field_values::{FieldValue, put_line};
 use crate::prefix::Prefix;
 use crate::record_type::RecordType;
 use crate::slot::{Content, FieldFault, Slot, check, slots};
@@ -115,20 +115,20 @@ const WORK_HEAD: [Slot; 6] = slots! {
     WorkHead::DURATION: Content::OptionalTime;
 };
 
-/// The registration's head that a line is.
+/// Reads the head of a registration (NWR or REV) from a line.
 ///
-/// An error is the line's least fault.
+/// An error is the first field of the line that cannot be read.
 pub fn read_work_head(line: &[u8]) -> Result<WorkHead, FieldFault>
     ensures ok { IfOk result (StandsFor table.work_head line.now) }
     ensures fault { IfErr result (IsLeastFault line.now (checked table.work_head)) }
-    // What was written is read again.
+    // What was written is read back.
     ensures again { (x : WorkHead) → IsWhole table.work_head x → line.now ≡ line_of table.work_head x → result ≡ Ok x }
 {
     check(line, &WORK_HEAD)?;
     Ok(work_head_at(line))
 }
 
-/// The registration's head of a line that was checked.
+/// The registration's head of a line whose fields were checked.
 fn work_head_at(line: &[u8]) -> WorkHead
     requires { AllByRecursion (IsReadable line.now) (checked table.work_head) }
     ensures { StandsFor table.work_head line.now result }
@@ -165,38 +165,38 @@ fn work_head_at(line: &[u8]) -> WorkHead
 pub fn write_work_head<A: Allocator>(out: &mut Vec<u8, A>, head: &WorkHead) -> Result<(), Memory>
     requires { Fits table.work_head head.now }
     ensures ok { OnOk result (out.new.items ≡ out.old.items ++ line_of table.work_head head.now) }
-    // This is what the reader asks of a value that it reads again.
+    // This is what the reader requires of a value that it reads back.
     ensures whole { OnOk result (IsWhole table.work_head head.now) }
     ensures err { OnErr result (out.new.items ≡ out.old.items) }
-    // Memory is answered only where there was no room for the line.
+    // `Memory` is returned only where there was no room for the line.
     ensures full { OnErr result (vec_capacity out.old < vec_len out.old + 194) }
 {
     put_line(
         out,
         &[
-            Piece::Text(head.kind.code(), RecordType::COLUMN),
-            Piece::Digits(head.prefix.transaction as u64, Prefix::TRANSACTION),
-            Piece::Digits(head.prefix.detail as u64, Prefix::DETAIL),
-            Piece::Text(&head.title, WorkHead::TITLE),
-            Piece::Text(&head.language, WorkHead::LANGUAGE),
-            Piece::Text(&head.submitter_number, WorkHead::SUBMITTER_NUMBER),
-            Piece::Code(head.iswc),
-            Piece::OptionalDay(head.copyright_date),
-            Piece::Text(&head.copyright_number, WorkHead::COPYRIGHT_NUMBER),
-            Piece::Text(&head.distribution_category, WorkHead::DISTRIBUTION_CATEGORY),
-            Piece::OptionalTime(head.duration),
-            Piece::Text(&head.recorded_indicator, WorkHead::RECORDED_INDICATOR),
-            Piece::Text(
+            FieldValue::Text(head.kind.code(), RecordType::COLUMN),
+            FieldValue::Digits(head.prefix.transaction as u64, Prefix::TRANSACTION),
+            FieldValue::Digits(head.prefix.detail as u64, Prefix::DETAIL),
+            FieldValue::Text(&head.title, WorkHead::TITLE),
+            FieldValue::Text(&head.language, WorkHead::LANGUAGE),
+            FieldValue::Text(&head.submitter_number, WorkHead::SUBMITTER_NUMBER),
+            FieldValue::Code(head.iswc),
+            FieldValue::OptionalDay(head.copyright_date),
+            FieldValue::Text(&head.copyright_number, WorkHead::COPYRIGHT_NUMBER),
+            FieldValue::Text(&head.distribution_category, WorkHead::DISTRIBUTION_CATEGORY),
+            FieldValue::OptionalTime(head.duration),
+            FieldValue::Text(&head.recorded_indicator, WorkHead::RECORDED_INDICATOR),
+            FieldValue::Text(
                 &head.text_music_relationship,
                 WorkHead::TEXT_MUSIC_RELATIONSHIP,
             ),
-            Piece::Text(&head.composite_type, WorkHead::COMPOSITE_TYPE),
-            Piece::Text(&head.version_type, WorkHead::VERSION_TYPE),
-            Piece::Text(&head.excerpt_type, WorkHead::EXCERPT_TYPE),
-            Piece::Text(&head.arrangement, WorkHead::ARRANGEMENT),
-            Piece::Text(&head.lyric_adaptation, WorkHead::LYRIC_ADAPTATION),
-            Piece::Text(&head.contact_name, WorkHead::CONTACT_NAME),
-            Piece::Text(&head.contact_id, WorkHead::CONTACT_ID),
+            FieldValue::Text(&head.composite_type, WorkHead::COMPOSITE_TYPE),
+            FieldValue::Text(&head.version_type, WorkHead::VERSION_TYPE),
+            FieldValue::Text(&head.excerpt_type, WorkHead::EXCERPT_TYPE),
+            FieldValue::Text(&head.arrangement, WorkHead::ARRANGEMENT),
+            FieldValue::Text(&head.lyric_adaptation, WorkHead::LYRIC_ADAPTATION),
+            FieldValue::Text(&head.contact_name, WorkHead::CONTACT_NAME),
+            FieldValue::Text(&head.contact_id, WorkHead::CONTACT_ID),
         ],
     )
 }
@@ -220,20 +220,20 @@ const ALT_TITLE: [Slot; 3] = slots! {
     Prefix::DETAIL: Content::Digits;
 };
 
-/// The alternate title that a line is.
+/// Reads an alternate title (ALT) from a line.
 ///
-/// An error is the line's least fault.
+/// An error is the first field of the line that cannot be read.
 pub fn read_alt_title(line: &[u8]) -> Result<AltTitle, FieldFault>
     ensures ok { IfOk result (StandsFor table.alt_title line.now) }
     ensures fault { IfErr result (IsLeastFault line.now (checked table.alt_title)) }
-    // What was written is read again.
+    // What was written is read back.
     ensures again { (x : AltTitle) → IsWhole table.alt_title x → line.now ≡ line_of table.alt_title x → result ≡ Ok x }
 {
     check(line, &ALT_TITLE)?;
     Ok(alt_title_at(line))
 }
 
-/// The alternate title of a line that was checked.
+/// The alternate title of a line whose fields were checked.
 fn alt_title_at(line: &[u8]) -> AltTitle
     requires { AllByRecursion (IsReadable line.now) (checked table.alt_title) }
     ensures { StandsFor table.alt_title line.now result }
@@ -258,21 +258,21 @@ pub fn write_alt_title<A: Allocator>(
 ) -> Result<(), Memory>
     requires { Fits table.alt_title alternate.now }
     ensures ok { OnOk result (out.new.items ≡ out.old.items ++ line_of table.alt_title alternate.now) }
-    // This is what the reader asks of a value that it reads again.
+    // This is what the reader requires of a value that it reads back.
     ensures whole { OnOk result (IsWhole table.alt_title alternate.now) }
     ensures err { OnErr result (out.new.items ≡ out.old.items) }
-    // Memory is answered only where there was no room for the line.
+    // `Memory` is returned only where there was no room for the line.
     ensures full { OnErr result (vec_capacity out.old < vec_len out.old + 83) }
 {
     put_line(
         out,
         &[
-            Piece::Text(b"ALT", RecordType::COLUMN),
-            Piece::Digits(alternate.prefix.transaction as u64, Prefix::TRANSACTION),
-            Piece::Digits(alternate.prefix.detail as u64, Prefix::DETAIL),
-            Piece::Text(&alternate.title, AltTitle::TITLE),
-            Piece::Text(&alternate.title_type, AltTitle::TITLE_TYPE),
-            Piece::Text(&alternate.language, AltTitle::LANGUAGE),
+            FieldValue::Text(b"ALT", RecordType::COLUMN),
+            FieldValue::Digits(alternate.prefix.transaction as u64, Prefix::TRANSACTION),
+            FieldValue::Digits(alternate.prefix.detail as u64, Prefix::DETAIL),
+            FieldValue::Text(&alternate.title, AltTitle::TITLE),
+            FieldValue::Text(&alternate.title_type, AltTitle::TITLE_TYPE),
+            FieldValue::Text(&alternate.language, AltTitle::LANGUAGE),
         ],
     )
 }
@@ -298,20 +298,20 @@ const CROSS_REF: [Slot; 3] = slots! {
     Prefix::DETAIL: Content::Digits;
 };
 
-/// The cross reference that a line is.
+/// Reads a cross reference (XRF) from a line.
 ///
-/// An error is the line's least fault.
+/// An error is the first field of the line that cannot be read.
 pub fn read_cross_ref(line: &[u8]) -> Result<CrossRef, FieldFault>
     ensures ok { IfOk result (StandsFor table.cross_ref line.now) }
     ensures fault { IfErr result (IsLeastFault line.now (checked table.cross_ref)) }
-    // What was written is read again.
+    // What was written is read back.
     ensures again { (x : CrossRef) → IsWhole table.cross_ref x → line.now ≡ line_of table.cross_ref x → result ≡ Ok x }
 {
     check(line, &CROSS_REF)?;
     Ok(cross_ref_at(line))
 }
 
-/// The cross reference of a line that was checked.
+/// The cross reference of a line whose fields were checked.
 fn cross_ref_at(line: &[u8]) -> CrossRef
     requires { AllByRecursion (IsReadable line.now) (checked table.cross_ref) }
     ensures { StandsFor table.cross_ref line.now result }
@@ -337,22 +337,22 @@ pub fn write_cross_ref<A: Allocator>(
 ) -> Result<(), Memory>
     requires { Fits table.cross_ref reference.now }
     ensures ok { OnOk result (out.new.items ≡ out.old.items ++ line_of table.cross_ref reference.now) }
-    // This is what the reader asks of a value that it reads again.
+    // This is what the reader requires of a value that it reads back.
     ensures whole { OnOk result (IsWhole table.cross_ref reference.now) }
     ensures err { OnErr result (out.new.items ≡ out.old.items) }
-    // Memory is answered only where there was no room for the line.
+    // `Memory` is returned only where there was no room for the line.
     ensures full { OnErr result (vec_capacity out.old < vec_len out.old + 38) }
 {
     put_line(
         out,
         &[
-            Piece::Text(b"XRF", RecordType::COLUMN),
-            Piece::Digits(reference.prefix.transaction as u64, Prefix::TRANSACTION),
-            Piece::Digits(reference.prefix.detail as u64, Prefix::DETAIL),
-            Piece::Text(&reference.organisation, CrossRef::ORGANISATION),
-            Piece::Text(&reference.identifier, CrossRef::IDENTIFIER),
-            Piece::Text(&reference.identifier_type, CrossRef::IDENTIFIER_TYPE),
-            Piece::Text(&reference.validity, CrossRef::VALIDITY),
+            FieldValue::Text(b"XRF", RecordType::COLUMN),
+            FieldValue::Digits(reference.prefix.transaction as u64, Prefix::TRANSACTION),
+            FieldValue::Digits(reference.prefix.detail as u64, Prefix::DETAIL),
+            FieldValue::Text(&reference.organisation, CrossRef::ORGANISATION),
+            FieldValue::Text(&reference.identifier, CrossRef::IDENTIFIER),
+            FieldValue::Text(&reference.identifier_type, CrossRef::IDENTIFIER_TYPE),
+            FieldValue::Text(&reference.validity, CrossRef::VALIDITY),
         ],
     )
 }

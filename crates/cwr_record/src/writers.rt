@@ -12,7 +12,7 @@ ghost use Rattle.cwr_record.specs.declared.writers.Writer.{Writer};
 ghost use Rattle.cwr_record.specs.declared.writers.WriterTerritory.{WriterTerritory};
 ghost use Rattle.cwr_record.specs.declared.writers.Link.{Link};
 
-use crate::pieces::{Piece, put_line};
+use crate::field_values::{FieldValue, put_line};
 use crate::prefix::Prefix;
 use crate::record_type::RecordType;
 use crate::slot::{Content, FieldFault, Slot, check, slots};
@@ -84,7 +84,8 @@ pub struct Writer {
     pub mechanical_ownership: u16,
     /// Society of the synchronization right, at [`Writer::SYNCHRONIZATION_SOCIETY`].
     pub synchronization_society: [u8; 3],
-    /// Ownership share of the synchronization right, at [`Writer::SYNCHRONIZATION_OWNERSHIP`], in hundredths of one per cent.
+    /// Ownership share of the synchronization right, at [`Writer::SYNCHRONIZATION_OWNERSHIP`], in hundredths of one per
+    /// cent.
     pub synchronization_ownership: u16,
 }
 
@@ -97,20 +98,20 @@ const WRITER: [Slot; 6] = slots! {
     Writer::SYNCHRONIZATION_OWNERSHIP: Content::Share;
 };
 
-/// The writer that a line is.
+/// Reads a writer (SWR or OWR) from a line.
 ///
-/// An error is the line's least fault.
+/// An error is the first field of the line that cannot be read.
 pub fn read_writer(line: &[u8]) -> Result<Writer, FieldFault>
     ensures ok { IfOk result (StandsFor table.writer line.now) }
     ensures fault { IfErr result (IsLeastFault line.now (checked table.writer)) }
-    // What was written is read again.
+    // What was written is read back.
     ensures again { (x : Writer) → IsWhole table.writer x → line.now ≡ line_of table.writer x → result ≡ Ok x }
 {
     check(line, &WRITER)?;
     Ok(writer_at(line))
 }
 
-/// The writer of a line that was checked.
+/// The writer of a line whose fields were checked.
 fn writer_at(line: &[u8]) -> Writer
     requires { AllByRecursion (IsReadable line.now) (checked table.writer) }
     ensures { StandsFor table.writer line.now result }
@@ -143,34 +144,34 @@ fn writer_at(line: &[u8]) -> Writer
 pub fn write_writer<A: Allocator>(out: &mut Vec<u8, A>, writer: &Writer) -> Result<(), Memory>
     requires { Fits table.writer writer.now }
     ensures ok { OnOk result (out.new.items ≡ out.old.items ++ line_of table.writer writer.now) }
-    // This is what the reader asks of a value that it reads again.
+    // This is what the reader requires of a value that it reads back.
     ensures whole { OnOk result (IsWhole table.writer writer.now) }
     ensures err { OnErr result (out.new.items ≡ out.old.items) }
-    // Memory is answered only where there was no room for the line.
+    // `Memory` is returned only where there was no room for the line.
     ensures full { OnErr result (vec_capacity out.old < vec_len out.old + 150) }
 {
     put_line(
         out,
         &[
-            Piece::Text(writer.kind.code(), RecordType::COLUMN),
-            Piece::Digits(writer.prefix.transaction as u64, Prefix::TRANSACTION),
-            Piece::Digits(writer.prefix.detail as u64, Prefix::DETAIL),
-            Piece::Text(&writer.party, Writer::PARTY),
-            Piece::Text(&writer.last_name, Writer::LAST_NAME),
-            Piece::Text(&writer.first_name, Writer::FIRST_NAME),
-            Piece::Text(&writer.unknown_indicator, Writer::UNKNOWN_INDICATOR),
-            Piece::Text(&writer.designation, Writer::DESIGNATION),
-            Piece::Text(&writer.tax_id, Writer::TAX_ID),
-            Piece::Text(&writer.ipi_name_number, Writer::IPI_NAME_NUMBER),
-            Piece::Text(&writer.performing_society, Writer::PERFORMING_SOCIETY),
-            Piece::Share(writer.performing_ownership),
-            Piece::Text(&writer.mechanical_society, Writer::MECHANICAL_SOCIETY),
-            Piece::Share(writer.mechanical_ownership),
-            Piece::Text(
+            FieldValue::Text(writer.kind.code(), RecordType::COLUMN),
+            FieldValue::Digits(writer.prefix.transaction as u64, Prefix::TRANSACTION),
+            FieldValue::Digits(writer.prefix.detail as u64, Prefix::DETAIL),
+            FieldValue::Text(&writer.party, Writer::PARTY),
+            FieldValue::Text(&writer.last_name, Writer::LAST_NAME),
+            FieldValue::Text(&writer.first_name, Writer::FIRST_NAME),
+            FieldValue::Text(&writer.unknown_indicator, Writer::UNKNOWN_INDICATOR),
+            FieldValue::Text(&writer.designation, Writer::DESIGNATION),
+            FieldValue::Text(&writer.tax_id, Writer::TAX_ID),
+            FieldValue::Text(&writer.ipi_name_number, Writer::IPI_NAME_NUMBER),
+            FieldValue::Text(&writer.performing_society, Writer::PERFORMING_SOCIETY),
+            FieldValue::Share(writer.performing_ownership),
+            FieldValue::Text(&writer.mechanical_society, Writer::MECHANICAL_SOCIETY),
+            FieldValue::Share(writer.mechanical_ownership),
+            FieldValue::Text(
                 &writer.synchronization_society,
                 Writer::SYNCHRONIZATION_SOCIETY,
             ),
-            Piece::Share(writer.synchronization_ownership),
+            FieldValue::Share(writer.synchronization_ownership),
         ],
     )
 }
@@ -182,11 +183,14 @@ pub struct WriterTerritory {
     pub prefix: Prefix,
     /// Interested party number, at [`WriterTerritory::PARTY`].
     pub party: [u8; 9],
-    /// Collection share of the performing right, at [`WriterTerritory::PERFORMING_COLLECTION`], in hundredths of one per cent.
+    /// Collection share of the performing right, at [`WriterTerritory::PERFORMING_COLLECTION`], in hundredths of one
+    /// per cent.
     pub performing_collection: u16,
-    /// Collection share of the mechanical right, at [`WriterTerritory::MECHANICAL_COLLECTION`], in hundredths of one per cent.
+    /// Collection share of the mechanical right, at [`WriterTerritory::MECHANICAL_COLLECTION`], in hundredths of one
+    /// per cent.
     pub mechanical_collection: u16,
-    /// Collection share of the synchronization right, at [`WriterTerritory::SYNCHRONIZATION_COLLECTION`], in hundredths of one per cent.
+    /// Collection share of the synchronization right, at [`WriterTerritory::SYNCHRONIZATION_COLLECTION`], in hundredths
+    /// of one per cent.
     pub synchronization_collection: u16,
     /// Inclusion or exclusion indicator, at [`WriterTerritory::INDICATOR`].
     pub indicator: [u8; 1],
@@ -207,20 +211,20 @@ const WRITER_TERRITORY: [Slot; 6] = slots! {
     WriterTerritory::SYNCHRONIZATION_COLLECTION: Content::Share;
 };
 
-/// The writer's territory that a line is.
+/// Reads a writer's territory (SWT) from a line.
 ///
-/// An error is the line's least fault.
+/// An error is the first field of the line that cannot be read.
 pub fn read_writer_territory(line: &[u8]) -> Result<WriterTerritory, FieldFault>
     ensures ok { IfOk result (StandsFor table.writer_territory line.now) }
     ensures fault { IfErr result (IsLeastFault line.now (checked table.writer_territory)) }
-    // What was written is read again.
+    // What was written is read back.
     ensures again { (x : WriterTerritory) → IsWhole table.writer_territory x → line.now ≡ line_of table.writer_territory x → result ≡ Ok x }
 {
     check(line, &WRITER_TERRITORY)?;
     Ok(writer_territory_at(line))
 }
 
-/// The writer's territory of a line that was checked.
+/// The writer's territory of a line whose fields were checked.
 fn writer_territory_at(line: &[u8]) -> WriterTerritory
     requires { AllByRecursion (IsReadable line.now) (checked table.writer_territory) }
     ensures { StandsFor table.writer_territory line.now result }
@@ -250,26 +254,26 @@ pub fn write_writer_territory<A: Allocator>(
 ) -> Result<(), Memory>
     requires { Fits table.writer_territory territory.now }
     ensures ok { OnOk result (out.new.items ≡ out.old.items ++ line_of table.writer_territory territory.now) }
-    // This is what the reader asks of a value that it reads again.
+    // This is what the reader requires of a value that it reads back.
     ensures whole { OnOk result (IsWhole table.writer_territory territory.now) }
     ensures err { OnErr result (out.new.items ≡ out.old.items) }
-    // Memory is answered only where there was no room for the line.
+    // `Memory` is returned only where there was no room for the line.
     ensures full { OnErr result (vec_capacity out.old < vec_len out.old + 52) }
 {
     put_line(
         out,
         &[
-            Piece::Text(b"SWT", RecordType::COLUMN),
-            Piece::Digits(territory.prefix.transaction as u64, Prefix::TRANSACTION),
-            Piece::Digits(territory.prefix.detail as u64, Prefix::DETAIL),
-            Piece::Text(&territory.party, WriterTerritory::PARTY),
-            Piece::Share(territory.performing_collection),
-            Piece::Share(territory.mechanical_collection),
-            Piece::Share(territory.synchronization_collection),
-            Piece::Text(&territory.indicator, WriterTerritory::INDICATOR),
-            Piece::Text(&territory.territory, WriterTerritory::TERRITORY),
-            Piece::Text(&territory.shares_change, WriterTerritory::SHARES_CHANGE),
-            Piece::Text(&territory.sequence, WriterTerritory::SEQUENCE),
+            FieldValue::Text(b"SWT", RecordType::COLUMN),
+            FieldValue::Digits(territory.prefix.transaction as u64, Prefix::TRANSACTION),
+            FieldValue::Digits(territory.prefix.detail as u64, Prefix::DETAIL),
+            FieldValue::Text(&territory.party, WriterTerritory::PARTY),
+            FieldValue::Share(territory.performing_collection),
+            FieldValue::Share(territory.mechanical_collection),
+            FieldValue::Share(territory.synchronization_collection),
+            FieldValue::Text(&territory.indicator, WriterTerritory::INDICATOR),
+            FieldValue::Text(&territory.territory, WriterTerritory::TERRITORY),
+            FieldValue::Text(&territory.shares_change, WriterTerritory::SHARES_CHANGE),
+            FieldValue::Text(&territory.sequence, WriterTerritory::SEQUENCE),
         ],
     )
 }
@@ -297,20 +301,20 @@ const LINK: [Slot; 3] = slots! {
     Prefix::DETAIL: Content::Digits;
 };
 
-/// The writer's publisher that a line is.
+/// Reads the publisher of a writer (PWR) from a line.
 ///
-/// An error is the line's least fault.
+/// An error is the first field of the line that cannot be read.
 pub fn read_link(line: &[u8]) -> Result<Link, FieldFault>
     ensures ok { IfOk result (StandsFor table.link line.now) }
     ensures fault { IfErr result (IsLeastFault line.now (checked table.link)) }
-    // What was written is read again.
+    // What was written is read back.
     ensures again { (x : Link) → IsWhole table.link x → line.now ≡ line_of table.link x → result ≡ Ok x }
 {
     check(line, &LINK)?;
     Ok(link_at(line))
 }
 
-/// The writer's publisher of a line that was checked.
+/// The writer's publisher of a line whose fields were checked.
 fn link_at(line: &[u8]) -> Link
     requires { AllByRecursion (IsReadable line.now) (checked table.link) }
     ensures { StandsFor table.link line.now result }
@@ -334,23 +338,23 @@ fn link_at(line: &[u8]) -> Link
 pub fn write_link<A: Allocator>(out: &mut Vec<u8, A>, link: &Link) -> Result<(), Memory>
     requires { Fits table.link link.now }
     ensures ok { OnOk result (out.new.items ≡ out.old.items ++ line_of table.link link.now) }
-    // This is what the reader asks of a value that it reads again.
+    // This is what the reader requires of a value that it reads back.
     ensures whole { OnOk result (IsWhole table.link link.now) }
     ensures err { OnErr result (out.new.items ≡ out.old.items) }
-    // Memory is answered only where there was no room for the line.
+    // `Memory` is returned only where there was no room for the line.
     ensures full { OnErr result (vec_capacity out.old < vec_len out.old + 110) }
 {
     put_line(
         out,
         &[
-            Piece::Text(b"PWR", RecordType::COLUMN),
-            Piece::Digits(link.prefix.transaction as u64, Prefix::TRANSACTION),
-            Piece::Digits(link.prefix.detail as u64, Prefix::DETAIL),
-            Piece::Text(&link.publisher_party, Link::PUBLISHER_PARTY),
-            Piece::Text(&link.publisher_name, Link::PUBLISHER_NAME),
-            Piece::Text(&link.submitter_agreement, Link::SUBMITTER_AGREEMENT),
-            Piece::Text(&link.society_agreement, Link::SOCIETY_AGREEMENT),
-            Piece::Text(&link.writer_party, Link::WRITER_PARTY),
+            FieldValue::Text(b"PWR", RecordType::COLUMN),
+            FieldValue::Digits(link.prefix.transaction as u64, Prefix::TRANSACTION),
+            FieldValue::Digits(link.prefix.detail as u64, Prefix::DETAIL),
+            FieldValue::Text(&link.publisher_party, Link::PUBLISHER_PARTY),
+            FieldValue::Text(&link.publisher_name, Link::PUBLISHER_NAME),
+            FieldValue::Text(&link.submitter_agreement, Link::SUBMITTER_AGREEMENT),
+            FieldValue::Text(&link.society_agreement, Link::SOCIETY_AGREEMENT),
+            FieldValue::Text(&link.writer_party, Link::WRITER_PARTY),
         ],
     )
 }

@@ -6,9 +6,9 @@ use cwr_record::{
     FieldFault, PublisherKind, WorkHead, WorkKind, WriterKind, read_group_trailer, read_header,
     read_publisher, read_work_head, read_writer,
 };
-use cwr_sheets::same;
 use std::alloc::{AllocError, Global};
 use std::test::Fail;
+use test_files::same;
 
 /// The NWR line with this work code and what follows it.
 fn registration<'a>(alloc: Global, code: &'a [u8], rest: &'a [u8]) -> Result<Vec<u8>, AllocError> {

@@ -3,8 +3,8 @@ use cwr_field::{
     CONTROLS, Iswc, Memory, Sought, check_digit, cut, date, digits, is_blank, is_free_before, iswc,
     iswc_text, party, put_decimal, put_digits, put_text, share, time,
 };
-use cwr_sheets::{same, same_bytes, same_text};
 use std::test::Fail;
+use test_files::{same, same_bytes, same_text};
 
 #[test]
 fn cuts_fields_of_short_lines() -> Result<(), Fail> {
@@ -166,7 +166,7 @@ fn reads_interested_party_numbers() -> Result<(), Fail> {
     )
 }
 
-/// A text is free of the byte at an index up to there, and no further.
+/// A text must be found free of the sought bytes up to the one at index `at`, and no further.
 fn expect_free(bytes: &[u8], at: usize, sought: Sought) -> Result<(), Fail> {
     for end in [0, 31, 32, 33, 63, 64, 65, 127, 128, 129, 150] {
         let end = end.min(bytes.len());

@@ -1,5 +1,5 @@
-//! Tests of `cwr_field` and `cwr_record`: fields by values of the standards, and records line by line, against lines that
-//! were written by hand.
+//! Tests of `cwr_field` and `cwr_record`: fields by values of the standards, and records line by line, against lines
+//! that were written by hand.
 #![tactic(auto)]
 
 #[cfg(test)]

@@ -3,12 +3,12 @@
 ghost use Rattle.std.specs.Prelude.{◌≤◌};
 
 use cwr_field::{Clock, Day, cut, date, time};
-use cwr_sheets::{same, same_bytes};
 use std::alloc::{AllocError, Global};
 use std::fmt::Debug;
 use std::test::Fail;
+use test_files::{same, same_bytes};
 
-/// A line of texts, each followed by so many blanks.
+/// A line of texts, each with the number of blanks that follow it.
 pub(crate) fn line(alloc: Global, texts: &[(&[u8], usize)]) -> Result<Vec<u8>, AllocError> {
     let mut line = Vec::new(alloc);
     for (text, blanks) in texts {
@@ -37,7 +37,8 @@ pub(crate) fn clock(digits: &[u8; 6]) -> Result<Clock, Fail> {
     Ok(time(cut(digits, 1, 6)).ok_or("no time")?)
 }
 
-/// A record must be written as this line, and what is read of the line must be as is wanted.
+/// A record must be written as a line, and be read from it. `written` is what was written, and `line` what it must be.
+/// `what` names the record, `read` is what was read of the line, and `wanted` what must be read.
 pub(crate) fn expect_record<T: PartialEq + Debug>(
     written: &[u8],
     line: &[u8],

@@ -5,8 +5,8 @@ use cwr_record::{
     Column, GroupHead, RecordType, collection_of, field_at, indicator_of, is_no_day, ownership_of,
     party_of, publisher_of, territory_of,
 };
-use cwr_sheets::same;
 use std::test::Fail;
+use test_files::same;
 
 #[test]
 fn columns() -> Result<(), Fail> {

@@ -2,8 +2,8 @@
 
 use crate::lines::{clock, day, text};
 use cwr_record::Stamp;
-use cwr_sheets::same;
 use std::test::Fail;
+use test_files::same;
 
 #[test]
 fn parts_of_a_stamp() -> Result<(), Fail> {

@@ -1,8 +1,8 @@
 //! The types of lines.
 
 use cwr_record::{Ack, RecordType, WorkKind, type_of};
-use cwr_sheets::same;
 use std::test::Fail;
+use test_files::same;
 
 #[test]
 fn types() -> Result<(), Fail> {

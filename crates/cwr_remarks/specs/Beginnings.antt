@@ -1,4 +1,4 @@
--- What a file begins with that is no text of CWR, for all that may stand behind.
+-- What a file begins with that is no text of CWR, whatever stands behind it.
 use Rattle.std.specs.Prelude.{ℕ, Bool, ◌||◌, List, [], ◌∷◌, Option, Some, None, if◌then◌else◌}
 use Rattle.std.specs.Str.{bytes_eq}
 use Rattle.cwr_field.specs.Layout.{field}
@@ -6,18 +6,19 @@ use Rattle.cwr_remarks.specs.declared.remark.Remark.{Remark}
 use Rattle.cwr_remarks.specs.declared.remark.Remarked.{Remarked}
 use Rattle.cwr_remarks.specs.declared.remark.Remarked.TheVariants.{ByteOrderMark, Utf16, Gzip}
 
--- the byte order mark U+FEFF in UTF-8: EF BB BF
+-- the file begins with EF BB BF, the byte order mark U+FEFF in UTF-8
 abbrev pub begins_with_mark : List ℕ → Bool
 begins_with_mark bytes = bytes_eq (field bytes 1 3) (239 ∷ 187 ∷ 191 ∷ [])
 
--- the same in UTF-16, the lower byte first, FF FE, or the higher one, FE FF
+-- the file begins with that mark in UTF-16: FF FE, or FE FF
 abbrev pub is_utf16 : List ℕ → Bool
 is_utf16 bytes = bytes_eq (field bytes 1 2) (255 ∷ 254 ∷ []) || bytes_eq (field bytes 1 2) (254 ∷ 255 ∷ [])
 
--- gzip, RFC 1952: 1F 8B
+-- the file begins as one of gzip does: 1F 8B (RFC 1952)
 abbrev pub is_gzip : List ℕ → Bool
 is_gzip bytes = bytes_eq (field bytes 1 2) (31 ∷ 139 ∷ [])
 
+-- what the file begins with, if that is remarked
 abbrev pub beginning : List ℕ → Option Remarked
 beginning bytes =
     if begins_with_mark bytes then Some ByteOrderMark

@@ -1,4 +1,4 @@
--- What a check tells of a file: its report, and then its remarks.
+-- What a check prints of a file: its report, and then its remarks.
 use Rattle.std.specs.Prelude.{ℕ, Bool, List, ◌++◌, codes, Option, Some, None}
 use Rattle.std.specs.Str.Lines.{lines}
 use Rattle.serde_json.specs.Data.{object, put}
@@ -14,36 +14,38 @@ use Rattle.cwr_remarks.specs.Remarks.{remarks_from, remarks_to}
 use Rattle.cwr_remarks.specs.SecondFile.{second_file}
 use Rattle.cwr_remarks.specs.Texts.{remarks_text}
 
--- on line 1, of the file as a whole: what it begins with, and what its HDR says that it is. They are told whether that
--- line is faulty or not.
+-- The remarks on the file as a whole, at line 1: what it begins with, and what its HDR says it is. They are made
+-- whether that line is faulty or not.
 abbrev pub front_remarks : List ℕ → List Remark
 front_remarks bytes = on_beginning (beginning bytes) ++ header_remarks (lines bytes)
 
--- on the lines of a file; of one that is refused on those before the faulty one, and of that one is told alone that a second
--- file begins there
+-- the remarks on the lines of a file; of one that is refused, those on the lines before the faulty one, and of the
+-- faulty one only that a second file begins there
 abbrev pub remarks_on_lines : List (List ℕ) → Option FileFinding → List Remark
 remarks_on_lines text None = remarks_from 1 text
 remarks_on_lines text (Some refused) = remarks_to refused.line 1 text ++ second_file refused
 
--- those of the file as a whole on line 1, and then those on its lines
-abbrev pub told_remarks : List ℕ → Option FileFinding → List Remark
-told_remarks bytes refused = front_remarks bytes ++ remarks_on_lines (lines bytes) refused
+-- all remarks on a file: on the file as a whole, and then on its lines
+abbrev pub remarks_on_file : List ℕ → Option FileFinding → List Remark
+remarks_on_file bytes refused = front_remarks bytes ++ remarks_on_lines (lines bytes) refused
 
--- what a check tells a person: the report, and the remarks behind it
+-- what a check prints for a person: the report, and the remarks behind it
 abbrev pub remarked_text : List ℕ → Reported → List ℕ
-remarked_text bytes r = report_text (lines bytes) r ++ remarks_text (told_remarks bytes r.refused)
+remarked_text bytes r = report_text (lines bytes) r ++ remarks_text (remarks_on_file bytes r.refused)
 
--- what it tells as JSON: the object of the report, with the file's name where it is to have one, and one member more
+-- what a check prints as JSON: the object of the report, with the file's name where it is given, and one member more
 abbrev pub remarked_object : Option (List ℕ) → List ℕ → Reported → List ℕ
 remarked_object file bytes r =
-    json_line (object (put (codes "remarks") (remarks_data (told_remarks bytes r.refused)) (with_file file (report_members (lines bytes) r))))
+    json_line (object (put (codes "remarks") (remarks_data (remarks_on_file bytes r.refused)) (with_file file (report_members (lines bytes) r))))
 
+-- what a check with remarks prints for a person, and whether the file is clean
 abbrev pub IsRemarkedLong : List ℕ → List ℕ → Bool → Type 0
 IsRemarkedLong bytes told clean = IsToldBy remarked_text bytes told clean
 
+-- what a check with remarks prints as JSON, and whether the file is clean
 abbrev pub IsRemarkedJson : List ℕ → List ℕ → Bool → Type 0
 IsRemarkedJson bytes told clean = IsToldBy (remarked_object None) bytes told clean
 
--- the same of a file of this name, a text, which is one member more
+-- the same for a file with this name, which is one member more
 abbrev pub IsRemarkedJsonOfFile : List ℕ → List ℕ → List ℕ → Bool → Type 0
 IsRemarkedJsonOfFile name bytes told clean = IsToldBy (remarked_object (Some name)) bytes told clean

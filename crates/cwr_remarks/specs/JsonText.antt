@@ -1,4 +1,4 @@
--- What is told of remarks as JSON, as it is written: pieces one after the other.
+-- Remarks as JSON, part by part as they are written.
 use Rattle.std.specs.Prelude.{ℕ, List, ◌++◌, codes}
 use Rattle.std.specs.Fmt.{decimal}
 use Rattle.serde_json.specs.Written.{compact_text}
@@ -9,7 +9,7 @@ use Rattle.cwr_remarks.specs.declared.remark.Remarked.{Remarked}
 use Rattle.cwr_remarks.specs.Json.{kind_text, first_in, count_in, length_in, layout_in}
 use Rattle.cwr_remarks.specs.Texts.{what_text}
 
--- the numbers of a remark, and between them what it is
+-- the beginning of a remark's object: its numbers, and its kind between them
 abbrev pub amounts_text : Remarked → List ℕ
 amounts_text what =
     codes "{\"count\":"
@@ -23,7 +23,7 @@ amounts_text what =
     ++ codes ",\"length\":"
     ++ option_text (length_in what)
 
--- a remark
+-- the text of a remark's object
 abbrev pub remark_text : Remark → List ℕ
 remark_text r =
     amounts_text r.what

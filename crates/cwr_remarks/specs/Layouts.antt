@@ -11,7 +11,7 @@ use Rattle.cwr_remarks.specs.declared.remark.Remarked.TheVariants.{PastLayout}
 abbrev pub last_of : Column → ℕ
 last_of at = at.start + at.width - 1
 
--- the position of the last byte of the last field, for the types that have a layout
+-- the position of the last byte of the last field, from 1; `None` for types that have no layout
 abbrev pub layout_of : RecordType → Option ℕ
 layout_of Hdr = Some (last_of column.header_software_version)
 layout_of Grh = Some (last_of column.group_head_submission_type)
@@ -31,7 +31,7 @@ layout_of Alt = Some (last_of column.alt_title_language)
 layout_of Xrf = Some (last_of column.cross_ref_validity)
 layout_of _ = None
 
--- a line of this length, past a layout that ends there
+-- a remark on a line of this length, where it is longer than its layout
 abbrev pub past_layout : ℕ → Option ℕ → Option Remarked
 past_layout size None = None
 past_layout size (Some layout) = if nat_lt layout size then Some (PastLayout size layout) else None

@@ -3,7 +3,7 @@ pub mod Layouts
 pub mod Types
 pub mod Typed
 pub mod Territories
-pub mod Told
+pub mod TerritoryScan
 pub mod OnLine
 pub mod Beginnings
 pub mod Headers

@@ -9,7 +9,7 @@ use Rattle.cwr_remarks.specs.OnLine.{remark_on}
 use Rattle.cwr_remarks.specs.Types.{unknown_type}
 use Rattle.cwr_remarks.specs.Territories.{only_excluded}
 
--- the remarks on a line with this number, before these lines
+-- the remarks on a line with this number, from 1, given the lines after it
 abbrev pub remarks_on : ℕ → List ℕ → List (List ℕ) → List Remark
 remarks_on number line after =
     remark_on number line (high_bytes line)
@@ -17,12 +17,13 @@ remarks_on number line after =
     ++ remark_on number line (unknown_type (type_of line) (field_at line every_record_type))
     ++ remark_on number line (only_excluded (type_of line) after)
 
--- on each of these lines, of which the first has this number
+-- the remarks on these lines, of which the first has this number
 abbrev pub remarks_from : ℕ → List (List ℕ) → List Remark
 remarks_from number [] = []
 remarks_from number (line ∷ lines) = remarks_on number line lines ++ remarks_from (number + 1) lines
 
--- on each of those whose number is below the end; the lines after that are looked at all the same
+-- the remarks on those of these lines whose numbers are below `end`; the lines after that are still read for the
+-- territories of records before
 abbrev pub remarks_to : ℕ → ℕ → List (List ℕ) → List Remark
 remarks_to end number [] = []
 remarks_to end number (line ∷ lines) = if nat_lt number end then remarks_on number line lines ++ remarks_to end (number + 1) lines else []

@@ -7,14 +7,14 @@ use Rattle.cwr_remarks.specs.declared.remark.Remarked.{Remarked}
 use Rattle.cwr_remarks.specs.declared.remark.Remarked.TheVariants.{UnknownType}
 
 -- The profile names the types that it reads, and AGR, ISW, EXC and ACK. The lists here are of the other types of the
--- published standard, CWR 2.2 with its revisions, and are no part of the profile; a type of which it is in doubt whether
--- version 2.2 has it is among them.
+-- published standard, CWR 2.2 with its revisions, and are no part of the profile; a type of which it is in doubt
+-- whether version 2.2 has it is among them.
 
--- of an agreement: territories, interested parties, and their names in other alphabets
+-- types of an agreement: territories, interested parties, and their names in other alphabets
 abbrev pub is_of_agreement : List ℕ → Bool
 is_of_agreement name = bytes_eq name (codes "TER") || bytes_eq name (codes "IPA") || bytes_eq name (codes "NPA")
 
--- names of publishers, writers and performers, and titles, in other alphabets
+-- types with names of publishers, writers and performers, and titles, in other alphabets
 abbrev pub is_of_other_alphabet : List ℕ → Bool
 is_of_other_alphabet name =
     bytes_eq name (codes "NPN")
@@ -26,8 +26,8 @@ is_of_other_alphabet name =
     || bytes_eq name (codes "NCT")
     || bytes_eq name (codes "NVT")
 
--- of a work: territories of other publishers and writers, the work that an excerpt or a version is of, performers,
--- recordings, origin, instruments, components, and what is told besides; and messages
+-- types of a work: territories of other publishers and writers, the work that an excerpt or a version is of,
+-- performers, recordings, origin, instruments, components, and further information; and messages
 abbrev pub is_of_work : List ℕ → Bool
 is_of_work name =
     bytes_eq name (codes "OPT")
@@ -43,10 +43,11 @@ is_of_work name =
     || bytes_eq name (codes "ARI")
     || bytes_eq name (codes "MSG")
 
+-- the type is one of CWR 2.2 that the profile does not read
 abbrev pub is_standard : List ℕ → Bool
 is_standard name = is_of_agreement name || is_of_other_alphabet name || is_of_work name
 
--- three capitals that name no type that is read, and none of these
+-- a remark on a type that is carried along, where it is none of CWR 2.2
 abbrev pub unknown_type : RecordType → List ℕ → Option Remarked
 unknown_type Carried name = if is_standard name then None else Some UnknownType
 unknown_type _ name = None

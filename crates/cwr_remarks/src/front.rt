@@ -15,8 +15,8 @@ use cwr_record::{Header, RecordType, field_at};
 use cwr_report::FileFinding;
 use std::alloc::Allocator;
 
-/// Appends the remarks of the file as a whole on line 1: what it begins with, and what its HDR says that it is. No line
-/// behind the first is looked at.
+/// Appends the remarks on the file itself, at line 1: what it begins with, and what its HDR names. No line behind the
+/// first is looked at.
 pub(crate) fn push_front<A: Allocator>(
     found: &mut Vec<Remark, A>,
     bytes: &[u8],
@@ -81,7 +81,7 @@ fn is_gzip(bytes: &[u8]) -> bool
     first == *b"\x1f\x8b"
 }
 
-/// Appends the remarks on the HDR that the file begins with, where it does.
+/// Appends the remarks on the HDR that the file begins with, if it does.
 fn push_header_remarks<A: Allocator>(found: &mut Vec<Remark, A>, bytes: &[u8]) -> Result<(), Memory>
     ensures { OnOk result (found.new.items ≡ found.old.items ++ header_remarks (lines bytes.now)) }
 {
@@ -117,7 +117,7 @@ fn push_in_header<A: Allocator>(found: &mut Vec<Remark, A>, line: &[u8]) -> Resu
     Ok(())
 }
 
-/// The version that HDR names, where it is neither blank nor 2.2.
+/// The version that HDR names, if it is neither blank nor 2.2.
 fn other_version(named: Field) -> Option<Remarked>
     requires { length named ≡ 3 }
     ensures { result ≡ other_version named.entry }
@@ -129,7 +129,7 @@ fn other_version(named: Field) -> Option<Remarked>
     Some(Remarked::CwrVersion(bytes))
 }
 
-/// The sender type of HDR, where the standard has no such.
+/// The sender type of HDR, if the standard has no such.
 fn other_sender(kind: Field) -> Option<Remarked>
     requires { length kind ≡ 2 }
     ensures { result ≡ other_sender kind.entry }
@@ -148,7 +148,7 @@ fn is_known_sender(kind: [u8; 2]) -> bool
     kind == *b"PB" || kind == *b"AA" || kind == *b"SO" || kind == *b"WR"
 }
 
-/// Appends that a second file begins at the faulty line of a file, where one does.
+/// Appends that a second file begins at the faulty line of a file, if one does.
 pub(crate) fn push_second<A: Allocator>(
     found: &mut Vec<Remark, A>,
     refused: &FileFinding,

@@ -8,7 +8,8 @@ use cwr_field::{Sought, is_free_before};
 /// The greatest byte of ASCII for which a character is printed.
 const HIGHEST: u8 = 126;
 
-/// The first byte of a line that is above 126, and how many such it has. Most lines have none, which is seen at once.
+/// The first byte of a line that is above 126, and the number of such bytes. Most lines have none, which a quick test
+/// finds.
 pub(crate) fn high_bytes(line: &[u8]) -> Option<Remarked>
     ensures { result ≡ high_bytes line.now }
 {

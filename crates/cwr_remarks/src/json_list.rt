@@ -1,3 +1,5 @@
+//! Remarks as a JSON array.
+
 ghost use Rattle.std.specs.Prelude.{◌≡◌, ◌++◌, OnOk};
 ghost use Rattle.serde_json.specs.Written.{comma_if, compact_text};
 ghost use Rattle.cwr_report.specs.JsonText.{string_text};
@@ -11,37 +13,41 @@ use cwr_field::{Memory, put_decimal};
 use cwr_report::{put_comma, put_json_text, put_option, put_type};
 use std::alloc::Global;
 
-/// Appends remarks as a list of objects of JSON.
-pub(crate) fn put_list(alloc: Global, out: &mut Vec<u8>, remarks: &[Remark]) -> Result<(), Memory>
+/// Appends remarks as a JSON array, with an object for each.
+pub(crate) fn put_json_list(
+    alloc: Global,
+    out: &mut Vec<u8>,
+    remarks: &[Remark],
+) -> Result<(), Memory>
     ensures { OnOk result (out.new.items ≡ out.old.items ++ compact_text (remarks_data remarks.now)) }
 {
-    let mut room = Vec::new(alloc);
+    let mut buffer = Vec::new(alloc);
     out.push(b'[')?;
     let mut later = false;
     for remark in remarks {
-        put_item(out, &mut room, later, remark)?;
+        put_item(out, &mut buffer, later, remark)?;
         later = true;
     }
     out.push(b']')?;
     Ok(())
 }
 
-/// Appends the next remark, with a comma where one stands before.
+/// Appends the next remark. `later` says whether a comma is needed before it.
 fn put_item(
     out: &mut Vec<u8>,
-    room: &mut Vec<u8>,
+    buffer: &mut Vec<u8>,
     later: bool,
     remark: &Remark,
 ) -> Result<(), Memory>
     ensures { OnOk result (out.new.items ≡ out.old.items ++ (comma_if later ++ compact_text (remark_data remark.now))) }
 {
     put_comma(out, later)?;
-    put_remark(out, room, remark)?;
+    put_json_remark(out, buffer, remark)?;
     Ok(())
 }
 
 /// Appends a remark: its numbers, what it is, and where.
-fn put_remark(out: &mut Vec<u8>, room: &mut Vec<u8>, remark: &Remark) -> Result<(), Memory>
+fn put_json_remark(out: &mut Vec<u8>, buffer: &mut Vec<u8>, remark: &Remark) -> Result<(), Memory>
     ensures { OnOk result (out.new.items ≡ out.old.items ++ remark_text remark.now) }
 {
     put_amounts(out, remark.what)?;
@@ -50,13 +56,13 @@ fn put_remark(out: &mut Vec<u8>, room: &mut Vec<u8>, remark: &Remark) -> Result<
     out.extend_from_slice(b",\"record\":")?;
     put_type(out, remark.rtype)?;
     out.extend_from_slice(b",\"text\":")?;
-    put_told(out, room, remark.what)?;
+    put_remark_text(out, buffer, remark.what)?;
     out.extend_from_slice(b"}")?;
     Ok(())
 }
 
-/// Appends the numbers of a remark, with null for each that it does not have, and between them what it is, in a word or a
-/// few.
+/// Appends the numbers of a remark, with null for each that it does not have, and between them what it is, in a word or
+/// a few.
 fn put_amounts(out: &mut Vec<u8>, what: Remarked) -> Result<(), Memory>
     ensures { OnOk result (out.new.items ≡ out.old.items ++ amounts_text what) }
 {
@@ -74,13 +80,13 @@ fn put_amounts(out: &mut Vec<u8>, what: Remarked) -> Result<(), Memory>
     Ok(())
 }
 
-/// Appends what is remarked, in words, which are put together in a room for texts; bytes of the file as they stand.
-fn put_told(out: &mut Vec<u8>, room: &mut Vec<u8>, what: Remarked) -> Result<(), Memory>
+/// Appends the words of a remark. `buffer` is a scratch buffer for texts. Bytes of the file stand as they are.
+fn put_remark_text(out: &mut Vec<u8>, buffer: &mut Vec<u8>, what: Remarked) -> Result<(), Memory>
     ensures { OnOk result (out.new.items ≡ out.old.items ++ string_text (what_text what)) }
 {
-    room.clear();
-    put_what(room, what, false)?;
-    put_json_text(out, room)?;
+    buffer.clear();
+    put_what(buffer, what, false)?;
+    put_json_text(out, buffer)?;
     Ok(())
 }
 
@@ -102,7 +108,8 @@ fn kind_text(what: Remarked) -> &'static [u8]
     }
 }
 
-/// The numbers of a remark: how many bytes, the first of them, where the layout ends, and the length of the line.
+/// The numbers of a remark, in this order: the number of bytes, the position of the first of them, where the layout
+/// ends, and the length of the line.
 fn amounts_in(what: Remarked) -> (Option<u64>, Option<u64>, Option<u64>, Option<u64>)
     ensures count { result.0 ≡ count_in what }
     ensures first { result.1 ≡ first_in what }

@@ -7,7 +7,7 @@ use cwr_record::{
     PublisherTerritory, RecordType, WorkHead, Writer, WriterTerritory,
 };
 
-/// A line of this length that goes past the layout of its type, where that has one.
+/// That a line of this length is longer than the layout of its type, if that has one.
 pub(crate) fn past_layout(length: usize, record_type: RecordType) -> Option<Remarked>
     ensures { result ≡ past_layout length (layout_of record_type) }
 {

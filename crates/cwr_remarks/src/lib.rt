@@ -1,9 +1,9 @@
 //! What a check of a submission file remarks: what is no fault, and is seldom meant.
 //!
-//! [`remarks`] lists those on lines: bytes above 126 in a line, lines that go past the layout of their record, record types
-//! that CWR 2.2 does not have, and publishers and writers all of whose territories are exclusions. A check tells before them
-//! what is to be remarked of the file as a whole: that it is no plain text of CWR, or that a second one begins behind it, and
-//! what its HDR says that the profile does not know. They change no status and no decision.
+//! [`remarks`] lists those on lines: bytes above 126, lines longer than the layout of their record, record types that
+//! CWR 2.2 does not have, and publishers and writers all of whose territories are exclusions. The remarks on the file
+//! itself come first in a check: that it is no plain text of CWR, that a second file follows it, and values in its HDR
+//! that the profile does not know. Remarks change no status and no decision.
 #![tactic(auto)]
 
 mod checks;

@@ -1,17 +1,17 @@
-/// What is remarked of a line, or of a file as a whole at one of its lines. It is no fault: nothing is refused or rejected
-/// for it.
+/// A remark on a line, or on the file itself at one of its lines. It is no fault: nothing is refused or rejected for
+/// it.
 #[derive(Clone, Copy, Debug, PartialEq, Eq)]
 pub struct Remark {
     /// The line of the file, counted from 1.
     pub line: u64,
-    /// Its first three bytes, which name the type of its record; blanks follow where the line has fewer. `None` where what
-    /// is remarked is of no record: of a byte order mark, UTF-16 and gzip.
+    /// The first three bytes of the line, which name its record type, filled with blanks if the line has fewer. `None`
+    /// if the remark is on no record: a byte order mark, UTF-16 or gzip.
     pub rtype: Option<[u8; 3]>,
     /// What is remarked.
     pub what: Remarked,
 }
 
-/// What may be remarked of a line. The first six are of the file as a whole.
+/// What may be remarked of a line. The first six are on the file itself.
 #[derive(Clone, Copy, Debug, PartialEq, Eq)]
 pub enum Remarked {
     /// The file begins with the byte order mark of UTF-8, EF BB BF.
@@ -30,12 +30,12 @@ pub enum Remarked {
     HighBytes {
         /// The position of the first of them in the line, counted from 1.
         first: u64,
-        /// How many they are.
+        /// The number of such bytes.
         count: u64,
     },
-    /// The line goes past the layout of its record.
+    /// The line is longer than the layout of its record.
     PastLayout {
-        /// How many bytes the line has.
+        /// The length of the line, in bytes.
         length: u64,
         /// The position of the layout's last byte.
         layout: u64,

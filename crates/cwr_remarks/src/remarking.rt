@@ -18,11 +18,11 @@ use std::alloc::Allocator;
 
 /// The remarks on the lines of a text, in the order of the lines, each once.
 ///
-/// Of a line they are told in this order: bytes above 126 (where the first is, and how many), a length past the layout of
-/// its record, a record type that CWR 2.2 does not have, and of an SPU with SPT, or an SWR with SWT, that all of these
-/// are exclusions. The SPT of an SPU are those after it, up to the next SPU or the end of the transaction, as for rule
-/// J8; and the SWT of an SWR likewise. What a check remarks of the file as a whole is not among them. Where memory is
-/// refused nothing is told.
+/// Those on one line come in this order: bytes above 126 (the position of the first, and their number), a length beyond
+/// the layout of its record, a record type that CWR 2.2 does not have, and that all territories of an SPU or SWR are
+/// exclusions. The SPT of an SPU are those after it, up to the next SPU or the end of the transaction, as for rule J8;
+/// the SWT of an SWR likewise. Remarks on the file itself are not among them. If an allocation fails, the result is
+/// `Memory` alone.
 pub fn remarks<A: Allocator>(alloc: A, text: &[u8]) -> Result<Vec<Remark, A>, Memory>
     ensures { IfOk result (λ found. found.items ≡ remarks_from 1 (lines text.now)) }
 {
@@ -33,8 +33,8 @@ pub fn remarks<A: Allocator>(alloc: A, text: &[u8]) -> Result<Vec<Remark, A>, Me
 
 /// The remarks on the lines of a text before the one with this number, counted from 1.
 ///
-/// Of a file that is refused these are the remarks on the lines before the faulty one. Where memory is refused nothing is
-/// told.
+/// If a file is refused, these are the remarks on the lines before the faulty one. If an allocation fails, the result
+/// is `Memory` alone.
 pub fn remarks_before<A: Allocator>(
     alloc: A,
     text: &[u8],
@@ -77,8 +77,9 @@ pub(crate) fn push_remarks_before<A: Allocator>(
     Ok(())
 }
 
-/// Appends the remarks on the lines from the first of these numbers up to the last, without that one: the first line was
-/// taken, and the others are behind it. Gives the line with the last number, where there is one, and those behind it.
+/// Appends the remarks on the lines from number `first` up to `last`, without that one. `found` is the list so far.
+/// `taken` is line `first`, if there is one, and `behind` has the lines after it. Returns line `last`, if there is one,
+/// and the lines behind it.
 fn push_remarks_to<'a, A: Allocator>(
     found: &mut Vec<Remark, A>,
     first: u64,
@@ -105,7 +106,7 @@ fn push_remarks_to<'a, A: Allocator>(
     Ok((next, rest))
 }
 
-/// The lines behind the last one, where what is remarked of it depends on them. Else they are not looked at.
+/// The lines behind the last one, if a remark on it depends on them. Else they are not looked at.
 fn looked_at<'a>(last: Option<Typed>, behind: Lines<'a>) -> Lines<'a>
     ensures { result ≡ looked_at last.entry behind.entry }
 {
@@ -115,7 +116,8 @@ fn looked_at<'a>(last: Option<Typed>, behind: Lines<'a>) -> Lines<'a>
     }
 }
 
-/// Appends the remarks on a line with this number, before one that was taken and these lines.
+/// Appends the remarks on a line. `found` is the list so far, `number` the line's number, from 1, and `taken` the line.
+/// `next` is the line after it, if there is one, and `after` has the lines behind that.
 fn push_remarks_on<A: Allocator>(
     found: &mut Vec<Remark, A>,
     number: u64,
@@ -140,7 +142,7 @@ fn push_remarks_on<A: Allocator>(
     Ok(())
 }
 
-/// Appends a remark on a line with this number, where there is something to remark.
+/// Appends a remark on a line with this number, if there is something to remark.
 #[inline(always)]
 pub(crate) fn push_remark<A: Allocator>(
     found: &mut Vec<Remark, A>,

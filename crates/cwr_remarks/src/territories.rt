@@ -2,7 +2,7 @@ ghost use Rattle.std.specs.Prelude.{◌≡◌, ◌∷◌, ℕ, List, IsTrue, IfO
 ghost use Rattle.cwr_record.specs.RecordTypes.{type_of};
 ghost use Rattle.cwr_record.specs.Parties.{has_collection};
 ghost use Rattle.cwr_remarks.specs.Territories.{has_territories, is_territory_of, is_outside, is_end, is_exclusion, are_excluded, only_excluded};
-ghost use Rattle.cwr_remarks.specs.Told.{told_with};
+ghost use Rattle.cwr_remarks.specs.TerritoryScan.{scanned_with};
 ghost use Rattle.cwr_remarks.specs.Typed.{left, IsTyped};
 
 use crate::remark::Remarked;
@@ -11,8 +11,8 @@ use cwr_field::Memory;
 use cwr_grammar::Lines;
 use cwr_record::{RecordType, indicator_of, type_of};
 
-/// A record of this type, before a line that was taken and these lines, whose territories are exclusions alone. That line
-/// mostly tells it.
+/// That all territories of a record of this type are exclusions. `next` is the line after the record, if there is one,
+/// and `after` has the lines behind that. Mostly `next` alone decides.
 pub(crate) fn only_excluded(
     leading: RecordType,
     next: Option<Typed>,
@@ -29,7 +29,7 @@ pub(crate) fn only_excluded(
 
 /// What is known of the territories of a record at one of the lines after it.
 #[derive(Clone, Copy)]
-pub(crate) enum Told {
+pub(crate) enum TerritoryScan {
     /// Whether all of them are exclusions, and there are some.
     All(bool),
     /// All so far are exclusions; whether there are some.
@@ -42,8 +42,8 @@ pub(crate) fn has_territories(leading: RecordType) -> bool
     matches!(leading, RecordType::Spu | RecordType::Swr)
 }
 
-/// Whether the territories of a record, among a line that was taken and these lines, are told to their end, and all of
-/// them are exclusions.
+/// Whether the territories of a record are seen to their end, and all of them are exclusions. `next` is the line after
+/// the record, if there is one, and `after` has the lines behind that.
 fn are_excluded_after(
     leading: RecordType,
     next: Option<Typed>,
@@ -55,44 +55,45 @@ fn are_excluded_after(
     let Some(next) = next else {
         return Ok(false);
     };
-    match told_by(leading, false, next.line, next.record_type) {
-        Told::All(excluded) => Ok(excluded),
-        Told::SoFar(some) => Ok(are_excluded(leading, some, after.clone()?)),
+    match scan_line(leading, false, next.line, next.record_type) {
+        TerritoryScan::All(excluded) => Ok(excluded),
+        TerritoryScan::SoFar(some) => Ok(are_excluded(leading, some, after.clone()?)),
     }
 }
 
-/// The same among these lines, where there are some territories before them, or none.
+/// The same among these lines. `some` says whether there are territories before them.
 fn are_excluded(leading: RecordType, some: bool, after: Lines) -> bool
     ensures { result ≡ are_excluded leading some after.entry }
 {
     let mut so_far = some;
     for line in after {
-        match told_by(leading, so_far, line, type_of(line)) {
-            Told::All(excluded) => return excluded,
-            Told::SoFar(some) => so_far = some,
+        match scan_line(leading, so_far, line, type_of(line)) {
+            TerritoryScan::All(excluded) => return excluded,
+            TerritoryScan::SoFar(some) => so_far = some,
         }
     }
     false
 }
 
-/// What a line of this type tells of the territories of an earlier record, after some of them, or none.
+/// What a line of this type says of the territories of an earlier record. `some` says whether there are territories
+/// before it.
 #[inline(always)]
-fn told_by(leading: RecordType, some: bool, line: &[u8], record_type: RecordType) -> Told
+fn scan_line(leading: RecordType, some: bool, line: &[u8], record_type: RecordType) -> TerritoryScan
     requires { record_type ≡ type_of line.now }
-    ensures { (after : List (List ℕ)) → are_excluded leading some (line.now ∷ after) ≡ told_with leading after result }
+    ensures { (after : List (List ℕ)) → are_excluded leading some (line.now ∷ after) ≡ scanned_with leading after result }
 {
     if is_territory_of(leading, record_type) {
         if is_exclusion(record_type, line) {
-            Told::SoFar(true)
+            TerritoryScan::SoFar(true)
         } else {
-            Told::All(false)
+            TerritoryScan::All(false)
         }
     } else if is_end(leading, record_type) {
-        Told::All(some)
+        TerritoryScan::All(some)
     } else if record_type == RecordType::Bad {
-        Told::All(false)
+        TerritoryScan::All(false)
     } else {
-        Told::SoFar(some)
+        TerritoryScan::SoFar(some)
     }
 }
 

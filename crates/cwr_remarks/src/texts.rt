@@ -1,5 +1,5 @@
 ghost use Rattle.std.specs.Prelude.{◌≡◌, ◌++◌, OnOk};
-ghost use Rattle.cwr_report.specs.Shown.{told_bytes};
+ghost use Rattle.cwr_report.specs.Shown.{bytes_as_printed};
 ghost use Rattle.cwr_remarks.specs.Texts.{high_text, past_text, version_text, sender_text, what_as, line_text, type_text, remark_text, remarks_text};
 
 use crate::remark::{Remark, Remarked};
@@ -7,11 +7,11 @@ use cwr_field::{Memory, put_decimal};
 use cwr_report::{put_bytes, put_shown, put_text};
 use std::alloc::Allocator;
 
-/// Appends a line for each remark, with LF at its end: the line of the file, the record type where there is one, and what is
-/// remarked.
+/// Appends a line for each remark, with LF at its end: the number of the file's line, the record type if there is one,
+/// and the remark.
 ///
-/// A byte of the file below 32 or above 126 is shown as `\xEF` there, as by [`put_shown`]. A refusal may leave some of the
-/// lines, and a part of the next.
+/// A byte of the file below 32 or above 126 is shown as `\xEF`, as by [`put_shown`]. An allocation failure may leave
+/// some of the lines, and a part of the next.
 pub fn put_remarks<A: Allocator>(out: &mut Vec<u8, A>, remarks: &[Remark]) -> Result<(), Memory>
     ensures { OnOk result (out.new.items ≡ out.old.items ++ remarks_text remarks.now) }
 {
@@ -32,7 +32,7 @@ fn put_remark<A: Allocator>(out: &mut Vec<u8, A>, remark: &Remark) -> Result<(),
     Ok(())
 }
 
-/// Appends the line that is remarked.
+/// Appends the number of the line that the remark is on.
 fn put_line<A: Allocator>(out: &mut Vec<u8, A>, number: u64) -> Result<(), Memory>
     ensures { OnOk result (out.new.items ≡ out.old.items ++ line_text number) }
 {
@@ -42,7 +42,7 @@ fn put_line<A: Allocator>(out: &mut Vec<u8, A>, number: u64) -> Result<(), Memor
     Ok(())
 }
 
-/// Appends a record type, where there is one.
+/// Appends a record type, if there is one.
 fn put_type<A: Allocator>(out: &mut Vec<u8, A>, rtype: Option<[u8; 3]>) -> Result<(), Memory>
     ensures { OnOk result (out.new.items ≡ out.old.items ++ type_text rtype) }
 {
@@ -54,7 +54,7 @@ fn put_type<A: Allocator>(out: &mut Vec<u8, A>, rtype: Option<[u8; 3]>) -> Resul
     Ok(())
 }
 
-/// Appends what is remarked, in words, with bytes of the file as they are shown, or as they stand.
+/// Appends the words of a remark. Bytes of the file are escaped if `shows` is true, else they stand as they are.
 pub(crate) fn put_what<A: Allocator>(
     out: &mut Vec<u8, A>,
     what: Remarked,
@@ -99,7 +99,7 @@ fn put_version<A: Allocator>(
     version: [u8; 3],
     shows: bool,
 ) -> Result<(), Memory>
-    ensures { OnOk result (out.new.items ≡ out.old.items ++ version_text (told_bytes shows version)) }
+    ensures { OnOk result (out.new.items ≡ out.old.items ++ version_text (bytes_as_printed shows version)) }
 {
     out.extend_from_slice(b"CWR version \"")?;
     put_bytes(out, &version, shows)?;
@@ -108,7 +108,7 @@ fn put_version<A: Allocator>(
 }
 
 fn put_sender<A: Allocator>(out: &mut Vec<u8, A>, kind: [u8; 2], shows: bool) -> Result<(), Memory>
-    ensures { OnOk result (out.new.items ≡ out.old.items ++ sender_text (told_bytes shows kind)) }
+    ensures { OnOk result (out.new.items ≡ out.old.items ++ sender_text (bytes_as_printed shows kind)) }
 {
     out.extend_from_slice(b"sender type \"")?;
     put_bytes(out, &kind, shows)?;

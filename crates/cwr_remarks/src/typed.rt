@@ -11,7 +11,7 @@ pub(crate) struct Typed<'a> {
     pub(crate) record_type: RecordType,
 }
 
-/// Takes the next of some lines, where there is one, and reads its type.
+/// Takes the next line, if there is one, and reads its type.
 #[inline(always)]
 pub(crate) fn next_typed<'a>(rest: &mut Lines<'a>) -> Option<Typed<'a>>
     ensures left { left result rest.new ≡ rest.old }

@@ -5,7 +5,7 @@ ghost use Rattle.cwr_remarks.specs.Types.{is_standard, unknown_type};
 use crate::remark::Remarked;
 use cwr_record::{RecordType, field_at};
 
-/// A line whose record is of this type, where CWR 2.2 has no record of its name.
+/// That a line names a record type that CWR 2.2 does not have. `record_type` is the type that was read of it.
 pub(crate) fn unknown_type(record_type: RecordType, line: &[u8]) -> Option<Remarked>
     ensures { result ≡ unknown_type record_type (field_at line.now every_record_type) }
 {

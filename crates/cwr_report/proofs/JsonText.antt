@@ -8,11 +8,11 @@ use Rattle.cwr_report.specs.declared.finding.Finding.{Finding}
 use Rattle.cwr_report.specs.declared.finding.Spot.{Spot}
 use Rattle.cwr_report.specs.declared.file_finding.FileFinding.{FileFinding}
 use Rattle.cwr_report.specs.declared.file_finding.WrongByte.{WrongByte}
-use Rattle.cwr_report.specs.declared.json_faults.Place.{Place}
+use Rattle.cwr_report.specs.declared.json_faults.PlaceMembers.{PlaceMembers}
 use Rattle.cwr_report.specs.FileText.{counted, file_rule_text, file_wanted_text}
 use Rattle.cwr_report.specs.LongText.{name_text, stands_at, message_of, wanted_text}
-use Rattle.cwr_report.specs.Json.{text_data, count_data, option_data, field_members, fields_data, type_data, place_members, fault_members, told_data, byte_data, file_place, file_told_data}
-use Rattle.cwr_report.specs.JsonText.{string_text, option_text, field_text, byte_text, where_text, rule_text, tail_text, fault_text, told_text, file_told_text}
+use Rattle.cwr_report.specs.Json.{text_data, count_data, option_data, field_members, fields_data, type_data, place_members, fault_members, fault_object, byte_data, file_place, file_fault_object}
+use Rattle.cwr_report.specs.JsonText.{string_text, option_text, field_text, byte_text, where_text, rule_text, tail_text, fault_text, fault_object_text, file_fault_object_text}
 
 in_one_row : (b byte x expected f fields g group l line r rtype u rule s detail t text n transaction end : List ℕ)
     → (b ++ byte ++ x) ++ expected ++ f ++ fields ++ (g ++ group ++ l ++ line ++ r ++ rtype) ++ (u ++ rule) ++ (s ++ detail ++ t ++ text ++ n ++ transaction ++ end)
@@ -61,15 +61,15 @@ byte_is (Some wrong) =
     ∙ wrong_object wrong
 
 -- of a fault of a transaction
-pub told_is : (line : List ℕ) (f : Finding) → told_text line f ≡ compact_text (told_data line f)
+pub told_is : (line : List ℕ) (f : Finding) → fault_object_text line f ≡ compact_text (fault_object line f)
 told_is line f =
     fault_is f.line (Some f.fault.rtype) (Some f.group) (Some f.transaction) (Some f.fault.sequence) (codes "J") f.fault.number (message_of f.fault.number)
     (fields_data line f.fields) null (text_data (wanted_text f.fault.number f.expected))
 
 -- of the fault of a file, in the record that stands there
-pub file_told_is : (line : List ℕ) (f : FileFinding) (place : Place)
+pub file_told_is : (line : List ℕ) (f : FileFinding) (place : PlaceMembers)
     → ((n : ℕ) → file_place n f.rtype f.place ≡ place_members n (type_data place.rtype) place.group place.transaction place.detail)
-    → file_told_text line f place ≡ compact_text (file_told_data line f)
+    → file_fault_object_text line f place ≡ compact_text (file_fault_object line f)
 file_told_is line f place stands =
     let rule = text_data (counted (codes "F") f.number) in
     let text = text_data (file_rule_text f.number) in

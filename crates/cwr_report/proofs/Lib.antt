@@ -9,7 +9,7 @@ pub mod JsonRuns
 pub mod JsonText
 pub mod Located
 pub mod Inside
-pub mod Told
+pub mod FindingPlaces
 pub mod FindingSteps
 pub mod Naming
 pub mod Steps

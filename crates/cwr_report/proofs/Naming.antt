@@ -23,7 +23,7 @@ use Rattle.cwr_rules.specs.Rules.{name_of, publishers, are_valid, is_wrong, has_
 use Rattle.cwr_report.specs.declared.finding.FieldName.{FieldName}
 use Rattle.cwr_report.specs.declared.finding.FieldName.TheVariants as name
 use Rattle.cwr_report.specs.Fields.{spot_where, fields_of, wrong_dates, wrong_shares, wrong_ownership, wrong_collection, wrong_territory, is_no_indicator}
-use Rattle.cwr_report.specs.Told.{tells_a_field, names_a_field}
+use Rattle.cwr_report.specs.FindingPlaces.{has_a_field, names_a_field}
 use Rattle.cwr_report.specs.Walks.{first_of, line_at}
 use Rattle.cwr_report.proofs.Inside.{either, apart}
 use Rattle.cwr_report.proofs.Walking.{rest_more}
@@ -46,36 +46,36 @@ broken fault k rtype (rule ∷ rules) is =
     (λ a. let one = broken_one fault k rule.0 rtype rule.1 a in (one.0, inl (one.1, one.2)))
     (λ b. let more = broken fault k rtype rules b in (more.0, inr more.1))
 
-one_of_two : (a b : Bool) (x y : FieldName) (p q : Column) → not (a && b) ≡ true → tells_a_field (spot_where (not a) x p ∷ spot_where (not b) y q ∷ None ∷ []) ≡ true
+one_of_two : (a b : Bool) (x y : FieldName) (p q : Column) → not (a && b) ≡ true → has_a_field (spot_where (not a) x p ∷ spot_where (not b) y q ∷ None ∷ []) ≡ true
 one_of_two false b x y p q e = refl
 one_of_two true false x y p q e = refl
 one_of_two true true x y p q e = absurd cc
 
-either_of_two : (a b : Bool) (x y : FieldName) (p q : Column) → (a || b) ≡ true → tells_a_field (spot_where a x p ∷ spot_where b y q ∷ None ∷ []) ≡ true
+either_of_two : (a b : Bool) (x y : FieldName) (p q : Column) → (a || b) ≡ true → has_a_field (spot_where a x p ∷ spot_where b y q ∷ None ∷ []) ≡ true
 either_of_two true b x y p q e = refl
 either_of_two false true x y p q e = refl
 either_of_two false false x y p q e = absurd cc
 
 one_of_three : (a b c : Option ℕ) (x y z : FieldName) (p q r : Column) → not (is_some a && is_some b && is_some c) ≡ true
-    → tells_a_field (spot_where (is_none a) x p ∷ spot_where (is_none b) y q ∷ spot_where (is_none c) z r ∷ []) ≡ true
+    → has_a_field (spot_where (is_none a) x p ∷ spot_where (is_none b) y q ∷ spot_where (is_none c) z r ∷ []) ≡ true
 one_of_three None b c x y z p q r e = refl
 one_of_three (Some m) None c x y z p q r e = refl
 one_of_three (Some m) (Some n) None x y z p q r e = refl
 one_of_three (Some m) (Some n) (Some o) x y z p q r e = absurd cc
 
-owned : (t : RecordType) (line : List ℕ) → not (are_valid (owned_at t line)) ≡ true → tells_a_field (wrong_ownership line (ownership_columns t)) ≡ true
+owned : (t : RecordType) (line : List ℕ) → not (are_valid (owned_at t line)) ≡ true → has_a_field (wrong_ownership line (ownership_columns t)) ≡ true
 owned t line e =
     let at = ownership_columns t in
     one_of_three (share_of (field_at line at.performing)) (share_of (field_at line at.mechanical)) (share_of (field_at line at.synchronization))
     name.PerformingOwnership name.MechanicalOwnership name.SynchronizationOwnership at.performing at.mechanical at.synchronization e
 
-collected : (t : RecordType) (line : List ℕ) → not (are_valid (collected_at t line)) ≡ true → tells_a_field (wrong_collection line (collection_columns t)) ≡ true
+collected : (t : RecordType) (line : List ℕ) → not (are_valid (collected_at t line)) ≡ true → has_a_field (wrong_collection line (collection_columns t)) ≡ true
 collected t line e =
     let at = collection_columns t in
     one_of_three (share_of (field_at line at.performing)) (share_of (field_at line at.mechanical)) (share_of (field_at line at.synchronization))
     name.PerformingCollection name.MechanicalCollection name.SynchronizationCollection at.performing at.mechanical at.synchronization e
 
-shares_told : (t : RecordType) (line : List ℕ) → has_wrong_share (record_as t line) ≡ true → tells_a_field (wrong_shares t line) ≡ true
+shares_told : (t : RecordType) (line : List ℕ) → has_wrong_share (record_as t line) ≡ true → has_a_field (wrong_shares t line) ≡ true
 shares_told Spu line e = owned Spu line e
 shares_told Opu line e = owned Opu line e
 shares_told Spt line e = collected Spt line e
@@ -84,17 +84,17 @@ shares_told Owr line e = owned Owr line e
 shares_told Swt line e = collected Swt line e
 shares_told _ line e = absurd cc
 
-indicated : (t : RecordType) (line : List ℕ) → is_wrong (territory_at t line) ≡ true → tells_a_field (wrong_territory t line) ≡ true
+indicated : (t : RecordType) (line : List ℕ) → is_wrong (territory_at t line) ≡ true → has_a_field (wrong_territory t line) ≡ true
 indicated t line e =
     either_of_two (is_no_indicator (slice_index (field_at line (indicator_column t)) 0)) (is_none (territory_of (field_at line (territory_column t)))) name.Indicator name.Territory (indicator_column t) (territory_column t) e
 
-territory_told : (t : RecordType) (line : List ℕ) → has_wrong_territory (record_as t line) ≡ true → tells_a_field (wrong_territory t line) ≡ true
+territory_told : (t : RecordType) (line : List ℕ) → has_wrong_territory (record_as t line) ≡ true → has_a_field (wrong_territory t line) ≡ true
 territory_told Spt line e = indicated Spt line e
 territory_told Swt line e = indicated Swt line e
 territory_told _ line e = absurd cc
 
 abbrev Tells : ℕ → List ℕ → Type 0
-Tells n line = tells_a_field (fields_of n line) ≡ true
+Tells n line = has_a_field (fields_of n line) ≡ true
 
 of_record : (parties before : List (List ℕ)) (line : List ℕ) (n : ℕ) → Broken (record_rules parties (records_of before) (record_of line)) n → Tells n line
 of_record parties before line n (inl one) = subst (λ m. Tells m line) (sym one.1) refl
@@ -112,7 +112,7 @@ names_none n m line same none some = absurd (no (sym none ∙ ap names_a_field (
     no : false ≡ true → ⊥
     no e = absurd cc
 
-dates_told : (head : List ℕ) → has_wrong_date head ≡ true → tells_a_field (wrong_dates head) ≡ true
+dates_told : (head : List ℕ) → has_wrong_date head ≡ true → has_a_field (wrong_dates head) ≡ true
 dates_told head e =
     one_of_two (is_copyright_date (field_at head column.work_head_copyright_date)) (is_duration (field_at head column.work_head_duration)) name.CopyrightDate name.Duration column.work_head_copyright_date column.work_head_duration e
 

@@ -1,4 +1,4 @@
--- What the lines of a file before one of them say, and where that one stands: the questions of the grammar, answered.
+-- What the lines of a file before one of them say, and where that one stands in the file's groups and transactions.
 use Rattle.std.specs.Prelude.{ℕ, ◌≡◌, ◌+◌, ◌-◌, ◌&&◌, List, [], ◌∷◌, map, drop, Option, Some, None, if◌then◌else◌}
 use Rattle.cwr_grammar.specs.Counted.{counts_of}
 use Rattle.cwr_grammar.specs.Roles.{role_of}
@@ -9,15 +9,16 @@ use Rattle.cwr_report.specs.Walks.{lines_before}
 use Rattle.cwr_report.specs.declared.file_finding.RecordPlace.{RecordPlace}
 use Rattle.cwr_report.specs.declared.file_finding.RecordPlace.TheVariants.{Nameless, File, Group, Transaction}
 
--- what these lines say, the newest first
+-- the counts of these lines, which stand the newest first
 abbrev pub before_of : List (List ℕ) → FileCounts
 before_of before = counts_of (map role_of before)
 
--- of these lines so many were passed, and the rest is left
+-- the first `index` lines were read, b are their counts, and the rest is left
 pub record IsPassed (b : FileCounts) (rest all : List (List ℕ)) (index : ℕ) : Type 0 where
   pub left : rest ≡ drop index all
   pub before_is : b ≡ before_of (lines_before all index)
 
+-- the first of the lines, where there is one
 abbrev pub first_here : List (List ℕ) → Option (List ℕ)
 first_here [] = None
 first_here (line ∷ more) = Some line
@@ -26,19 +27,21 @@ first_here (line ∷ more) = Some line
 abbrev pub here : List (List ℕ) → ℕ → Option (List ℕ)
 here lines index = first_here (drop index lines)
 
--- GRT closes the group that is open
+-- where a GRT stands: in the open group, or outside groups where none is open
 abbrev pub trailer_place : FileCounts → RecordPlace
 trailer_place b = if b.in_group then Group b.groups else File
 
--- a header begins the next transaction of the group
+-- where a transaction's header stands: it begins the next transaction of the open group, counted from 0; outside
+-- groups where none is open
 abbrev pub header_place : FileCounts → RecordPlace
 header_place b = if b.in_group then Transaction b.groups b.transactions 0 else File
 
--- a detail goes on with the last transaction of the group
+-- where a detail stands: in the last transaction of the open group, with the next record sequence; outside groups
+-- where there is none
 abbrev pub detail_place : FileCounts → RecordPlace
 detail_place b = if b.in_group && b.in_transaction then Transaction b.groups (b.transactions - 1) (b.details + 1) else File
 
--- where a line with a record of this type stands
+-- where a line with a record of this type stands, given the counts of the lines before it
 abbrev pub place_in : FileCounts → RecordType → RecordPlace
 place_in b Bad = Nameless
 place_in b Hdr = File

@@ -1,4 +1,4 @@
--- What a rule of files asks for in a line, after the lines before it, and which of its fields are not so.
+-- What a rule of files requires of a line, after the lines before it, and which of its fields are not so.
 use Rattle.std.specs.Prelude.{ℕ, ◌+◌, ◌-◌, not, ◌==◌, List, [], ◌∷◌, length, Option, Some, None, is_none, if◌then◌else◌}
 use Rattle.cwr_field.specs.Calendar.{day_of, time_of}
 use Rattle.cwr_record.specs.Columns as column
@@ -17,31 +17,32 @@ use Rattle.cwr_report.specs.declared.file_finding.FileExpected.{FileExpected}
 use Rattle.cwr_report.specs.declared.file_finding.FileExpected.TheVariants as wants
 use Rattle.cwr_report.specs.Fields.{spot_where, no_fields, one_field}
 
--- F3: no record type, or in HDR dates and a time
+-- F3: a record type, or in HDR valid dates and a valid time
 abbrev pub malformed_expected : RecordType → FileExpected
 malformed_expected Bad = wants.RecordType
 malformed_expected _ = wants.Dates
 
--- F4: what may stand after the lines before
+-- F4: which records may stand after the lines before
 abbrev pub record_expected : FileCounts → FileExpected
 record_expected b =
     if not b.in_group then wants.OutsideGroups
     else if b.in_transaction then wants.InTransaction b.kind
     else wants.InGroup b.kind
 
--- F7: the id of the group that GRT closes, or the next one
+-- F7: the group ID of the group that a GRT closes, or of the next one for a GRH
 abbrev pub group_expected : FileCounts → RecordType → ℕ
 group_expected b Grt = b.groups
 group_expected b _ = b.groups + 1
 
--- F8: the sequences of a header, which begins a transaction
+-- F8: the sequences of a header, which begins the next transaction
 abbrev pub header_sequences : FileCounts → FileExpected
 header_sequences b = wants.Sequences b.transactions 0
 
--- F8: the sequences of a detail, which goes on with the last transaction
+-- F8: the sequences of a detail, which continues the last transaction
 abbrev pub detail_sequences : FileCounts → FileExpected
 detail_sequences b = wants.Sequences (b.transactions - 1) (b.details + 1)
 
+-- F8: the sequences of a record of this type
 abbrev pub sequences_expected : FileCounts → RecordType → FileExpected
 sequences_expected b Nwr = header_sequences b
 sequences_expected b Rev = header_sequences b
@@ -49,7 +50,7 @@ sequences_expected b Ack = header_sequences b
 sequences_expected b Other = header_sequences b
 sequences_expected b _ = detail_sequences b
 
--- what the rule with this number asks for in a line
+-- what the rule F with this number requires of a line, given the counts of the lines before it
 abbrev pub expected_in_line : ℕ → FileCounts → List ℕ → FileExpected
 expected_in_line number b line =
     if number == 1 then wants.Header
@@ -65,27 +66,28 @@ expected_in_line number b line =
     else if number == 11 then wants.Tail
     else wants.Length (length line)
 
--- what it asks for at the end of the file: F1 or F11
+-- what it requires at the end of the file: F1 an HDR, F11 a TRL
 abbrev pub expected_at_end : ℕ → FileExpected
 expected_at_end number = if number == 1 then wants.Header else wants.Trailer
 
--- what it asks for where this line stands, or none
+-- what it requires of the line that stands there, or of the end of the file where there is none
 abbrev pub file_expected : ℕ → FileCounts → Option (List ℕ) → FileExpected
 file_expected number b None = expected_at_end number
 file_expected number b (Some line) = expected_in_line number b line
 
--- a number that is not this one
+-- the field, where its number is not n; else `None`
 abbrev pub wrong_number : List ℕ → ℕ → FieldName → Column → Option Spot
 wrong_number line n called at = spot_where (not (is_number (number_at line at) n)) called at
 
--- a date that is none
+-- the field, where it has no valid date; else `None`
 abbrev pub wrong_day : List ℕ → FieldName → Column → Option Spot
 wrong_day line called at = spot_where (is_none (day_of (field_at line at))) called at
 
--- a time that is none
+-- the field, where it has no valid time; else `None`
 abbrev pub wrong_time : List ℕ → FieldName → Column → Option Spot
 wrong_time line called at = spot_where (is_none (time_of (field_at line at))) called at
 
+-- the dates and the time of an HDR that are not valid
 abbrev pub wrong_header_dates : List ℕ → List (Option Spot)
 wrong_header_dates line =
     wrong_day line name.CreationDate column.header_creation_date
@@ -93,11 +95,12 @@ wrong_header_dates line =
     ∷ wrong_day line name.TransmissionDate column.header_transmission_date
     ∷ []
 
--- where the group id of GRT stands, or that of GRH
+-- the column of the group ID in a GRT, or in a GRH
 abbrev pub group_column : RecordType → Column
 group_column Grt = column.group_trailer_group
 group_column _ = column.group_head_group
 
+-- the transaction sequence and the record sequence, where they are not these
 abbrev pub wrong_sequences : List ℕ → ℕ → ℕ → List (Option Spot)
 wrong_sequences line transaction place =
     wrong_number line transaction name.TransactionSequence column.prefix_transaction
@@ -105,6 +108,7 @@ wrong_sequences line transaction place =
     ∷ None
     ∷ []
 
+-- the counts of a GRT that are not these
 abbrev pub wrong_group_counts : List ℕ → ℕ → ℕ → List (Option Spot)
 wrong_group_counts line transactions records =
     wrong_number line transactions name.TransactionCount column.group_trailer_transactions
@@ -112,6 +116,7 @@ wrong_group_counts line transactions records =
     ∷ None
     ∷ []
 
+-- the counts of a TRL that are not these
 abbrev pub wrong_file_counts : List ℕ → ℕ → ℕ → ℕ → List (Option Spot)
 wrong_file_counts line groups transactions records =
     wrong_number line groups name.GroupCount column.file_trailer_groups
@@ -119,7 +124,7 @@ wrong_file_counts line groups transactions records =
     ∷ wrong_number line records name.RecordCount column.file_trailer_records
     ∷ []
 
--- the fields of a line that are not as they are expected
+-- the fields of a line that are not as expected
 abbrev pub fields_in_line : List ℕ → FileExpected → List (Option Spot)
 fields_in_line line wants.Header = one_field name.RecordType column.every_record_type
 fields_in_line line wants.NoControl = no_fields
@@ -138,7 +143,7 @@ fields_in_line line wants.Trailer = no_fields
 fields_in_line line wants.Tail = no_fields
 fields_in_line line (wants.Length size) = no_fields
 
--- of the line that stands there, where there is one
+-- the same of the line that stands there; no field where there is none
 abbrev pub fields_of_file : Option (List ℕ) → FileExpected → List (Option Spot)
 fields_of_file None expected = no_fields
 fields_of_file (Some line) expected = fields_in_line line expected

@@ -1,4 +1,4 @@
--- What is told of the first fault of a file: lines for a person, each with LF at its end.
+-- What a report prints of the first fault of a file: lines for a person, each with LF at its end.
 use Rattle.std.specs.Prelude.{ℕ, ◌-◌, ◌==◌, List, [], ◌++◌, Option, Some, None, codes, if◌then◌else◌}
 use Rattle.std.specs.Fmt.{decimal}
 use Rattle.cwr_record.specs.Kinds.{work_kind_code}
@@ -14,7 +14,7 @@ use Rattle.cwr_report.specs.LongText.{spots_text}
 use Rattle.cwr_report.specs.Shown.{shown_text}
 use Rattle.cwr_report.specs.Walks.{line_at}
 
--- the text of the rule with this number
+-- what a fault of the rule F with this number is called
 abbrev pub file_rule_text : ℕ → List ℕ
 file_rule_text number =
     if number == 1 then codes "the file does not begin with HDR"
@@ -30,11 +30,11 @@ file_rule_text number =
     else if number == 11 then codes "no TRL at the end, or something after it"
     else codes "a line of more than 4,096 bytes"
 
--- words, and a number
+-- words followed by a number
 abbrev pub counted : List ℕ → ℕ → List ℕ
 counted words number = words ++ decimal number
 
--- a record of a transaction
+-- a record of a transaction, by its type, its sequence, its transaction and its group
 abbrev pub detail_text : List ℕ → ℕ → ℕ → ℕ → List ℕ
 detail_text rtype group transaction detail =
     shown_text rtype
@@ -42,7 +42,7 @@ detail_text rtype group transaction detail =
     ++ counted (codes " of transaction ") transaction
     ++ counted (codes " in group ") group
 
--- the record that is faulty
+-- the faulty record, or where it stands
 abbrev pub place_text : List ℕ → RecordPlace → List ℕ
 place_text rtype place.End = codes "end of the file"
 place_text rtype place.AfterTrailer = codes "after TRL"
@@ -51,7 +51,7 @@ place_text rtype place.File = shown_text rtype
 place_text rtype (place.Group group) = shown_text rtype ++ counted (codes " of group ") group
 place_text rtype (place.Transaction group transaction detail) = detail_text rtype group transaction detail
 
--- the byte that is wrong
+-- the line of the wrong byte, where there is one
 abbrev pub byte_text : Option WrongByte → List ℕ
 byte_text None = []
 byte_text (Some wrong) =
@@ -63,23 +63,27 @@ byte_text (Some wrong) =
     ++ decimal wrong.in_file
     ++ codes " of the file\n"
 
+-- the transaction type of a group; NWR or REV where it is not known
 abbrev pub kind_text : Option WorkKind → List ℕ
 kind_text None = codes "NWR or REV"
 kind_text (Some kind) = work_kind_code kind
 
+-- the transaction and the record sequence that were expected
 abbrev pub sequences_text : ℕ → ℕ → List ℕ
 sequences_text transaction detail =
     counted (codes "transaction sequence ") transaction ++ counted (codes ", record sequence ") detail
 
+-- the transaction count and the record count that were expected
 abbrev pub counts_text : ℕ → ℕ → List ℕ
 counts_text transactions records =
     counted (codes "transaction count ") transactions ++ counted (codes ", record count ") records
 
+-- the three counts of a TRL that were expected
 abbrev pub file_counts_text : ℕ → ℕ → ℕ → List ℕ
 file_counts_text groups transactions records =
     counted (codes "group count ") groups ++ codes ", " ++ counts_text transactions records
 
--- what was expected
+-- what was expected, in words
 abbrev pub file_wanted_text : FileExpected → List ℕ
 file_wanted_text wants.Header = codes "HDR"
 file_wanted_text wants.NoControl = codes "no byte below 32"
@@ -98,7 +102,7 @@ file_wanted_text wants.Trailer = codes "TRL"
 file_wanted_text wants.Tail = codes "blanks and bytes 26 alone"
 file_wanted_text (wants.Length size) = counted (codes "at most 4096 bytes; the line has ") size
 
--- the line, the record and the rule
+-- the line with the place of the fault and its rule
 abbrev pub file_place_text : FileFinding → List ℕ
 file_place_text f =
     codes "line "
@@ -111,22 +115,23 @@ file_place_text f =
     ++ file_rule_text f.number
     ++ codes "\n"
 
+-- the line with what was expected
 abbrev pub file_expected_text : FileExpected → List ℕ
 file_expected_text expected = codes "  expected: " ++ file_wanted_text expected ++ codes "\n"
 
--- the last line, which is all that a check without more words tells
+-- the last line, which is all that a plain check prints of the fault
 abbrev pub refused_line : FileFinding → List ℕ
 refused_line f = refused_text f.number f.line ++ codes "\n"
 
--- of a fault in a line with these bytes
-abbrev pub file_told : List ℕ → FileFinding → List ℕ
-file_told line f =
+-- the report of a fault in a line with these bytes
+abbrev pub file_fault_report : List ℕ → FileFinding → List ℕ
+file_fault_report line f =
     file_place_text f
     ++ byte_text f.byte
     ++ spots_text line f.fields
     ++ file_expected_text f.expected
     ++ refused_line f
 
--- of a fault in a file with these lines
+-- the report of a fault in a file with these lines
 abbrev pub file_text : List (List ℕ) → FileFinding → List ℕ
-file_text text f = file_told (line_at text (f.line - 1)) f
+file_text text f = file_fault_report (line_at text (f.line - 1)) f

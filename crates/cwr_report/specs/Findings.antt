@@ -1,4 +1,5 @@
--- The findings of a file: each fault of each of its transactions, with where it stands and what was expected there.
+-- The findings of a file: each fault of each of its transactions, with its line, its fields and what was expected
+-- there.
 use Rattle.std.specs.Prelude.{ℕ, ◌+◌, ◌*◌, ◌==◌, List, [], ◌∷◌, ◌++◌, length, map, Option, Some, None, if◌then◌else◌}
 use Rattle.cwr_field.specs.Iswc.{check_digit}
 use Rattle.cwr_field.specs.Number.{number_of}
@@ -21,24 +22,27 @@ use Rattle.cwr_report.specs.Fields.{fields_of}
 use Rattle.cwr_report.specs.Latest.{latest_of}
 use Rattle.cwr_report.specs.Walks.{line_at, lines_before}
 
--- the nine digits of a work code, behind its T
+-- the column of the nine digits of an ISWC, behind its T
 abbrev pub iswc_digits : Column
 iswc_digits = record { start = work_head_iswc.start + 1; width = 9 }
 
+-- J4: the check digit of the nine digits, where there are nine digits
 abbrev pub digit_expected : Option ℕ → Expected
 digit_expected None = Rule
 digit_expected (Some digits) = CheckDigit (check_digit digits)
 
--- the party of the last SPU for an SPT, and that of the last SWR for an SWT
+-- J8: for an SPT the party of the last SPU, for an SWT that of the last SWR
 abbrev pub party_expected : RecordType → Latest → Expected
 party_expected Spt latest = Party latest.publisher
 party_expected _ latest = Party latest.writer
 
+-- J15: the first territory whose collection totals are too large
 abbrev pub collection_expected : Option Over → Expected
 collection_expected None = Rule
 collection_expected (Some over) = Collection over
 
--- what the rule with this number asks for in a line, after what stood before, in a transaction that adds up to this
+-- what the rule J with this number requires of a line, given the lines before it in the transaction and the
+-- transaction's sums
 abbrev pub expected_of : ℕ → List ℕ → Latest → AddedShares → Expected
 expected_of number line latest added =
     if number == 1 then FollowerOf latest.leading
@@ -50,7 +54,7 @@ expected_of number line latest added =
     else if number == 15 then collection_expected added.over
     else Rule
 
--- of a fault in this line, of a transaction that begins in the line `first` of the file
+-- the finding for a fault in this line, of a transaction that begins in the line `first` of the file, from 1
 abbrev pub finding_at : ℕ → ℕ → ℕ → Fault → List ℕ → Latest → AddedShares → Finding
 finding_at group transaction first fault line latest added = record {
   group = group;
@@ -61,7 +65,7 @@ finding_at group transaction first fault line latest added = record {
   expected = expected_of fault.number line latest added;
 }
 
--- of a fault of a transaction that begins in the line `first` of the file
+-- the finding for a fault of a transaction that begins in the line `first` of the file, from 1
 abbrev pub finding_of : ℕ → RawParts → Fault → Finding
 finding_of first t fault =
     finding_at
@@ -73,16 +77,16 @@ finding_of first t fault =
     (latest_of (lines_before t.lines fault.sequence))
     (added_in t)
 
--- The line of the file where a transaction begins, after so many lines of transactions: HDR, a GRH for its group and a
--- GRH and a GRT for each group before stand before it too.
+-- The line of the file where a transaction begins, from 1, where the transactions before it have n lines in all: HDR,
+-- its group's GRH, and a GRH and a GRT for each group before stand before it too.
 abbrev pub first_line : ℕ → RawParts → ℕ
 first_line n t = 2 * t.group + n + 1
 
--- of each fault of a transaction, in order
+-- a finding for each fault of a transaction, in order
 abbrev pub findings_in : List ℕ → ℕ → RawParts → List Finding
 findings_in submitter first t = map (finding_of first t) (faults_in submitter t)
 
--- of each fault of each transaction, in order, after so many lines of transactions
+-- a finding for each fault of each transaction, in order, where the transactions before have n lines in all
 abbrev pub findings_after : List ℕ → ℕ → List RawParts → List Finding
 findings_after submitter n [] = []
 findings_after submitter n (t ∷ ts) = findings_in submitter (first_line n t) t ++ findings_after submitter (n + length t.lines) ts

@@ -1,4 +1,4 @@
--- What is told of a report as JSON, in one object.
+-- A report as one JSON object.
 use Rattle.std.specs.Prelude.{ℕ, ◌-◌, List, [], ◌∷◌, ◌++◌, map, codes, Option, Some, None, true, false}
 use Rattle.std.specs.List.{flat_map}
 use Rattle.std.specs.Str.{encode_utf8_all}
@@ -16,27 +16,29 @@ use Rattle.cwr_report.specs.LongText.{name_text, stands_at, message_of, wanted_t
 use Rattle.cwr_report.specs.Reported.{Reported}
 use Rattle.cwr_report.specs.Walks.{line_at}
 
--- bytes as a text: each byte is the character with its number
+-- bytes as UTF-8: each byte is the character with its number
 abbrev pub latin : List ℕ → List ℕ
 latin bytes = encode_utf8_all bytes
 
+-- bytes as a JSON string: each byte is the character with its number
 abbrev pub text_data : List ℕ → Data
 text_data bytes = string (latin bytes)
 
+-- a number as a JSON value
 abbrev pub count_data : ℕ → Data
 count_data n = number (unsigned n)
 
--- a number, or null
+-- a number, and null for `None`
 abbrev pub option_data : Option ℕ → Data
 option_data None = null
 option_data (Some n) = count_data n
 
--- a record type, or null
+-- a record type, and null for `None`
 abbrev pub type_data : Option (List ℕ) → Data
 type_data None = null
 type_data (Some rtype) = text_data rtype
 
--- a field that breaks a rule, with the bytes that the line has there
+-- the members of a field that breaks a rule: its name, its column, and its bytes in the line
 abbrev pub field_members : List ℕ → Spot → Members
 field_members line spot =
     put (codes "bytes") (text_data (stands_at line spot.column))
@@ -44,14 +46,16 @@ field_members line spot =
     (put (codes "start") (count_data spot.column.start)
     (put (codes "name") (text_data (name_text spot.name)) no_members)))
 
+-- the object of a field, where there is one
 abbrev pub spot_data : List ℕ → Option Spot → List Data
 spot_data line None = []
 spot_data line (Some spot) = object (field_members line spot) ∷ []
 
+-- an array of the fields that break a rule
 abbrev pub fields_data : List ℕ → List (Option Spot) → Data
 fields_data line spots = array (items_of (flat_map (spot_data line) spots))
 
--- where a fault is: the line, and the record where there is one
+-- where a fault is: its line, and record, group, transaction and sequence where it has them
 abbrev pub place_members : ℕ → Data → Option ℕ → Option ℕ → Option ℕ → Members
 place_members line rtype group transaction detail =
     put (codes "sequence") (option_data detail)
@@ -60,7 +64,7 @@ place_members line rtype group transaction detail =
     (put (codes "record") rtype
     (put (codes "line") (count_data line) no_members))))
 
--- a fault: where it is, its rule and the rule's text, fields, byte, and what was expected
+-- the members of a fault: where it is, its rule and the rule's text, fields, byte, and what was expected
 abbrev pub fault_members : Members → Data → Data → Data → Data → Data → Members
 fault_members at rule text fields byte expected =
     put (codes "expected") expected
@@ -69,9 +73,9 @@ fault_members at rule text fields byte expected =
     (put (codes "text") text
     (put (codes "rule") rule at))))
 
--- of a fault of a transaction, in this line
-abbrev pub told_data : List ℕ → Finding → Data
-told_data line f =
+-- the object of a fault of a transaction, in this line
+abbrev pub fault_object : List ℕ → Finding → Data
+fault_object line f =
     object (fault_members
     (place_members f.line (text_data f.fault.rtype) (Some f.group) (Some f.transaction) (Some f.fault.sequence))
     (text_data (counted (codes "J") f.fault.number))
@@ -80,11 +84,11 @@ told_data line f =
     null
     (text_data (wanted_text f.fault.number f.expected)))
 
--- of a fault of a transaction, in a file with these lines
+-- the object of a fault of a transaction, in a file with these lines
 abbrev pub finding_data : List (List ℕ) → Finding → Data
-finding_data lines f = told_data (line_at lines (f.line - 1)) f
+finding_data lines f = fault_object (line_at lines (f.line - 1)) f
 
--- the line and the record of the fault of a file
+-- where the fault of a file is: the members of its line and its record
 abbrev pub file_place : ℕ → List ℕ → RecordPlace → Members
 file_place line rtype place.End = place_members line null None None None
 file_place line rtype place.AfterTrailer = place_members line null None None None
@@ -94,6 +98,7 @@ file_place line rtype (place.Group group) = place_members line (text_data rtype)
 file_place line rtype (place.Transaction group transaction detail) =
     place_members line (text_data rtype) (Some group) (Some transaction) (Some detail)
 
+-- the object of the wrong byte, and null for `None`
 abbrev pub byte_data : Option WrongByte → Data
 byte_data None = null
 byte_data (Some wrong) =
@@ -101,9 +106,9 @@ byte_data (Some wrong) =
     (put (codes "in_line") (count_data wrong.in_line)
     (put (codes "byte") (count_data wrong.byte) no_members)))
 
--- of the fault of a file, in this line
-abbrev pub file_told_data : List ℕ → FileFinding → Data
-file_told_data line f =
+-- the object of the fault of a file, in this line
+abbrev pub file_fault_object : List ℕ → FileFinding → Data
+file_fault_object line f =
     object (fault_members
     (file_place f.line f.rtype f.place)
     (text_data (counted (codes "F") f.number))
@@ -112,21 +117,21 @@ file_told_data line f =
     (byte_data f.byte)
     (text_data (file_wanted_text f.expected)))
 
--- of the fault of a file, in a file with these lines
+-- the object of the fault of a file, in a file with these lines
 abbrev pub file_data : List (List ℕ) → FileFinding → Data
-file_data lines f = file_told_data (line_at lines (f.line - 1)) f
+file_data lines f = file_fault_object (line_at lines (f.line - 1)) f
 
--- the faults, of transactions or the one of the file
+-- the faults of a report: those of transactions, or the one of the file
 abbrev pub faults_data : List (List ℕ) → List Finding → Option FileFinding → List Data
 faults_data lines findings None = map (finding_data lines) findings
 faults_data lines findings (Some refused) = file_data lines refused ∷ []
 
--- a file is refused by its first fault
+-- whether the file is refused
 abbrev pub refused_data : Option FileFinding → Data
 refused_data None = boolean false
 refused_data (Some refused) = boolean true
 
--- of a report on a file with these lines
+-- the members of a report on a file with these lines
 abbrev pub report_members : List (List ℕ) → Reported → Members
 report_members lines r =
     put (codes "faulty") (count_data r.faulty)
@@ -134,7 +139,7 @@ report_members lines r =
     (put (codes "refused") (refused_data r.refused)
     (put (codes "faults") (array (items_of (faults_data lines r.findings r.refused))) no_members)))
 
--- members with the name of a file, a text, where there is one
+-- the members, and the name of the file where there is one
 abbrev pub with_file : Option (List ℕ) → Members → Members
 with_file None ms = ms
 with_file (Some name) ms = put (codes "file") (string name) ms
@@ -143,6 +148,6 @@ with_file (Some name) ms = put (codes "file") (string name) ms
 abbrev pub json_line : Data → List ℕ
 json_line value = compact_text value ++ 10 ∷ []
 
--- the same as a text, on one line
+-- a report as one line of JSON
 abbrev pub report_json : List (List ℕ) → Reported → List ℕ
 report_json lines r = json_line (object (report_members lines r))

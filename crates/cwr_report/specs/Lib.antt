@@ -13,5 +13,5 @@ pub mod Json
 pub mod JsonText
 pub mod Reported
 pub mod Report
-pub mod Told
-pub mod ToldLines
+pub mod FindingPlaces
+pub mod CheckLines

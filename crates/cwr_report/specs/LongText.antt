@@ -1,4 +1,4 @@
--- What is told of findings: lines for a person, each with LF at its end.
+-- What a report prints of findings: lines for a person, each with LF at its end.
 use Rattle.std.specs.Prelude.{ℕ, ◌-◌, ◌/◌, ◌%◌, ◌&&◌, ◌==◌, Bool, true, false, nat_le, List, [], ◌++◌, Option, Some, None, codes, drop, take, if◌then◌else◌}
 use Rattle.std.specs.List.{flat_map}
 use Rattle.std.specs.Fmt.{decimal}
@@ -15,7 +15,7 @@ use Rattle.cwr_report.specs.declared.finding.FieldName.{FieldName}
 use Rattle.cwr_report.specs.declared.finding.FieldName.TheVariants as name
 use Rattle.cwr_report.specs.declared.finding.Expected.{Expected}
 use Rattle.cwr_report.specs.declared.finding.Expected.TheVariants.{Rule, FollowerOf, CheckDigit, Party, Ownership, Collection}
-use Rattle.cwr_report.specs.Shown.{shown_text, told_bytes}
+use Rattle.cwr_report.specs.Shown.{shown_text, bytes_as_printed}
 use Rattle.cwr_report.specs.Walks.{line_at}
 
 -- what a field is called
@@ -47,11 +47,11 @@ name_text name.GroupCount = codes "group count"
 name_text name.TransactionCount = codes "transaction count"
 name_text name.RecordCount = codes "record count"
 
--- the bytes that a line has in a column
+-- the bytes of a line in a column; fewer where the line has ended
 abbrev pub stands_at : List ℕ → Column → List ℕ
 stands_at line at = take at.width (drop (at.start - 1) line)
 
--- a field: its name, where it stands, and between quotes what stands there
+-- the line of a field: its name, its column, and its bytes between quotes; nothing where there is no field
 abbrev pub spot_text : List ℕ → Option Spot → List ℕ
 spot_text line None = []
 spot_text line (Some spot) =
@@ -65,7 +65,7 @@ spot_text line (Some spot) =
     ++ shown_text (stands_at line spot.column)
     ++ codes "\"\n"
 
--- a sum of shares in per cent, with two places
+-- a sum of shares, in hundredths of one per cent, as per cent with two places
 abbrev pub percent_text : ℕ → List ℕ
 percent_text hundredths = decimal (hundredths / 100) ++ codes "." ++ number_text 2 (hundredths % 100)
 
@@ -79,7 +79,7 @@ followers_text leading =
     else if bytes_eq leading (codes "XRF") then codes "ALT or XRF"
     else codes "SPU, OPU, SWR, OWR, ALT or XRF"
 
--- what the rule with this number asks for, where that hangs on nothing else
+-- what the rule J with this number requires, where that depends on nothing else
 abbrev pub rule_text : ℕ → List ℕ
 rule_text number =
     if number == 2 then codes "a title that is not blank"
@@ -93,6 +93,7 @@ rule_text number =
     else if number == 14 then codes "the indicator I or E, and a code of one to four digits"
     else codes "what the rule says"
 
+-- the totals of the three rights, in per cent
 abbrev pub collected_text : Totals → List ℕ
 collected_text totals =
     codes "PR "
@@ -102,43 +103,50 @@ collected_text totals =
     ++ codes ", SR "
     ++ percent_text totals.synchronization
 
+-- what J4 requires, with the check digit of the digits
 abbrev pub digit_text : ℕ → List ℕ
 digit_text digit = codes "T, these nine digits and their check digit " ++ decimal digit
 
+-- what J8 requires: a party, between quotes
 abbrev pub party_text : List ℕ → List ℕ
 party_text party = codes "\"" ++ party ++ codes "\""
 
+-- what J11 to J13 require, with the total that there is
 abbrev pub ownership_text : ℕ → List ℕ
 ownership_text total = codes "0, or from 99.94 to 100.06 per cent; the shares add up to " ++ percent_text total
 
+-- what J15 requires, with a territory and its totals
 abbrev pub collection_text : Over → List ℕ
 collection_text over =
     codes "at most 100.06 per cent; in territory " ++ decimal over.territory ++ codes " the shares add up to " ++ collected_text over.totals
 
--- after a record whose type is told so
+-- what J1 requires: the records that may follow after this one
 abbrev pub after_text : List ℕ → List ℕ → List ℕ
 after_text told followers = codes "after " ++ told ++ codes ": " ++ followers
 
--- what the rule with this number asked for, with bytes of the file as they are shown, or as they stand
+-- what the rule J with this number required; `shows` says whether bytes of the file are escaped where they are not
+-- printable
 abbrev pub wanted_as : Bool → ℕ → Expected → List ℕ
 wanted_as shows number Rule = rule_text number
-wanted_as shows number (FollowerOf leading) = after_text (told_bytes shows leading) (followers_text leading)
+wanted_as shows number (FollowerOf leading) = after_text (bytes_as_printed shows leading) (followers_text leading)
 wanted_as shows number (CheckDigit digit) = digit_text digit
-wanted_as shows number (Party party) = party_text (told_bytes shows party)
+wanted_as shows number (Party party) = party_text (bytes_as_printed shows party)
 wanted_as shows number (Ownership total) = ownership_text total
 wanted_as shows number (Collection over) = collection_text over
 
+-- what the rule required, with bytes of the file as they stand
 abbrev pub wanted_text : ℕ → Expected → List ℕ
 wanted_text number expected = wanted_as false number expected
 
+-- the line with what the rule required
 abbrev pub expected_text : ℕ → Expected → List ℕ
 expected_text number expected = codes "  expected: " ++ wanted_as true number expected ++ codes "\n"
 
--- the faulty record
+-- the place of the faulty record: its line, type and sequence
 abbrev pub record_text : Finding → List ℕ
 record_text f = codes "line " ++ decimal f.line ++ codes ": " ++ shown_text f.fault.rtype ++ codes " " ++ decimal f.fault.sequence
 
--- its transaction
+-- the transaction and the group of the faulty record
 abbrev pub transaction_text : Finding → List ℕ
 transaction_text f = codes " of transaction " ++ decimal f.transaction ++ codes " in group " ++ decimal f.group
 
@@ -146,26 +154,27 @@ transaction_text f = codes " of transaction " ++ decimal f.transaction ++ codes 
 abbrev pub message_of : ℕ → List ℕ
 message_of number = if nat_le 1 number && nat_le number 15 then message_text number else []
 
--- the rule
+-- the rule, and the end of the line
 abbrev pub broken_text : ℕ → List ℕ
 broken_text number = codes ": J" ++ decimal number ++ codes " " ++ message_of number ++ codes "\n"
 
+-- the lines of the fields that break the rule
 abbrev pub spots_text : List ℕ → List (Option Spot) → List ℕ
 spots_text line spots = flat_map (spot_text line) spots
 
--- of a fault in this line
-abbrev pub told_of : List ℕ → Finding → List ℕ
-told_of line f =
+-- the report of a fault in this line
+abbrev pub fault_report : List ℕ → Finding → List ℕ
+fault_report line f =
     record_text f
     ++ transaction_text f
     ++ broken_text f.fault.number
     ++ spots_text line f.fields
     ++ expected_text f.fault.number f.expected
 
--- of a fault in a file with these lines
+-- the report of a fault in a file with these lines
 abbrev pub finding_text : List (List ℕ) → Finding → List ℕ
-finding_text lines f = told_of (line_at lines (f.line - 1)) f
+finding_text lines f = fault_report (line_at lines (f.line - 1)) f
 
--- of all faults of a file with these lines, and how many transactions have some
+-- the report of all faults of a file with these lines, and the last line
 abbrev pub long_text : List (List ℕ) → List Finding → ℕ → ℕ → List ℕ
 long_text lines findings all faulty = flat_map (finding_text lines) findings ++ total_line all faulty

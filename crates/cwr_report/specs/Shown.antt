@@ -3,21 +3,23 @@ use Rattle.std.specs.Prelude.{ℕ, ◌+◌, ◌/◌, ◌%◌, Bool, ◌||◌, na
 use Rattle.std.specs.List.{flat_map}
 use Rattle.cwr_field.specs.Layout.{is_control}
 
--- the character of a digit below 16; those above 9 are capitals
+-- the character of a hexadecimal digit, with capitals
 abbrev pub hex_digit : ℕ → ℕ
 hex_digit digit = if nat_lt digit 10 then 48 + digit else 55 + digit
 
--- in ASCII no character is printed for a byte below 32, nor for one above 126
+-- the byte has no printed character in ASCII: it is below 32 or above 126
 abbrev pub is_unprinted : ℕ → Bool
 is_unprinted byte = is_control byte || nat_lt 126 byte
 
--- such a byte is a backslash, x and two digits; any other stands as it is, a backslash too
+-- the byte as it is printed: a backslash, x and two digits where it has no printed character; any other as it stands,
+-- a backslash too
 abbrev pub shown : ℕ → List ℕ
 shown byte = if is_unprinted byte then 92 ∷ 120 ∷ hex_digit (byte / 16) ∷ hex_digit (byte % 16) ∷ [] else byte ∷ []
 
+-- the bytes as they are printed
 abbrev pub shown_text : List ℕ → List ℕ
 shown_text bytes = flat_map shown bytes
 
--- bytes as they are shown, or as they stand
-abbrev pub told_bytes : Bool → List ℕ → List ℕ
-told_bytes shows bytes = if shows then shown_text bytes else bytes
+-- bytes as they are printed, or as they stand
+abbrev pub bytes_as_printed : Bool → List ℕ → List ℕ
+bytes_as_printed shows bytes = if shows then shown_text bytes else bytes

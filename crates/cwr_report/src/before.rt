@@ -93,7 +93,7 @@ pub(crate) fn at_line(bytes: &[u8], index: u64) -> AtLine<'_>
     }
 }
 
-/// Goes past the next line, where there is one.
+/// Consumes the next line, if there is one.
 fn pass_line(before: &mut FileCounts, lines: &mut Lines)
     requires { AreSmall before.old }
     ensures { (all : List (List ℕ)) (index : ℕ) → IsPassed before.old lines.old all index → IsPassed before.new lines.new all (index + 1) }

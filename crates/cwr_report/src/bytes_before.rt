@@ -3,7 +3,7 @@ ghost use Rattle.cwr_report.specs.BytesBefore.{first_size, bytes_before};
 
 use cwr_field::line_end;
 
-/// How many bytes the lines before the one at an index have, with their ends. Lines are counted from 0.
+/// The number of bytes in the lines before the one at an index, line ends included. Lines are counted from 0.
 pub(crate) fn bytes_before(bytes: &[u8], index: u64) -> usize
     ensures value { result ≡ bytes_before index bytes.now }
     ensures inside { result ≤ length bytes.now }

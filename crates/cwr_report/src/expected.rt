@@ -9,7 +9,7 @@ use cwr_field::{check_digit, digits};
 use cwr_record::{Column, RecordType, WorkHead, field_at, type_of};
 use cwr_rules::{AddedShares, Over};
 
-/// What the rule with this number asks for in a line.
+/// What the rule with this number requires of a line.
 pub(crate) fn expected_of(number: u8, line: &[u8], latest: &Latest, added: &AddedShares) -> Expected
     ensures { result ≡ expected_of number line.now latest.now added.now }
 {
@@ -25,7 +25,7 @@ pub(crate) fn expected_of(number: u8, line: &[u8], latest: &Latest, added: &Adde
     }
 }
 
-/// The check digit of a header's ISWC, where nine digits stand behind its `T`.
+/// The check digit of a header's ISWC, if nine digits stand behind its `T`.
 fn digit_expected(line: &[u8]) -> Expected
     ensures { result ≡ digit_expected (number_of (field_at line.now iswc_digits)) }
 {

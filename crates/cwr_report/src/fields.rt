@@ -36,7 +36,7 @@ pub(crate) fn one_field(name: FieldName, column: Column) -> [Option<Spot>; 3]
     [Some(Spot { name, column }), None, None]
 }
 
-/// The field, where it breaks the rule.
+/// The field, if it breaks the rule.
 pub(crate) fn spot_where(broken: bool, name: FieldName, column: Column) -> Option<Spot>
     ensures { result ≡ spot_where broken name column }
 {
@@ -70,7 +70,7 @@ fn wrong_dates(line: &[u8]) -> [Option<Spot>; 3]
     ]
 }
 
-/// A share, where it is not valid.
+/// A share, if it is not valid.
 fn wrong_share(line: &[u8], name: FieldName, column: Column) -> Option<Spot>
     requires { IsTrue (is_in_line column) × (column.width ≡ 5) }
     ensures { result ≡ wrong_share line.now name column }

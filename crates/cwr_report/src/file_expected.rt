@@ -13,7 +13,8 @@ use cwr_record::{
     type_of,
 };
 
-/// What the rule with this number asks for where this line stands, or none, after the lines before it.
+/// What the rule with this number requires of this line, after the lines before it. `line` is `None` at the end of the
+/// file.
 pub(crate) fn file_expected(number: u8, before: &FileCounts, line: Option<&[u8]>) -> FileExpected
     requires { AreSmall before.now }
     ensures { result ≡ file_expected number before.now (option_map (λ l. l.now) line.entry) }
@@ -113,7 +114,7 @@ fn sequences_expected(before: &FileCounts, record_type: RecordType) -> FileExpec
     }
 }
 
-/// The fields of the line that stands there, where there is one, that are not as they are expected.
+/// The fields of the line, if there is one, that differ from what is expected.
 pub(crate) fn fields_of_file(line: Option<&[u8]>, expected: &FileExpected) -> [Option<Spot>; 3]
     ensures { result ≡ fields_of_file (option_map (λ l. l.now) line.entry) expected.now }
 {
@@ -167,7 +168,7 @@ fn wrong_header_dates(line: &[u8]) -> [Option<Spot>; 3]
     ]
 }
 
-/// A date, where it is none.
+/// A date, if it is not valid.
 fn wrong_day(line: &[u8], name: FieldName, column: Column) -> Option<Spot>
     requires { IsTrue (is_in_line column) × (column.width ≡ 8) }
     ensures { result ≡ wrong_day line.now name column }
@@ -175,7 +176,7 @@ fn wrong_day(line: &[u8], name: FieldName, column: Column) -> Option<Spot>
     spot_where(date(field_at(line, column)).is_none(), name, column)
 }
 
-/// A time, where it is none.
+/// A time, if it is not valid.
 fn wrong_time(line: &[u8], name: FieldName, column: Column) -> Option<Spot>
     requires { IsTrue (is_in_line column) × (column.width ≡ 6) }
     ensures { result ≡ wrong_time line.now name column }
@@ -193,7 +194,7 @@ fn group_column(record_type: RecordType) -> Column
     }
 }
 
-/// A number, where it is not this one.
+/// A number, if it is not this one.
 fn wrong_number(line: &[u8], number: u64, name: FieldName, column: Column) -> Option<Spot>
     requires { IsTrue (is_in_line column) × (column.width ≤ 18) }
     ensures { result ≡ wrong_number line.now number name column }

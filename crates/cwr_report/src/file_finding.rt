@@ -19,7 +19,7 @@ pub struct FileFinding {
     pub number: u8,
     /// The line of the file, from 1; the line after the last one is the end.
     pub line: u64,
-    /// The first three bytes of that line, which name its record type; blanks where it has ended before.
+    /// The first three bytes of that line, which name its record type; blanks if the file has ended before.
     pub rtype: [u8; 3],
     /// Where that line stands in the file.
     pub place: RecordPlace,
@@ -27,7 +27,7 @@ pub struct FileFinding {
     pub byte: Option<WrongByte>,
     /// The fields of that line that are not as they are expected, in the order of the line.
     pub fields: [Option<Spot>; 3],
-    /// What the rule asks for there, after the lines before.
+    /// What the rule requires there, after the lines before.
     pub expected: FileExpected,
 }
 
@@ -66,7 +66,7 @@ pub struct WrongByte {
     pub in_file: usize,
 }
 
-/// What a rule of files asks for, in a line after the lines before it.
+/// What a rule of files requires of a line, after the lines before it.
 #[derive(Clone, Copy, Debug, PartialEq, Eq)]
 pub enum FileExpected {
     /// F1: HDR.
@@ -116,11 +116,11 @@ pub enum FileExpected {
     Trailer,
     /// F11 after TRL: blanks and bytes 26 alone.
     Tail,
-    /// F12: at most 4096 bytes, where the line has so many.
+    /// F12: at most 4096 bytes. The value is the length of the line.
     Length(usize),
 }
 
-/// What is told of the first fault of a file.
+/// The finding for the first fault of a file: its number and its line, from 1.
 pub(crate) fn file_finding(bytes: &[u8], number: u8, line: u64) -> FileFinding
     requires { IsLeastFault (lines bytes.now) line number }
     ensures { result ≡ file_finding bytes.now number line }

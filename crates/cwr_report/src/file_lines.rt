@@ -1,5 +1,5 @@
 ghost use Rattle.std.specs.Prelude.{◌≡◌, ◌++◌, codes, OnOk};
-ghost use Rattle.cwr_report.specs.FileText.{counted, place_text, detail_text, byte_text, kind_text, sequences_text, counts_text, file_counts_text, file_wanted_text, file_place_text, refused_line, file_told};
+ghost use Rattle.cwr_report.specs.FileText.{counted, place_text, detail_text, byte_text, kind_text, sequences_text, counts_text, file_counts_text, file_wanted_text, file_place_text, refused_line, file_fault_report};
 
 use crate::file_finding::{FileExpected, FileFinding, RecordPlace, WrongByte};
 use crate::file_words::{file_rule_text, kind_text};
@@ -10,13 +10,13 @@ use cwr_field::{Memory, put_decimal};
 use cwr_record::WorkKind;
 use std::alloc::Allocator;
 
-/// Appends what is told of the fault of a file, in a line with these bytes.
+/// Appends the report on the fault of a file. `line` has the bytes of the faulty line.
 pub(crate) fn put_file_finding<A: Allocator>(
     out: &mut Vec<u8, A>,
     line: &[u8],
     finding: &FileFinding,
 ) -> Result<(), Memory>
-    ensures { OnOk result (out.new.items ≡ out.old.items ++ file_told line.now finding.now) }
+    ensures { OnOk result (out.new.items ≡ out.old.items ++ file_fault_report line.now finding.now) }
 {
     put_file_place(out, finding)?;
     put_byte(out, &finding.byte)?;
@@ -72,7 +72,8 @@ fn put_group<A: Allocator>(out: &mut Vec<u8, A>, rtype: &[u8], group: u64) -> Re
     Ok(())
 }
 
-/// Appends a record of a transaction.
+/// Appends a record of a transaction. `out` is the text so far and `rtype` the record type. `group` is the group id,
+/// from 1; `transaction` and `detail` are the transaction and record sequences, from 0.
 pub(crate) fn put_detail<A: Allocator>(
     out: &mut Vec<u8, A>,
     rtype: &[u8],
@@ -89,7 +90,7 @@ pub(crate) fn put_detail<A: Allocator>(
     Ok(())
 }
 
-/// Appends the byte that is wrong, where there is one.
+/// Appends the byte that is wrong, if there is one.
 fn put_byte<A: Allocator>(out: &mut Vec<u8, A>, wrong: &Option<WrongByte>) -> Result<(), Memory>
     ensures { OnOk result (out.new.items ≡ out.old.items ++ byte_text wrong.now) }
 {
@@ -210,7 +211,7 @@ fn put_file_counts<A: Allocator>(
     Ok(())
 }
 
-/// Appends the line that a check tells without more words.
+/// Appends the line that a short check prints.
 fn put_refused_line<A: Allocator>(out: &mut Vec<u8, A>, finding: &FileFinding) -> Result<(), Memory>
     ensures { OnOk result (out.new.items ≡ out.old.items ++ refused_line finding.now) }
 {

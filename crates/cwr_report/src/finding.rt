@@ -13,10 +13,10 @@ pub struct Finding {
     pub fault: Fault,
     /// The faulty record's line in the file, from 1; for the sequence 0 the header's.
     pub line: u64,
-    /// The fields of that line that break the rule, in the order of the line. None where the rule looks at more than one
-    /// record: J10 to J13 and J15.
+    /// The fields of that line that break the rule, in the order of the line. There are none if the rule looks at more
+    /// than one record: J10 to J13 and J15.
     pub fields: [Option<Spot>; 3],
-    /// What the rule asks for there.
+    /// What the rule requires there.
     pub expected: Expected,
 }
 
@@ -86,7 +86,7 @@ pub enum FieldName {
     RecordCount,
 }
 
-/// What a rule asks for, where it says more than its number.
+/// What a rule requires, if that is more than its number says.
 #[derive(Clone, Copy, Debug, PartialEq, Eq)]
 pub enum Expected {
     /// No more than the rule says.
@@ -99,6 +99,6 @@ pub enum Expected {
     Party([u8; 9]),
     /// J11, J12, J13: 0, or from 9994 to 10006, where the ownership shares of the right add up to this.
     Ownership(u64),
-    /// J15: at most 10006 of each right, where in this territory more is collected.
+    /// J15: at most 10006 of each right. The value is the territory in which more is collected.
     Collection(Over),
 }

@@ -1,7 +1,7 @@
 ghost use Rattle.std.specs.Prelude.{◌≡◌, ◌+◌, ◌≤◌, ◌<◌, ◌^◌, ◌++◌, ℕ, List, length, map, IsTrue, IfOk, OnOk};
 ghost use Rattle.std.specs.List.{AllByRecursion};
 ghost use Rattle.cwr_check.specs.CheckText.{faulty_count, has_faults};
-ghost use Rattle.cwr_field.specs.Number.{most_count};
+ghost use Rattle.cwr_field.specs.Number.{max_count};
 ghost use Rattle.cwr_grammar.specs.RawParts.{IsPlaced, lines_in};
 ghost use Rattle.cwr_report.specs.Findings.{findings_after, findings_in, first_line, finding_of};
 ghost use Rattle.cwr_report.specs.Walks.{IsWalk, line_at};
@@ -15,10 +15,10 @@ use crate::walk::Walk;
 use cwr_call::Fault;
 use cwr_field::Memory;
 use cwr_grammar::{RawTransaction, Transactions};
-use cwr_rules::{AddedShares, Judge, judged};
+use cwr_rules::{AddedShares, TransactionJudge, judged};
 use std::alloc::Allocator;
 
-/// Appends the findings of the transactions of a file, in order. Answers how many of the transactions have faults.
+/// Appends the findings of the transactions of a file, in order. Returns the number of transactions with faults.
 ///
 /// The submitter is named for contracts: the findings are those of its calls, and no fault of them depends on it.
 pub(crate) fn push_findings<A: Allocator + Copy>(
@@ -44,18 +44,18 @@ pub(crate) fn push_findings<A: Allocator + Copy>(
     Ok(faulty)
 }
 
-/// Appends the findings of a transaction, in order, once its lines were read, and answers whether it has any. So many lines
-/// of transactions stand before it.
+/// Appends the findings of a transaction, in order, and returns whether it has any. `read` has read its lines, and
+/// `lines` is the number of lines of transactions before it.
 fn push_findings_in<A: Allocator + Copy>(
     findings: &mut Vec<Finding, A>,
-    read: &Judge<A>,
+    read: &TransactionJudge<A>,
     transaction: &RawTransaction,
     lines: u64,
 ) -> Result<bool, Memory>
     requires placed { IsPlaced transaction.now }
     requires few { lines < 2 ^ 62 }
     requires read { IsJudging read.now transaction.now.kind transaction.now.lines }
-    requires bounded { length transaction.now.lines ≤ most_count + 1 }
+    requires bounded { length transaction.now.lines ≤ max_count + 1 }
     ensures findings { OnOk result ((submitter : List ℕ) → findings.new.items ≡ findings.old.items ++ findings_in submitter (first_line lines transaction.now) transaction.now) }
     ensures faulty { IfOk result (λ faulty. (submitter : List ℕ) → faulty ≡ has_faults submitter transaction.now) }
 {
@@ -70,7 +70,8 @@ fn push_findings_in<A: Allocator + Copy>(
     Ok(true)
 }
 
-/// Appends the findings of faults of a transaction, whose shares add up to this.
+/// Appends the findings for the faults of a transaction. `findings` is the list so far, and `faults` are those of
+/// `transaction`. `first` is the line of its header in the file, and `added` has the sums of its shares.
 fn push_findings_of<A: Allocator>(
     findings: &mut Vec<Finding, A>,
     faults: &[Fault],
@@ -90,7 +91,8 @@ fn push_findings_of<A: Allocator>(
     Ok(())
 }
 
-/// The finding of a fault in this line, to which the walk has gone.
+/// The finding for a fault. `fault` is one of `transaction`, whose header is line `first` of the file. `line` is the
+/// faulty line, where `walk` is, and `added` has the sums of the transaction's shares.
 fn finding_at(
     transaction: &RawTransaction,
     first: u64,

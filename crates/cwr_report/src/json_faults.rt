@@ -1,6 +1,6 @@
 ghost use Rattle.std.specs.Prelude.{◌≡◌, ◌++◌, ℕ, OnOk};
 ghost use Rattle.serde_json.specs.Written.{compact_text};
-ghost use Rattle.cwr_report.specs.Json.{type_data, place_members, told_data, file_place, file_told_data};
+ghost use Rattle.cwr_report.specs.Json.{type_data, place_members, fault_object, file_place, file_fault_object};
 ghost use Rattle.cwr_report.specs.JsonText.{wrong_text, byte_text, where_text, tail_text};
 
 use crate::file_finding::{FileFinding, RecordPlace, WrongByte};
@@ -12,19 +12,19 @@ use crate::json_values::{put_fields, put_option, put_rule, put_type};
 use crate::long_lines::{message_of, put_text, put_wanted};
 use cwr_field::{Memory, put_decimal};
 
-/// Appends a fault of a transaction, in this line. Texts are put together in a room for them.
+/// Appends a fault of a transaction. `line` is the faulty line, and `buffer` a scratch buffer for texts.
 pub(crate) fn put_finding(
     out: &mut Vec<u8>,
-    room: &mut Vec<u8>,
+    buffer: &mut Vec<u8>,
     line: &[u8],
     finding: &Finding,
 ) -> Result<(), Memory>
-    ensures { OnOk result (out.new.items ≡ out.old.items ++ compact_text (told_data line.now finding.now)) }
+    ensures { OnOk result (out.new.items ≡ out.old.items ++ compact_text (fault_object line.now finding.now)) }
 {
     out.extend_from_slice(b"{\"byte\":null,\"expected\":")?;
-    room.clear();
-    put_wanted(room, finding.fault.number, &finding.expected, false)?;
-    put_json_text(out, room)?;
+    buffer.clear();
+    put_wanted(buffer, finding.fault.number, &finding.expected, false)?;
+    put_json_text(out, buffer)?;
     out.extend_from_slice(b",\"fields\":")?;
     put_fields(out, line, &finding.fields)?;
     put_where(
@@ -33,7 +33,7 @@ pub(crate) fn put_finding(
         finding.line,
         Some(finding.fault.rtype),
     )?;
-    put_rule(out, room, b"J", finding.fault.number)?;
+    put_rule(out, buffer, b"J", finding.fault.number)?;
     put_tail(
         out,
         Some(finding.fault.sequence as u64),
@@ -80,26 +80,26 @@ fn put_tail(
     Ok(())
 }
 
-/// Appends the fault of a file, in this line. Texts are put together in a room for them.
+/// Appends the fault of a file. `line` is the faulty line, and `buffer` a scratch buffer for texts.
 pub(crate) fn put_file_finding(
     out: &mut Vec<u8>,
-    room: &mut Vec<u8>,
+    buffer: &mut Vec<u8>,
     line: &[u8],
     refused: &FileFinding,
 ) -> Result<(), Memory>
-    ensures { OnOk result (out.new.items ≡ out.old.items ++ compact_text (file_told_data line.now refused.now)) }
+    ensures { OnOk result (out.new.items ≡ out.old.items ++ compact_text (file_fault_object line.now refused.now)) }
 {
-    let place = Place::of(refused.rtype, &refused.place);
+    let place = PlaceMembers::of(refused.rtype, &refused.place);
     out.extend_from_slice(b"{\"byte\":")?;
     put_byte(out, &refused.byte)?;
     out.extend_from_slice(b",\"expected\":")?;
-    room.clear();
-    put_file_wanted(room, &refused.expected)?;
-    put_json_text(out, room)?;
+    buffer.clear();
+    put_file_wanted(buffer, &refused.expected)?;
+    put_json_text(out, buffer)?;
     out.extend_from_slice(b",\"fields\":")?;
     put_fields(out, line, &refused.fields)?;
     put_where(out, place.group, refused.line, place.rtype)?;
-    put_rule(out, room, b"F", refused.number)?;
+    put_rule(out, buffer, b"F", refused.number)?;
     put_tail(
         out,
         place.detail,
@@ -132,34 +132,34 @@ fn put_wrong(out: &mut Vec<u8>, wrong: &WrongByte) -> Result<(), Memory>
     Ok(())
 }
 
-/// The record in which the fault of a file is, as far as there is one.
+/// The members that say in which record the fault of a file is, as far as there is one.
 #[derive(Clone, Copy)]
-struct Place {
+struct PlaceMembers {
     rtype: Option<[u8; 3]>,
     group: Option<u64>,
     transaction: Option<u64>,
     detail: Option<u64>,
 }
 
-impl Place {
+impl PlaceMembers {
     /// Of a record of this type.
-    fn of(rtype: [u8; 3], place: &RecordPlace) -> Place
+    fn of(rtype: [u8; 3], place: &RecordPlace) -> PlaceMembers
         ensures { (line : ℕ) → file_place line rtype place.now ≡ place_members line (type_data result.rtype) result.group result.transaction result.detail }
     {
-        let nowhere = Place {
+        let nowhere = PlaceMembers {
             rtype: None,
             group: None,
             transaction: None,
             detail: None,
         };
-        let of_file = Place {
+        let of_file = PlaceMembers {
             rtype: Some(rtype),
             ..nowhere
         };
         match *place {
             RecordPlace::End | RecordPlace::AfterTrailer | RecordPlace::Nameless => nowhere,
             RecordPlace::File => of_file,
-            RecordPlace::Group(group) => Place {
+            RecordPlace::Group(group) => PlaceMembers {
                 group: Some(group),
                 ..of_file
             },
@@ -167,7 +167,7 @@ impl Place {
                 group,
                 transaction,
                 detail,
-            } => Place {
+            } => PlaceMembers {
                 rtype: Some(rtype),
                 group: Some(group),
                 transaction: Some(transaction),

@@ -18,13 +18,13 @@ pub(crate) struct Member<'a> {
 pub(crate) enum ReportMember<'a> {
     /// The faults.
     Faults,
-    /// How many transactions have faults.
+    /// The number of transactions with faults.
     Faulty,
     /// The name of the file.
     File(&'a str),
     /// The file is refused.
     Refused,
-    /// How many transactions there are.
+    /// The number of transactions.
     Transactions,
 }
 
@@ -42,7 +42,7 @@ impl ReportMember<'_> {
     }
 }
 
-/// Appends the name of a member, with a comma where one stands before.
+/// Appends the name of a member, with a comma before it if it is a later one.
 pub(crate) fn put_member_name(out: &mut Vec<u8>, later: bool, name: &str) -> Result<(), Memory>
     ensures { OnOk result (out.new.items ≡ out.old.items ++ member_text later name.now []) }
 {
@@ -51,7 +51,7 @@ pub(crate) fn put_member_name(out: &mut Vec<u8>, later: bool, name: &str) -> Res
     Ok(())
 }
 
-/// Appends a member, with a comma where one stands before.
+/// Appends a member, with a comma before it if it is a later one.
 pub(crate) fn put_member(
     out: &mut Vec<u8>,
     later: bool,
@@ -65,7 +65,7 @@ pub(crate) fn put_member(
     Ok(())
 }
 
-/// Appends the member that is left, where there is one, and ends the object.
+/// Appends the member that is left, if there is one, and ends the object.
 pub(crate) fn put_last(out: &mut Vec<u8>, more: Option<Member>) -> Result<(), Memory>
     ensures { OnOk result (out.new.items ≡ out.old.items ++ left_text true more.entry no_members) }
 {

@@ -3,7 +3,7 @@ ghost use Rattle.std.specs.Str.Lines.{lines};
 ghost use Rattle.serde_json.specs.Data.{Data, Members, member, string, array, object, put as with_member};
 ghost use Rattle.serde_json.specs.View.{view, items_of};
 ghost use Rattle.serde_json.specs.Written.{compact_text, comma_if, items_text, has_float};
-ghost use Rattle.cwr_report.specs.Json.{json_line, told_data, finding_data, file_data, faults_data, report_members, with_file, report_json};
+ghost use Rattle.cwr_report.specs.Json.{json_line, fault_object, finding_data, file_data, faults_data, report_members, with_file, report_json};
 ghost use Rattle.cwr_report.specs.JsonText.{member_text, left_text, line_with_text, behind_file, own_name, own_data};
 ghost use Rattle.cwr_report.specs.Report.{IsJsonCheck};
 
@@ -22,10 +22,10 @@ use serde_json::Value;
 use std::alloc::Global;
 use std::cmp::Ordering;
 
-/// Checks a file as `cwr_check::check_text` does, and tells what is wrong as one JSON object, on one line.
+/// Checks a file as `cwr_check::check_text` does, and reports what is wrong as one JSON object, on one line.
 ///
-/// Each byte of the file that is told is the character with its number, so that a text has all of them whatever they
-/// are. The file is clean where `check_text` finds it so. Where memory is refused nothing is told.
+/// A text has the character with its number for each byte of the file, so it has all of them whatever they are. The
+/// file is clean if `check_text` finds it clean. If an allocation fails, the result is `Memory` alone.
 pub fn check_json(alloc: Global, bytes: &[u8]) -> Result<Checked<Global>, Memory>
     ensures { IfOk result (λ checked. IsJsonCheck bytes.now checked.text.items checked.clean) }
 {
@@ -35,17 +35,18 @@ pub fn check_json(alloc: Global, bytes: &[u8]) -> Result<Checked<Global>, Memory
     Ok(Checked { text, clean })
 }
 
-/// What is told of a report as JSON, with what stands in the file that it is a report on: one object, and LF.
+/// A report as JSON: one object, and LF. `bytes` is the file that it is a report on.
 pub fn json_text(alloc: Global, bytes: &[u8], report: &Report) -> Result<Vec<u8>, Memory>
     ensures { IfOk result (λ text. text.items ≡ report_json (lines bytes.now) report.now) }
 {
-    told_line(alloc, bytes, report, None, None)
+    json_report_line(alloc, bytes, report, None, None)
 }
 
-/// What is told of a report as JSON, with one member more: one object, and LF.
+/// A report as JSON, with one more member: one object, and LF.
 ///
-/// The member has this name, and a value without fractions; one of this name that a report has is replaced. The members
-/// stand in the order of their names.
+/// The text is allocated by `alloc`, and `bytes` is the file that `report` is on. The member is called `name`, and
+/// `more` is its value, without fractions. It replaces a member of the report with that name. The members stand in the
+/// order of their names.
 pub fn json_text_with(
     alloc: Global,
     bytes: &[u8],
@@ -60,11 +61,12 @@ pub fn json_text_with(
     json_text_with_text(alloc, bytes, report, name, value.as_bytes())
 }
 
-/// What is told of a report as JSON, with one member more, whose value is there as a text: one object, and LF.
+/// A report as JSON, with one more member whose value is given as a text: one object, and LF.
 ///
-/// The text stands behind the member's name as it is given, whatever bytes it has; a member of this name that the report
-/// has is replaced. The members stand in the order of their names. Where the text is that of a value, as `to_string` gives it,
-/// this is what [`json_text_with`] tells with the value.
+/// The text is allocated by `alloc`, and `bytes` is the file that `report` is on. The member is called `name`, and
+/// `more` stands behind the name as it is given, whatever bytes it has. It replaces a member of the report with that
+/// name. The members stand in the order of their names. If `more` is the text of a value, as `to_string` gives it, the
+/// result is that of [`json_text_with`] with the value.
 pub fn json_text_with_text(
     alloc: Global,
     bytes: &[u8],
@@ -76,10 +78,13 @@ pub fn json_text_with_text(
     ensures value { (value : Data) → more.now ≡ compact_text value → IfOk result (λ text. text.items ≡ json_line (object (with_member name.now value (report_members (lines bytes.now) report.now)))) }
 {
     let member = Member { name, text: more };
-    told_line(alloc, bytes, report, None, Some(member))
+    json_report_line(alloc, bytes, report, None, Some(member))
 }
 
-/// What [`json_text_with_text`] tells of a report on a file of this name, which stands there as a member `file`, a text.
+/// The same as [`json_text_with_text`], with a member `file` in addition, a text.
+///
+/// The text is allocated by `alloc`, and `bytes` is the file that `report` is on. `file` is the name of the file. The
+/// member with a text for its value is called `name`, and `more` is that text.
 pub fn json_text_of_file(
     alloc: Global,
     bytes: &[u8],
@@ -92,11 +97,12 @@ pub fn json_text_of_file(
     ensures value { (value : Data) → more.now ≡ compact_text value → IfOk result (λ text. text.items ≡ json_line (object (with_member name.now value (with_member (codes "file") (string file.now) (report_members (lines bytes.now) report.now))))) }
 {
     let member = Member { name, text: more };
-    told_line(alloc, bytes, report, Some(file), Some(member))
+    json_report_line(alloc, bytes, report, Some(file), Some(member))
 }
 
-/// What is told of a report, with the file's name and one member more where there are such: an object, and LF.
-fn told_line(
+/// A report as one JSON object, and LF. The text is allocated by `alloc`, and `bytes` is the file that `report` is on.
+/// `file` is the file's name, and `more` one more member, if there are such.
+fn json_report_line(
     alloc: Global,
     bytes: &[u8],
     report: &Report,
@@ -106,17 +112,18 @@ fn told_line(
     ensures { IfOk result (λ text. text.items ≡ 123 ∷ (left_text false more.entry (with_file (option_map (λ name. name.now) file.entry) (report_members (lines bytes.now) report.now)) ++ 10 ∷ [])) }
 {
     let mut text = Vec::new(alloc);
-    let mut room = Vec::new(alloc);
+    let mut buffer = Vec::new(alloc);
     text.push(b'{')?;
-    put_members(&mut text, &mut room, bytes, report, file, more)?;
+    put_members(&mut text, &mut buffer, bytes, report, file, more)?;
     text.push(b'\n')?;
     Ok(text)
 }
 
-/// Appends the members, and ends the object. Texts are put together in a room for them.
+/// Appends the members, and ends the object. `out` is the text so far, and `buffer` a scratch buffer for texts. `bytes`
+/// is the file that `report` is on, `file` its name, if it is to be a member, and `more` one more member, if any.
 fn put_members(
     out: &mut Vec<u8>,
-    room: &mut Vec<u8>,
+    buffer: &mut Vec<u8>,
     bytes: &[u8],
     report: &Report,
     file: Option<&str>,
@@ -124,13 +131,29 @@ fn put_members(
 ) -> Result<(), Memory>
     ensures { OnOk result (out.new.items ≡ out.old.items ++ left_text false more.entry (with_file (option_map (λ name. name.now) file.entry) (report_members (lines bytes.now) report.now))) }
 {
-    let more = put_next(out, room, bytes, report, false, more, ReportMember::Faults)?;
-    let more = put_next(out, room, bytes, report, true, more, ReportMember::Faulty)?;
-    let more = put_file(out, room, bytes, report, file, more)?;
-    let more = put_next(out, room, bytes, report, true, more, ReportMember::Refused)?;
     let more = put_next(
         out,
-        room,
+        buffer,
+        bytes,
+        report,
+        false,
+        more,
+        ReportMember::Faults,
+    )?;
+    let more = put_next(out, buffer, bytes, report, true, more, ReportMember::Faulty)?;
+    let more = put_file(out, buffer, bytes, report, file, more)?;
+    let more = put_next(
+        out,
+        buffer,
+        bytes,
+        report,
+        true,
+        more,
+        ReportMember::Refused,
+    )?;
+    let more = put_next(
+        out,
+        buffer,
         bytes,
         report,
         true,
@@ -140,11 +163,14 @@ fn put_members(
     put_last(out, more)
 }
 
-/// Appends the name of the file, where there is one, and before it or in its stead the one more. Gives what is left of the
-/// one more.
+/// Appends the name of the file, if there is one, and the additional member if it comes before that or replaces it.
+/// Returns the additional member unless it was appended.
+///
+/// `out` is the text so far, and `buffer` a scratch buffer for texts. `bytes` is the file that `report` is on, `file`
+/// its name, and `more` the additional member.
 fn put_file<'a>(
     out: &mut Vec<u8>,
-    room: &mut Vec<u8>,
+    buffer: &mut Vec<u8>,
     bytes: &[u8],
     report: &Report,
     file: Option<&str>,
@@ -157,7 +183,7 @@ fn put_file<'a>(
         None => Ok(more),
         Some(name) => put_next(
             out,
-            room,
+            buffer,
             bytes,
             report,
             true,
@@ -167,11 +193,14 @@ fn put_file<'a>(
     }
 }
 
-/// Appends a member of a report, and the one more where its place is before that, or in its stead. Gives what is left of
-/// the one more.
+/// Appends a member of a report, and the additional member if it comes before that or replaces it. Returns the
+/// additional member unless it was appended.
+///
+/// `out` is the text so far, and `buffer` a scratch buffer for texts. `bytes` is the file that `report` is on. `later`
+/// says whether a member stands before, `more` is the additional member, and `own` the member of the report.
 fn put_next<'a>(
     out: &mut Vec<u8>,
-    room: &mut Vec<u8>,
+    buffer: &mut Vec<u8>,
     bytes: &[u8],
     report: &Report,
     later: bool,
@@ -182,13 +211,13 @@ fn put_next<'a>(
         (member (own_name own.entry) (own_data (lines bytes.now) report.now own.entry) ms)) }
 {
     let Some(member) = more else {
-        put_own(out, room, bytes, report, later, own)?;
+        put_own(out, buffer, bytes, report, later, own)?;
         return Ok(None);
     };
     match member.name.cmp(own.name()) {
         Ordering::Less => {
             put_member(out, later, member.name, member.text)?;
-            put_own(out, room, bytes, report, true, own)?;
+            put_own(out, buffer, bytes, report, true, own)?;
             Ok(None)
         }
         Ordering::Equal => {
@@ -196,16 +225,17 @@ fn put_next<'a>(
             Ok(None)
         }
         Ordering::Greater => {
-            put_own(out, room, bytes, report, later, own)?;
+            put_own(out, buffer, bytes, report, later, own)?;
             Ok(Some(member))
         }
     }
 }
 
-/// Appends a member of a report, with a comma where one stands before.
+/// Appends a member of a report. `out` is the text so far, and `buffer` a scratch buffer for texts. `bytes` is the file
+/// that `report` is on. `later` says whether a comma is needed before the member `own`.
 fn put_own(
     out: &mut Vec<u8>,
-    room: &mut Vec<u8>,
+    buffer: &mut Vec<u8>,
     bytes: &[u8],
     report: &Report,
     later: bool,
@@ -216,7 +246,7 @@ fn put_own(
 {
     put_member_name(out, later, own.name())?;
     match own {
-        ReportMember::Faults => put_faults(out, room, bytes, &report.findings, &report.refused),
+        ReportMember::Faults => put_faults(out, buffer, bytes, &report.findings, &report.refused),
         ReportMember::Faulty => put_decimal(out, report.faulty),
         ReportMember::File(name) => put_string(out, name),
         ReportMember::Refused => put_bool(out, report.refused.is_some()),
@@ -224,10 +254,12 @@ fn put_own(
     }
 }
 
-/// Appends the faults of the transactions, or the one of the file.
+/// Appends the faults of the transactions, or the one of the file. `out` is the text so far, and `buffer` a scratch
+/// buffer for texts. `bytes` is the file, `findings` has the faults of its transactions, and `refused` that of the
+/// file.
 fn put_faults(
     out: &mut Vec<u8>,
-    room: &mut Vec<u8>,
+    buffer: &mut Vec<u8>,
     bytes: &[u8],
     findings: &[Finding],
     refused: &Option<FileFinding>,
@@ -235,15 +267,15 @@ fn put_faults(
     ensures { OnOk result (out.new.items ≡ out.old.items ++ compact_text (array (items_of (faults_data (lines bytes.now) findings.now refused.now)))) }
 {
     match refused {
-        None => put_findings(out, room, bytes, findings),
-        Some(refused) => put_refused(out, room, bytes, refused),
+        None => put_findings(out, buffer, bytes, findings),
+        Some(refused) => put_refused(out, buffer, bytes, refused),
     }
 }
 
-/// Appends the faults of transactions. The lines of the file are gone over once where the faults are in their order.
+/// Appends the faults of transactions. The file is walked once if the faults are in the order of its lines.
 fn put_findings(
     out: &mut Vec<u8>,
-    room: &mut Vec<u8>,
+    buffer: &mut Vec<u8>,
     bytes: &[u8],
     findings: &[Finding],
 ) -> Result<(), Memory>
@@ -254,39 +286,40 @@ fn put_findings(
     let mut later = false;
     for finding in findings {
         let line = walk.go_to(Lines::of(bytes), finding.line.saturating_sub(1));
-        put_item(out, room, line, later, finding)?;
+        put_item(out, buffer, line, later, finding)?;
         later = true;
     }
     out.push(b']')?;
     Ok(())
 }
 
-/// Appends the next fault of a transaction, in this line.
+/// Appends the next fault of a transaction. `out` is the text so far, `buffer` a scratch buffer for texts, and `line`
+/// the faulty line. `later` says whether a comma is needed before the fault `finding`.
 fn put_item(
     out: &mut Vec<u8>,
-    room: &mut Vec<u8>,
+    buffer: &mut Vec<u8>,
     line: &[u8],
     later: bool,
     finding: &Finding,
 ) -> Result<(), Memory>
-    ensures { OnOk result (out.new.items ≡ out.old.items ++ (comma_if later ++ compact_text (told_data line.now finding.now))) }
+    ensures { OnOk result (out.new.items ≡ out.old.items ++ (comma_if later ++ compact_text (fault_object line.now finding.now))) }
 {
     put_comma(out, later)?;
-    put_finding(out, room, line, finding)?;
+    put_finding(out, buffer, line, finding)?;
     Ok(())
 }
 
 /// Appends the fault of a file, alone.
 fn put_refused(
     out: &mut Vec<u8>,
-    room: &mut Vec<u8>,
+    buffer: &mut Vec<u8>,
     bytes: &[u8],
     refused: &FileFinding,
 ) -> Result<(), Memory>
     ensures { OnOk result (out.new.items ≡ out.old.items ++ 91 ∷ (compact_text (file_data (lines bytes.now) refused.now) ++ 93 ∷ [])) }
 {
     out.push(b'[')?;
-    put_file_finding(out, room, line_of(bytes, refused.line), refused)?;
+    put_file_finding(out, buffer, line_of(bytes, refused.line), refused)?;
     out.push(b']')?;
     Ok(())
 }

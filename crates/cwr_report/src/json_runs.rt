@@ -1,13 +1,13 @@
 ghost use Rattle.std.specs.Prelude.{◌≡◌, ◌+◌, ◌≤◌, ◌<◌, ◌==◌, ℕ, false, nat_lt, length, slice_index, IsTrue};
 ghost use Rattle.cwr_report.specs.JsonText.{is_changed};
 
-use cwr_field::LEAST_PRINTABLE;
+use cwr_field::MIN_PRINTABLE;
 use std::simd::prelude::*;
 
-/// How many bytes are looked at together.
+/// The number of bytes that are looked at together.
 const BLOCK: usize = 16;
 
-/// Whether each byte stands for itself in a text. Where that is not known, as of few bytes, one may not.
+/// Whether each byte stands for itself in a text. May be false although each byte does, as for few bytes.
 pub(crate) fn are_kept(bytes: &[u8]) -> bool
     ensures { IsTrue result → (k : ℕ) → k < length bytes.now → is_changed (slice_index bytes.now k) ≡ false }
 {
@@ -43,7 +43,7 @@ fn has_control(bytes: &[u8], at: usize) -> bool
     ensures { result ≡ false → (k : ℕ) → at ≤ k → k < at + 16 → nat_lt (slice_index bytes.now k) 32 ≡ false }
 {
     u8x16::from_slice(&bytes[at..])
-        .simd_lt(u8x16::splat(LEAST_PRINTABLE))
+        .simd_lt(u8x16::splat(MIN_PRINTABLE))
         .any()
 }
 

@@ -7,7 +7,7 @@ ghost use Rattle.cwr_report.specs.Json.{latin, text_data};
 ghost use Rattle.cwr_report.specs.JsonText.{is_changed};
 
 use crate::json_runs::are_kept;
-use cwr_field::{LEAST_PRINTABLE, Memory};
+use cwr_field::{MIN_PRINTABLE, Memory};
 
 /// Appends bytes as a text of JSON: each byte is the character with its number, so that a text has all of them whatever
 /// they are.
@@ -25,7 +25,7 @@ pub fn put_json_text(out: &mut Vec<u8>, bytes: &[u8]) -> Result<(), Memory>
     told
 }
 
-/// The same. A refusal may leave a part of it behind what was there.
+/// The same. An allocation failure may leave a part of it behind what was there.
 fn put_quoted(out: &mut Vec<u8>, bytes: &[u8]) -> Result<(), Memory>
     ensures ok { OnOk result (out.new.items ≡ out.old.items ++ compact_text (text_data bytes.now)) }
     ensures err { OnErr result (take (length out.old.items) out.new.items ≡ out.old.items) }
@@ -36,7 +36,7 @@ fn put_quoted(out: &mut Vec<u8>, bytes: &[u8]) -> Result<(), Memory>
     Ok(())
 }
 
-/// Appends what stands for bytes in a text. Where it is seen soon that each of them stands for itself, all are appended
+/// Appends the characters for bytes in a text. If a quick test finds that each byte stands for itself, all are appended
 /// at once.
 fn put_characters(out: &mut Vec<u8>, bytes: &[u8]) -> Result<(), Memory>
     ensures ok { OnOk result (out.new.items ≡ out.old.items ++ escape (latin bytes.now)) }
@@ -84,7 +84,7 @@ fn first_changed(bytes: &[u8]) -> Option<usize>
 fn is_changed(byte: u8) -> bool
     ensures { result ≡ is_changed byte }
 {
-    byte < LEAST_PRINTABLE || byte == b'"' || byte == b'\\' || byte > 127
+    byte < MIN_PRINTABLE || byte == b'"' || byte == b'\\' || byte > 127
 }
 
 /// Appends what stands for the character with the number of a byte.
@@ -105,8 +105,8 @@ fn put_wide(out: &mut Vec<u8>, byte: u8) -> Result<(), Memory>
     ensures ok { OnOk result (out.new.items ≡ out.old.items ++ encode_utf8 byte) }
     ensures err { OnErr result (out.new.items ≡ out.old.items) }
 {
-    let mut room = [0; 4];
-    out.extend_from_slice((byte as char).encode_utf8(&mut room).as_bytes())?;
+    let mut buffer = [0; 4];
+    out.extend_from_slice((byte as char).encode_utf8(&mut buffer).as_bytes())?;
     Ok(())
 }
 
@@ -118,7 +118,7 @@ fn put_escaped(out: &mut Vec<u8>, byte: u8) -> Result<(), Memory>
     let letter = escape_letter(byte);
     if letter > 0 {
         out.extend_from_slice(&[b'\\', letter])?;
-    } else if byte < LEAST_PRINTABLE {
+    } else if byte < MIN_PRINTABLE {
         let high = hex_digit(byte / 16);
         let low = hex_digit(byte % 16);
         out.extend_from_slice(&[b'\\', b'u', b'0', b'0', high, low])?;
@@ -128,7 +128,7 @@ fn put_escaped(out: &mut Vec<u8>, byte: u8) -> Result<(), Memory>
     Ok(())
 }
 
-/// The letter of a byte's short escape; 0 where it has none.
+/// The letter of a byte's short escape; 0 if it has none.
 fn escape_letter(byte: u8) -> u8
     ensures { result ≡ escape_letter byte }
 {

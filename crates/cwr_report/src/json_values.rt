@@ -26,7 +26,8 @@ fn latin(alloc: Global, bytes: &[u8]) -> Result<String, Memory>
     Ok(text)
 }
 
-/// Bytes as a text of JSON: each byte is the character with its number, so that a text has all of them whatever they are.
+/// Bytes as a text of JSON: each byte is the character with its number, so that a text has all of them whatever they
+/// are.
 pub fn text_value(alloc: Global, bytes: &[u8]) -> Result<Value, Memory>
     ensures { IfOk result (λ value. view value ≡ text_data bytes.now) }
 {
@@ -34,7 +35,7 @@ pub fn text_value(alloc: Global, bytes: &[u8]) -> Result<Value, Memory>
     Ok(Value::String(text))
 }
 
-/// Appends a comma, where something stands before.
+/// Appends a comma, if the value is a later one.
 pub fn put_comma(out: &mut Vec<u8>, later: bool) -> Result<(), Memory>
     ensures { OnOk result (out.new.items ≡ out.old.items ++ comma_if later) }
 {
@@ -75,19 +76,19 @@ pub fn put_type(out: &mut Vec<u8>, rtype: Option<[u8; 3]>) -> Result<(), Memory>
     }
 }
 
-/// Appends the rule of a fault, by its letter and its number, which are put together in a room for texts.
+/// Appends the rule of a fault, its letter and its number. `buffer` is a scratch buffer for texts.
 pub(crate) fn put_rule(
     out: &mut Vec<u8>,
-    room: &mut Vec<u8>,
+    buffer: &mut Vec<u8>,
     letter: &[u8],
     number: u8,
 ) -> Result<(), Memory>
     ensures { OnOk result (out.new.items ≡ out.old.items ++ rule_text letter.now number) }
 {
     out.extend_from_slice(b",\"rule\":")?;
-    room.clear();
-    put_counted(room, letter, number as u64)?;
-    put_json_text(out, room)?;
+    buffer.clear();
+    put_counted(buffer, letter, number as u64)?;
+    put_json_text(out, buffer)?;
     Ok(())
 }
 
@@ -107,7 +108,7 @@ fn put_field(out: &mut Vec<u8>, line: &[u8], spot: &Spot) -> Result<(), Memory>
     Ok(())
 }
 
-/// Appends the next of some fields, where there is one, and tells whether one has been.
+/// Appends the next field, if there is one, and returns whether any has been appended so far.
 fn put_spot(
     out: &mut Vec<u8>,
     later: bool,

@@ -3,7 +3,7 @@ ghost use Rattle.cwr_report.specs.Latest.{latest_of};
 
 use cwr_record::{Publisher, RecordType, Writer, field_at, type_of};
 
-/// What the lines of a transaction before one of them say of it. Where there was no such line, blanks.
+/// What the earlier lines of a transaction say that a rule needs. Blanks, if there was no such line.
 #[derive(Clone, Copy)]
 pub(crate) struct Latest {
     /// The interested party number of the last SPU.
@@ -26,7 +26,7 @@ impl Latest {
         }
     }
 
-    /// Goes past a line.
+    /// Consumes a line.
     fn add(&mut self, line: &[u8])
         ensures { (before : List (List ℕ)) → self.old ≡ latest_of before → self.new ≡ latest_of (line.now ∷ before) }
     {
@@ -39,7 +39,7 @@ impl Latest {
         self.leading = field_at(line, RecordType::COLUMN).bytes();
     }
 
-    /// Goes past a line, where what the lines say is kept.
+    /// Consumes a line, if what the lines say is kept.
     #[inline(always)]
     pub(crate) fn add_where(&mut self, keeps: bool, line: &[u8])
         ensures { IsTrue keeps → (before : List (List ℕ)) → self.old ≡ latest_of before → self.new ≡ latest_of (line.now ∷ before) }

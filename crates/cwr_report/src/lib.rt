@@ -1,8 +1,10 @@
-//! What a check of a submission file tells a person: where each fault stands, what stands there, and what was expected.
+//! Reports on submission files, for a person and as JSON: where each fault stands, what stands there, and what was
+//! expected.
 #![tactic(auto)]
 
 mod before;
 mod bytes_before;
+mod check_lines;
 mod expected;
 mod fields;
 mod file_expected;
@@ -20,13 +22,13 @@ mod json_values;
 mod latest;
 pub mod laws;
 mod long_lines;
+mod long_report;
 mod reporting;
 mod shown;
-mod telling;
-mod told_lines;
 mod walk;
 mod words;
 
+pub use check_lines::{put_fault_lines, put_named_lines};
 pub use cwr_call::Fault;
 pub use cwr_check::Checked;
 pub use cwr_field::Memory;
@@ -41,7 +43,6 @@ pub use json_report::{
 pub use json_strings::put_json_text;
 pub use json_values::{put_comma, put_option, put_type, text_value};
 pub use long_lines::put_text;
+pub use long_report::{check_faults, check_long, long_text};
 pub use reporting::{Report, report_on};
 pub use shown::{put_bytes, put_shown};
-pub use telling::{check_faults, check_long, long_text};
-pub use told_lines::{put_fault_lines, put_named_lines};

@@ -1,6 +1,6 @@
 ghost use Rattle.std.specs.Prelude.{◌≡◌, ◌++◌, OnOk};
-ghost use Rattle.cwr_report.specs.LongText.{stands_at, spot_text, spots_text, percent_text, followers_text, after_text, digit_text, party_text, ownership_text, collection_text, collected_text, wanted_as, record_text, transaction_text, message_of, broken_text, told_of};
-ghost use Rattle.cwr_report.specs.Shown.{told_bytes};
+ghost use Rattle.cwr_report.specs.LongText.{stands_at, spot_text, spots_text, percent_text, followers_text, after_text, digit_text, party_text, ownership_text, collection_text, collected_text, wanted_as, record_text, transaction_text, message_of, broken_text, fault_report};
+ghost use Rattle.cwr_report.specs.Shown.{bytes_as_printed};
 
 use crate::file_lines::{put_counted, put_detail};
 use crate::finding::{Expected, Finding, Spot};
@@ -13,13 +13,13 @@ use cwr_record::Column;
 use cwr_rules::{Over, Totals};
 use std::alloc::Allocator;
 
-/// Appends what is told of a fault in a line.
+/// Appends the report on a fault in a line.
 pub(crate) fn put_finding<A: Allocator>(
     out: &mut Vec<u8, A>,
     line: &[u8],
     finding: &Finding,
 ) -> Result<(), Memory>
-    ensures { OnOk result (out.new.items ≡ out.old.items ++ told_of line.now finding.now) }
+    ensures { OnOk result (out.new.items ≡ out.old.items ++ fault_report line.now finding.now) }
 {
     put_record(out, finding)?;
     put_broken(out, finding.fault.number)?;
@@ -111,7 +111,8 @@ pub(crate) fn stands_at(line: &[u8], column: Column) -> &[u8]
     rest.get(..column.width).unwrap_or(rest)
 }
 
-/// Appends what the rule with this number asked for, with bytes of the file as they are shown, or as they stand.
+/// Appends what the rule with this number required. `shows` says whether bytes of the file are escaped or stand as they
+/// are.
 pub(crate) fn put_wanted<A: Allocator>(
     out: &mut Vec<u8, A>,
     number: u8,
@@ -143,7 +144,7 @@ fn put_followers<A: Allocator>(
     leading: [u8; 3],
     shows: bool,
 ) -> Result<(), Memory>
-    ensures { OnOk result (out.new.items ≡ out.old.items ++ after_text (told_bytes shows leading) (followers_text leading)) }
+    ensures { OnOk result (out.new.items ≡ out.old.items ++ after_text (bytes_as_printed shows leading) (followers_text leading)) }
 {
     out.extend_from_slice(b"after ")?;
     put_bytes(out, &leading, shows)?;
@@ -161,7 +162,7 @@ fn put_digit<A: Allocator>(out: &mut Vec<u8, A>, digit: u8) -> Result<(), Memory
 }
 
 fn put_party<A: Allocator>(out: &mut Vec<u8, A>, party: [u8; 9], shows: bool) -> Result<(), Memory>
-    ensures { OnOk result (out.new.items ≡ out.old.items ++ party_text (told_bytes shows party)) }
+    ensures { OnOk result (out.new.items ≡ out.old.items ++ party_text (bytes_as_printed shows party)) }
 {
     out.extend_from_slice(b"\"")?;
     put_bytes(out, &party, shows)?;

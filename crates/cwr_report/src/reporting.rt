@@ -18,11 +18,11 @@ use std::marker::Model;
 #[derive_where(Debug)]
 #[derive(Drop)]
 pub struct Report<A: Allocator = Global> {
-    /// Every fault of every transaction, in the order of the file; none where the file is refused.
+    /// Every fault of every transaction, in the order of the file; none if the file is refused.
     pub findings: Vec<Finding, A>,
-    /// How many transactions a well-formed file has.
+    /// The number of transactions of a well-formed file.
     pub transactions: u64,
-    /// How many of them have faults.
+    /// The number of transactions with faults.
     pub faulty: u64,
     /// The first fault of a file that is not well-formed.
     pub refused: Option<FileFinding>,
@@ -47,9 +47,9 @@ impl<A: Allocator> Report<A> {
 
 /// Checks a file by the rules of files and of transactions, F1 to F12 and J1 to J15, without a registry.
 ///
-/// Of a well-formed file it tells every fault of its transactions, each once and in order: by record sequence, and
-/// within a record by the number of the rule. Of any other file it tells the first fault. Where memory is refused
-/// nothing is told.
+/// If the file is well-formed, the report has every fault of its transactions, each once and in order: by record
+/// sequence, and within a record by the number of the rule. Otherwise it has the first fault of the file. If an
+/// allocation fails, the result is `Memory` alone.
 pub fn report_on<A: Allocator + Copy>(alloc: A, bytes: &[u8]) -> Result<Report<A>, Memory>
     ensures { IfOk result (IsReport bytes.now) }
 {

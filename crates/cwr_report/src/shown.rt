@@ -1,15 +1,15 @@
 ghost use Rattle.std.specs.Prelude.{◌≡◌, ◌++◌, OnOk};
-ghost use Rattle.cwr_report.specs.Shown.{is_unprinted, shown, shown_text, told_bytes};
+ghost use Rattle.cwr_report.specs.Shown.{is_unprinted, shown, shown_text, bytes_as_printed};
 
 use crate::json_strings::hex_digit;
 use crate::long_lines::put_text;
-use cwr_field::{LEAST_PRINTABLE, Memory};
+use cwr_field::{MIN_PRINTABLE, Memory};
 use std::alloc::Allocator;
 
 /// Appends bytes of a file as a person is shown them, so that nothing but printable ASCII goes to a terminal.
 ///
-/// A byte below 32 or above 126 is told as `\xEF`: a backslash, `x` and two digits to the base 16, in capitals. Any other
-/// stands as it is, a backslash too. A refusal may leave a part of them.
+/// A byte below 32 or above 126 is shown as `\xEF`: a backslash, `x` and two digits to the base 16, in capitals. Any
+/// other byte stands as it is, a backslash too. An allocation failure may leave a part of them.
 pub fn put_shown<A: Allocator>(out: &mut Vec<u8, A>, bytes: &[u8]) -> Result<(), Memory>
     ensures { OnOk result (out.new.items ≡ out.old.items ++ shown_text bytes.now) }
 {
@@ -19,13 +19,14 @@ pub fn put_shown<A: Allocator>(out: &mut Vec<u8, A>, bytes: &[u8]) -> Result<(),
     Ok(())
 }
 
-/// Appends bytes of a file as they are shown, or as they stand. A refusal may leave a part of them.
+/// Appends bytes of a file, escaped if `shows` is true, else as they stand. An allocation failure may leave a part of
+/// them.
 pub fn put_bytes<A: Allocator>(
     out: &mut Vec<u8, A>,
     bytes: &[u8],
     shows: bool,
 ) -> Result<(), Memory>
-    ensures { OnOk result (out.new.items ≡ out.old.items ++ told_bytes shows bytes.now) }
+    ensures { OnOk result (out.new.items ≡ out.old.items ++ bytes_as_printed shows bytes.now) }
 {
     if shows {
         put_shown(out, bytes)
@@ -48,9 +49,9 @@ fn put_shown_byte<A: Allocator>(out: &mut Vec<u8, A>, byte: u8) -> Result<(), Me
     Ok(())
 }
 
-/// Whether no character of ASCII is printed for a byte.
+/// Whether a byte has no printable character in ASCII.
 fn is_unprinted(byte: u8) -> bool
     ensures { result ≡ is_unprinted byte }
 {
-    byte < LEAST_PRINTABLE || byte > 126
+    byte < MIN_PRINTABLE || byte > 126
 }

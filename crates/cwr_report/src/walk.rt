@@ -8,15 +8,15 @@ use cwr_grammar::Lines;
 /// A walk over lines, from the first on.
 #[derive(Drop)]
 pub(crate) struct Walk<'a> {
-    /// The line that it has gone to, where there is one.
+    /// The line that it has gone to, if there is one.
     line: Option<&'a [u8]>,
     /// The lines after that one.
     rest: Lines<'a>,
-    /// How many lines it has gone past.
+    /// The number of lines consumed.
     passed: u64,
     /// Whether it keeps what they say.
     keeps: bool,
-    /// What they say, where it keeps that.
+    /// What they say, if it keeps that.
     pub(crate) latest: Latest,
 }
 
@@ -37,8 +37,8 @@ impl<'a> Walk<'a> {
         }
     }
 
-    /// Goes to the line at an index, counted from 0, of all the lines that it goes over, and gives that line; no bytes where
-    /// there is none. It begins anew where it has gone past that one.
+    /// Goes to the line at an index, counted from 0, among all the lines, and returns it; no bytes if there is none. It
+    /// starts over if the line was consumed before.
     pub(crate) fn go_to(&mut self, all: Lines<'a>, index: u64) -> &'a [u8]
         requires { IsWalk self.old all self.old.passed }
         ensures walk { IsWalk self.new all.entry index }
@@ -52,7 +52,7 @@ impl<'a> Walk<'a> {
         self.go_on_to(index)
     }
 
-    /// Goes to a line that it has not gone past: past the lines before it, and no further.
+    /// Goes to a line that was not consumed yet: it consumes the lines before it, and no more.
     fn go_on_to(&mut self, index: u64) -> &'a [u8]
         requires { self.old.passed ≤ index }
         ensures walk { (lines : List (List ℕ)) → IsWalk self.old lines self.old.passed → IsWalk self.new lines index }
@@ -65,7 +65,7 @@ impl<'a> Walk<'a> {
         self.line()
     }
 
-    /// Goes past a line, where there is one more.
+    /// Consumes a line, if there is one more.
     fn pass_line(&mut self)
         requires { self.old.passed < 2 ^ 64 - 1 }
         ensures passed { self.new.passed ≡ self.old.passed + 1 }
@@ -82,7 +82,7 @@ impl<'a> Walk<'a> {
         }
     }
 
-    /// The line that it has gone to; no bytes where there is none.
+    /// The line that it has gone to; no bytes if there is none.
     fn line(&self) -> &'a [u8]
         ensures { (lines : List (List ℕ)) (index : ℕ) → IsWalk self.now lines index → result.now ≡ line_at lines index }
     {
@@ -93,7 +93,7 @@ impl<'a> Walk<'a> {
     }
 }
 
-/// The line of a file with this number, counted from 1; no bytes where there is none.
+/// The line of a file with this number, counted from 1; no bytes if there is none.
 pub(crate) fn line_of(bytes: &[u8], number: u64) -> &[u8]
     ensures { result.now ≡ line_at (lines bytes.now) (number - 1) }
 {

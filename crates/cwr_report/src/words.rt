@@ -56,7 +56,7 @@ pub(crate) fn followers_text(leading: [u8; 3]) -> &'static [u8]
     }
 }
 
-/// What the rule with this number asks for, where that hangs on nothing else.
+/// What the rule with this number requires, if that depends on nothing else.
 pub(crate) fn rule_text(number: u8) -> &'static [u8]
     ensures { result.now ≡ rule_text number }
 {

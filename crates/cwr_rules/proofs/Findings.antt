@@ -10,7 +10,7 @@ use Rattle.cwr_rules.specs.declared.record.Record.{Record}
 use Rattle.cwr_rules.specs.declared.record.Record.TheVariants.{Pwr}
 use Rattle.cwr_rules.specs.Rules.{publisher_party, publishers, is_party_of, name_of, follows_swr, has_unknown_publisher, is_out_of_order, has_wrong_share, is_nameless, is_of_another_party, has_wrong_territory}
 use Rattle.cwr_rules.specs.Faults.{found, all_found, record_rules, faults_after}
-use Rattle.cwr_rules.specs.SoFar.{link_publisher, rules_so_far, some_holds, finding, all_findings, findings_of, stands, standing}
+use Rattle.cwr_rules.specs.TransactionState.{link_publisher, rules_so_far, some_holds, finding, all_findings, findings_of, stands, standing}
 use Rattle.cwr_rules.proofs.Turned.{turned, same_parties, party_more}
 
 -- what is one of the first parties is one of the second

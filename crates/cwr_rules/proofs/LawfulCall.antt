@@ -12,7 +12,7 @@ use Rattle.cwr_rules.specs.declared.record.Record.{Record}
 use Rattle.cwr_rules.specs.declared.record.Record.TheVariants.{Spu, Opu, Spt, Swr, Owr, Swt, Pwr, Alt, Xrf, Carried}
 use Rattle.cwr_rules.specs.declared.record.Shares.{Shares}
 use Rattle.cwr_rules.specs.declared.totals.Totals.{Totals}
-use Rattle.cwr_call.specs.Lawful.{most_faults, most_sum, is_clean, is_iswc, is_lawful, is_none_found, is_whole, are_at_most, are_faults}
+use Rattle.cwr_call.specs.Lawful.{max_faults, max_sum, is_clean, is_iswc, is_lawful, is_none_found, is_whole, are_at_most, are_faults}
 use Rattle.cwr_rules.specs.Totals.{total, performing_share, mechanical_share, synchronization_share, owns, controls, ownership, control}
 use Rattle.cwr_rules.specs.Calls.{three, call_from}
 use Rattle.cwr_rules.specs.Rules.{publishers}
@@ -23,8 +23,8 @@ use Rattle.cwr_rules.proofs.SmallShares.{TotalsLe, totals_le}
 use Rattle.cwr_rules.proofs.Rising.{faults_rise}
 use Rattle.cwr_field.proofs.lemmas.Printable.{printable-field}
 use Rattle.cwr_field.proofs.lemmas.Tests.{both}
-use Rattle.cwr_field.specs.Number.{most_count}
-use Rattle.cwr_field.specs.Share.{most_whole}
+use Rattle.cwr_field.specs.Number.{max_count}
+use Rattle.cwr_field.specs.Share.{max_whole}
 use Rattle.cwr_rules.proofs.FaultForms.{le_test, faults_are}
 use Rattle.cwr_rules.proofs.lemmas.FewFaults.{faults_few}
 
@@ -33,10 +33,10 @@ at_most limit t h =
     both (leb t.performing limit) _ (le_test t.performing limit h.performing)
     (both (leb t.mechanical limit) _ (le_test t.mechanical limit h.mechanical) (both (leb t.synchronization limit) true (le_test t.synchronization limit h.synchronization) refl))
 
-control_small : (records : List Record) → length records ≤ most_count → AreCapped records → are_at_most most_sum (three (control records)) ≡ true
+control_small : (records : List Record) → length records ≤ max_count → AreCapped records → are_at_most max_sum (three (control records)) ≡ true
 control_small records lt capped =
     let le = totals_le controls records capped in
-    at_most most_sum (control records) (record { performing = omega (arith, le.performing); mechanical = omega (arith, le.mechanical); synchronization = omega (arith, le.synchronization) })
+    at_most max_sum (control records) (record { performing = omega (arith, le.performing); mechanical = omega (arith, le.mechanical); synchronization = omega (arith, le.synchronization) })
 
 -- what is controlled is owned
 controlled_le : (right : Shares → Option ℕ) (records : List Record) → total right (filter controls records) ≤ total right (filter owns records)
@@ -60,7 +60,7 @@ not_found : (k n : ℕ) (t : List ℕ) (b : Bool) → is_none_found (found k t n
 not_found k n t false e = refl
 not_found k n t true e = absurd cc
 
-near : (n : ℕ) → is_off n ≡ false → n ≤ most_whole
+near : (n : ℕ) → is_off n ≡ false → n ≤ max_whole
 near n e = grind (arith, nat_tests)
 
 abbrev NoneHolds : List (ℕ × Bool) → Type 0
@@ -73,11 +73,11 @@ none_holds k t (rule ∷ rules) e =
     let two = none_parts (found k t rule.0 rule.1) (all_found k t rules) e in
     (not_found k rule.0 t rule.1 two.0, none_holds k t rules two.1)
 
-without_faults : (kind : WorkKind) (head : List ℕ) (records : List Record) → is_none_found (faults_of kind head records) ≡ true → are_at_most most_whole (three (control records)) ≡ true
+without_faults : (kind : WorkKind) (head : List ℕ) (records : List Record) → is_none_found (faults_of kind head records) ≡ true → are_at_most max_whole (three (control records)) ≡ true
 without_faults kind head records e =
     let of_whole = (none_parts (all_found 0 (work_kind_code kind) (head_rules head records)) (faults_after (publishers records) [] records) e).0 in
     let h = none_holds 0 (work_kind_code kind) (head_rules head records) of_whole in
-    at_most most_whole (control records) (record {
+    at_most max_whole (control records) (record {
       performing = omega (arith, near (ownership records).performing h.1.1.1.1.1.0, controlled_le performing_share records);
       mechanical = omega (arith, near (ownership records).mechanical h.1.1.1.1.1.1.0, controlled_le mechanical_share records);
       synchronization = omega (arith, near (ownership records).synchronization h.1.1.1.1.1.1.1.0, controlled_le synchronization_share records);
@@ -85,21 +85,21 @@ without_faults kind head records e =
 
 whole : (kind : WorkKind) (head : List ℕ) (records : List Record) → is_whole (faults_of kind head records) (three (control records)) ≡ true
 whole kind head records =
-    let P : Bool → Type 0 = λ b. is_none_found (faults_of kind head records) ≡ b → (not b || are_at_most most_whole (three (control records))) ≡ true in
+    let P : Bool → Type 0 = λ b. is_none_found (faults_of kind head records) ≡ b → (not b || are_at_most max_whole (three (control records))) ≡ true in
     (elim (is_none_found (faults_of kind head records)) as P [ true ↦ λ e. without_faults kind head records e | false ↦ λ e. refl ]) refl
 
-right_faults : (kind : WorkKind) (head : List ℕ) (records : List Record) → length records ≤ most_count → are_faults (faults_of kind head records) ≡ true
+right_faults : (kind : WorkKind) (head : List ℕ) (records : List Record) → length records ≤ max_count → are_faults (faults_of kind head records) ≡ true
 right_faults kind head records lt =
-    both _ _ (both _ _ (le_test (length (faults_of kind head records)) most_faults (omega (arith, lt, faults_few kind head records))) (faults_are kind head records lt)) (faults_rise kind head records)
+    both _ _ (both _ _ (le_test (length (faults_of kind head records)) max_faults (omega (arith, lt, faults_few kind head records))) (faults_are kind head records lt)) (faults_rise kind head records)
 
-pub lawful : (submitter head : List ℕ) (kind : WorkKind) (records : List Record) → length records ≤ most_count → AreCapped records
+pub lawful : (submitter head : List ℕ) (kind : WorkKind) (records : List Record) → length records ≤ max_count → AreCapped records
     → is_clean submitter ≡ true → is_clean head ≡ true → is_iswc (call_from submitter kind head records).iswc ≡ true → is_lawful (call_from submitter kind head records) ≡ true
 lawful submitter head kind records lt capped a b i =
     both _ _ (both _ _ (both _ _ (both _ _ (both _ _ (both _ _ a (printable-field head column.work_head_title.start column.work_head_title.width b)) (printable-field head column.work_head_submitter_number.start column.work_head_submitter_number.width b)) i) (control_small records lt capped)) (whole kind head records)) (right_faults kind head records lt)
 
 -- the same of parts that are those of the call
 pub lawful_from : (submitter head title number : List ℕ) (kind : WorkKind) (iswc : Option ℕ) (t : Totals) (records : List Record) (out : List Fault)
-    → length records ≤ most_count → AreCapped records → IsTrue (is_clean submitter) → IsTrue (is_clean head) → IsTrue (is_iswc iswc)
+    → length records ≤ max_count → AreCapped records → IsTrue (is_clean submitter) → IsTrue (is_clean head) → IsTrue (is_iswc iswc)
     → title ≡ field_at head column.work_head_title → number ≡ field_at head column.work_head_submitter_number → iswc ≡ number_in (iswc_of (field_at head column.work_head_iswc)) → t ≡ control records → out ≡ faults_of kind head records
     → IsTrue (is_lawful (record { submitter = submitter; kind = kind; title = title; number = number; iswc = iswc; control = three t; faults = out }))
 lawful_from submitter head title number kind iswc t records out lt capped a b i title_is number_is iswc_is control_is faults_are_all =

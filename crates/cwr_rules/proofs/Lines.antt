@@ -4,22 +4,21 @@ use Rattle.std.proofs.lemmas.List.{length-map, length-reverse, map-append, rever
 use Rattle.cwr_call.specs.CallValue.{CallValue}
 use Rattle.cwr_call.specs.Lawful.{is_iswc}
 use Rattle.cwr_call.specs.declared.transaction_fault.Fault.{Fault}
-use Rattle.cwr_field.specs.Number.{most_count}
+use Rattle.cwr_field.specs.Number.{max_count}
 use Rattle.cwr_record.specs.declared.works.WorkKind.{WorkKind}
 use Rattle.cwr_rules.specs.declared.finding.Finding.{Finding}
-use Rattle.cwr_rules.specs.declared.header.KeptHead.{KeptHead}
+use Rattle.cwr_rules.specs.declared.header.HeaderFields.{HeaderFields}
 use Rattle.cwr_rules.specs.declared.record.Record.{Record}
 use Rattle.cwr_rules.specs.declared.totals.Totals.{Totals}
 use Rattle.cwr_rules.specs.declared.sums.Sums.{Sums}
 use Rattle.cwr_rules.specs.Collected.{AreSmall, AreSmallSums, found_in, found_among, value_at}
 use Rattle.cwr_rules.specs.Calls.{three, call_in}
 use Rattle.cwr_rules.specs.Faults.{faults_of}
-use Rattle.cwr_rules.specs.KeptHead.{kept_head}
-use Rattle.cwr_rules.specs.Judging.{JudgeState, IsJudging}
-use Rattle.cwr_rules.specs.Parties.{kept_in}
+use Rattle.cwr_rules.specs.HeaderFields.{header_fields}
+use Rattle.cwr_rules.specs.Judging.{JudgeState, value_of_judge, IsJudging}
 use Rattle.cwr_rules.specs.Records.{record_of, records_of}
 use Rattle.cwr_rules.specs.Rules.{publishers}
-use Rattle.cwr_rules.specs.SoFar.{IsSoFar, IsWhole, standing}
+use Rattle.cwr_rules.specs.TransactionState.{IsAfterRecords, IsAfterAll, standing}
 use Rattle.cwr_rules.specs.Totals.{owns, controls, control, collects_at}
 use Rattle.cwr_rules.proofs.Findings.{all_come}
 use Rattle.cwr_rules.proofs.SmallShares.{records_capped, totals_small}
@@ -38,23 +37,23 @@ turned_is records = sym (append-nil (reverse records)) ∙ sym (onto records [])
 pub newest_first : (details : List (List ℕ)) (line : List ℕ) → record_of line ∷ reverse (records_of details) ≡ reverse (records_of (details ++ line ∷ []))
 newest_first details line = sym (ap (λ (xs : List Record). reverse xs) (map-append record_of details (line ∷ [])) ∙ reverse-append (records_of details) (record_of line ∷ []))
 
-few_of : (lines details : List (List ℕ)) (head : List ℕ) → lines ≡ head ∷ details → length lines ≤ most_count → length (records_of details) < most_count
+few_of : (lines details : List (List ℕ)) (head : List ℕ) → lines ≡ head ∷ details → length lines ≤ max_count → length (records_of details) < max_count
 few_of lines details head is le =
     let same : length lines ≡ length (head ∷ details) = ap (λ (xs : List (List ℕ)). length xs) is in
     let mapped : length (records_of details) ≡ length details = length-map details record_of in
     omega arith
 
-few_records : (s : JudgeState) (kind : WorkKind) (lines : List (List ℕ)) (h : IsJudging s kind lines) → length lines ≤ most_count → length (records_of h.details) < most_count
+few_records : (s : JudgeState) (kind : WorkKind) (lines : List (List ℕ)) (h : IsJudging s kind lines) → length lines ≤ max_count → length (records_of h.details) < max_count
 few_records s kind lines h le = few_of lines h.details h.head h.lines_are le
 
 -- one more at the end
-few_all_of : (lines details : List (List ℕ)) (head : List ℕ) → lines ≡ head ∷ details → length lines ≤ most_count + 1 → length (records_of details) ≤ most_count
+few_all_of : (lines details : List (List ℕ)) (head : List ℕ) → lines ≡ head ∷ details → length lines ≤ max_count + 1 → length (records_of details) ≤ max_count
 few_all_of lines details head is le =
     let same : length lines ≡ length (head ∷ details) = ap (λ (xs : List (List ℕ)). length xs) is in
     let mapped : length (records_of details) ≡ length details = length-map details record_of in
     omega arith
 
-pub few_all : (s : JudgeState) (kind : WorkKind) (lines : List (List ℕ)) (h : IsJudging s kind lines) → length lines ≤ most_count + 1 → length (records_of h.details) ≤ most_count
+pub few_all : (s : JudgeState) (kind : WorkKind) (lines : List (List ℕ)) (h : IsJudging s kind lines) → length lines ≤ max_count + 1 → length (records_of h.details) ≤ max_count
 few_all s kind lines h le = few_all_of lines h.details h.head h.lines_are le
 
 -- each line counts
@@ -67,18 +66,18 @@ lines_counted s kind lines h =
     omega arith
 
 pub whole_of : (s : JudgeState) (kind : WorkKind) (lines : List (List ℕ)) (h : IsJudging s kind lines)
-    → IsWhole s.sums (kept_in s.first_party (record { keys = s.parties })) (found_in s.first_code (found_among s.codes)) s.is_over s.findings (records_of h.details)
+    → IsAfterAll (value_of_judge s) (records_of h.details)
 whole_of s kind lines h =
     let records = records_of h.details in
-    let P : List Record → Type 0 = λ rs. IsSoFar s.count s.position s.sums (kept_in s.first_party (record { keys = s.parties })) (found_in s.first_code (found_among s.codes)) s.is_over s.findings rs in
+    let P : List Record → Type 0 = λ rs. IsAfterRecords (value_of_judge s) rs in
     let k = subst P (turned_is records) h.so_far in
     record {
-      summary = summary_turned s.sums (kept_in s.first_party (record { keys = s.parties })) (found_in s.first_code (found_among s.codes)) s.is_over records k.summary;
+      summary = summary_turned (value_of_judge s).summary records k.summary;
       faults_are = ap (λ (fs : List Finding). standing (publishers records) fs) k.findings_are ∙ all_come records;
     }
 
 -- one line more can be counted, and its shares added
-pub few : (s : JudgeState) (kind : WorkKind) (lines : List (List ℕ)) → IsJudging s kind lines → length lines ≤ most_count → s.count < most_count
+pub few : (s : JudgeState) (kind : WorkKind) (lines : List (List ℕ)) → IsJudging s kind lines → length lines ≤ max_count → s.count < max_count
 few s kind lines h le =
     let records = records_of h.details in
     let a = few_records s kind lines h le in
@@ -86,23 +85,23 @@ few s kind lines h le =
     let c = h.so_far.counted in
     omega arith
 
-pub small_sums : (s : JudgeState) (kind : WorkKind) (lines : List (List ℕ)) → IsJudging s kind lines → length lines ≤ most_count → AreSmallSums s.sums
+pub small_sums : (s : JudgeState) (kind : WorkKind) (lines : List (List ℕ)) → IsJudging s kind lines → length lines ≤ max_count → AreSmallSums s.sums
 small_sums s kind lines h le =
     let records = records_of h.details in
     let lt = few_records s kind lines h le in
     let sums = (whole_of s kind lines h).summary.sums_are in
     (totals_small owns records _ lt (records_capped h.details) (ap (λ (t : Sums). t.ownership) sums), totals_small controls records _ lt (records_capped h.details) (ap (λ (t : Sums). t.control) sums))
 
-pub small_totals : (s : JudgeState) (kind : WorkKind) (lines : List (List ℕ)) → IsJudging s kind lines → length lines ≤ most_count → (q : ℕ) → AreSmall (value_at (found_in s.first_code (found_among s.codes)) q)
+pub small_totals : (s : JudgeState) (kind : WorkKind) (lines : List (List ℕ)) → IsJudging s kind lines → length lines ≤ max_count → (q : ℕ) → AreSmall (value_at (found_in s.first_code (found_among s.codes)) q)
 small_totals s kind lines h le q =
     totals_small (collects_at q) (records_of h.details) _ (few_records s kind lines h le) (records_capped h.details) ((whole_of s kind lines h).summary.collected.values q)
 
 pub one_more : (s t : JudgeState) (kind : WorkKind) (lines : List (List ℕ)) (line : List ℕ) (h : IsJudging s kind lines) → t.header ≡ s.header
-    → IsSoFar t.count t.position t.sums (kept_in t.first_party (record { keys = t.parties })) (found_in t.first_code (found_among t.codes)) t.is_over t.findings (record_of line ∷ reverse (records_of h.details))
+    → IsAfterRecords (value_of_judge t) (record_of line ∷ reverse (records_of h.details))
     → IsJudging t kind (lines ++ line ∷ [])
 one_more s t kind lines line h same so_far =
-    let P : List Record → Type 0 = λ rs. IsSoFar t.count t.position t.sums (kept_in t.first_party (record { keys = t.parties })) (found_in t.first_code (found_among t.codes)) t.is_over t.findings rs in
-    let Q : KeptHead → Type 0 = λ x. IsTrue (is_iswc x.iswc) in
+    let P : List Record → Type 0 = λ rs. IsAfterRecords (value_of_judge t) rs in
+    let Q : HeaderFields → Type 0 = λ x. IsTrue (is_iswc x.iswc) in
     record {
       head = h.head;
       details = h.details ++ line ∷ [];
@@ -113,15 +112,15 @@ one_more s t kind lines line h same so_far =
       so_far = subst P (newest_first h.details line) so_far;
     }
 
-abbrev made : List ℕ → KeptHead → Totals → List Fault → CallValue
+abbrev made : List ℕ → HeaderFields → Totals → List Fault → CallValue
 made submitter header t faults = record { submitter = submitter; kind = header.kind; title = header.title; number = header.number; iswc = header.iswc; control = three t; faults = faults }
 
 -- the parts of a header and of the records are those of the call
-pub same_call : (submitter head : List ℕ) (kind : WorkKind) (lines details : List (List ℕ)) (header : KeptHead) (t : Totals) (faults : List Fault)
-    → lines ≡ head ∷ details → header ≡ kept_head kind head → t ≡ control (records_of details) → faults ≡ faults_of kind head (records_of details)
+pub same_call : (submitter head : List ℕ) (kind : WorkKind) (lines details : List (List ℕ)) (header : HeaderFields) (t : Totals) (faults : List Fault)
+    → lines ≡ head ∷ details → header ≡ header_fields kind head → t ≡ control (records_of details) → faults ≡ faults_of kind head (records_of details)
     → made submitter header t faults ≡ call_in submitter kind lines
 same_call submitter head kind lines details header t faults lines_are header_is control_is faults_are =
-    ap (λ (x : KeptHead). made submitter x t faults) header_is
-    ∙ ap (λ (x : Totals). made submitter (kept_head kind head) x faults) control_is
-    ∙ ap (λ (x : List Fault). made submitter (kept_head kind head) (control (records_of details)) x) faults_are
+    ap (λ (x : HeaderFields). made submitter x t faults) header_is
+    ∙ ap (λ (x : Totals). made submitter (header_fields kind head) x faults) control_is
+    ∙ ap (λ (x : List Fault). made submitter (header_fields kind head) (control (records_of details)) x) faults_are
     ∙ ap (λ (x : List (List ℕ)). call_in submitter kind x) (sym lines_are)

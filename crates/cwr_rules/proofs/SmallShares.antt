@@ -3,7 +3,7 @@ use Rattle.std.proofs.Common.{◌≡◌, ℕ, ◌*◌, ◌<◌, ◌≤◌, Bool,
 use Rattle.std.specs.Prelude.{filter, option_and_then}
 use Rattle.std.proofs.lemmas.Bool.Decides.{nat_tests}
 use Rattle.cwr_field.specs.Layout.{is_blank}
-use Rattle.cwr_field.specs.Number.{number_of, most_count}
+use Rattle.cwr_field.specs.Number.{number_of, max_count}
 use Rattle.cwr_field.specs.Share.{whole, share_of}
 use Rattle.cwr_record.specs.declared.record_type.RecordType.{RecordType}
 use Rattle.cwr_record.specs.declared.record_type.RecordType.TheVariants as of_type
@@ -88,7 +88,7 @@ totals_le p records h = record {
   synchronization = total_le synchronization_share (λ r k. k.synchronization) p records h;
 }
 
-pub totals_small : (p : Record → Bool) (records : List Record) (t : Totals) → length records < most_count → AreCapped records → t ≡ totals_of p records → AreSmall t
+pub totals_small : (p : Record → Bool) (records : List Record) (t : Totals) → length records < max_count → AreCapped records → t ≡ totals_of p records → AreSmall t
 totals_small p records t lt h is =
     let le = totals_le p records h in
     rw is (record { performing = omega (arith, le.performing); mechanical = omega (arith, le.mechanical); synchronization = omega (arith, le.synchronization) })

@@ -9,7 +9,7 @@ use Rattle.cwr_rules.specs.declared.totals.Totals.{Totals}
 use Rattle.cwr_rules.specs.declared.sums.Sums.{Sums}
 use Rattle.cwr_rules.specs.Totals.{valued, total, performing_share, mechanical_share, synchronization_share, shares_of, owns, controls, totals_of, collects_at, collection, is_over, is_over_somewhere}
 use Rattle.cwr_rules.specs.Collected.{sums_of}
-use Rattle.cwr_rules.specs.Summary.{IsSummary}
+use Rattle.cwr_rules.specs.Summary.{SummaryValue, IsSummary}
 use Rattle.cwr_rules.specs.Rules.{is_writer, publisher_party, publishers, is_party_of}
 use Rattle.cwr_rules.proofs.Collecting.{same_totals}
 use Rattle.cwr_rules.proofs.TerritoryLaw.{some_code, at_code}
@@ -106,9 +106,8 @@ over_turned records =
     (λ h. let w = some_code (turned records []) h in at_code records w.0 (ap is_over (sym (collection_turned w.0 records)) ∙ w.1))
     (λ h. let w = some_code records h in at_code (turned records []) w.0 (ap is_over (collection_turned w.0 records) ∙ w.1))
 
-pub summary_turned : (sums : Sums) (kept : ℕ × ℕ → Bool) (found : ℕ → Option Totals) (over : Bool) (records : List Record)
-    → IsSummary sums kept found over (turned records []) → IsSummary sums kept found over records
-summary_turned sums kept found over records h = record {
+pub summary_turned : (value : SummaryValue) (records : List Record) → IsSummary value (turned records []) → IsSummary value records
+summary_turned value records h = record {
   sums_are = h.sums_are ∙ sums_turned records;
   holds = λ q is. h.holds q is ∙ same_parties records q;
   collected = record { values = λ code. h.collected.values code ∙ collection_turned code records; over_is = h.collected.over_is ∙ over_turned records };

@@ -13,11 +13,11 @@ use Rattle.cwr_rules.specs.Totals.{control}
 use Rattle.cwr_rules.specs.Head.{number_in}
 use Rattle.cwr_rules.specs.Faults.{faults_of}
 
--- performing, mechanical, synchronization
+-- totals as a list: performing, mechanical, synchronization
 abbrev pub three : Totals → List ℕ
 three totals = totals.performing ∷ totals.mechanical ∷ totals.synchronization ∷ []
 
--- of a header's line and the records after it
+-- the call of a transaction, given its submitter, its kind, its header's line and the records after it
 abbrev pub call_from : List ℕ → WorkKind → List ℕ → List Record → CallValue
 call_from submitter kind head records = record {
   submitter = submitter;
@@ -29,10 +29,11 @@ call_from submitter kind head records = record {
   faults = faults_of kind head records;
 }
 
--- of the lines of a transaction, the header's first
+-- the call of a transaction, given its lines, the header's first
 abbrev pub call_in : List ℕ → WorkKind → List (List ℕ) → CallValue
 call_in submitter kind [] = call_from submitter kind [] []
 call_in submitter kind (head ∷ details) = call_from submitter kind head (records_of details)
 
+-- the call of a transaction that this submitter sent
 abbrev pub call_of : List ℕ → RawParts → CallValue
 call_of submitter transaction = call_in submitter transaction.kind transaction.lines

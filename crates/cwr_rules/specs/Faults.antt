@@ -9,7 +9,7 @@ use Rattle.cwr_rules.specs.Totals.{ownership, is_over_somewhere}
 use Rattle.cwr_rules.specs.Rules.{name_of, publishers, is_out_of_order, has_wrong_share, is_nameless, is_of_another_party, has_unknown_publisher, has_wrong_territory}
 use Rattle.cwr_rules.specs.Head.{has_no_title, has_no_number, has_wrong_iswc, has_wrong_date, has_no_writer, is_off}
 
--- the rules of a transaction as a whole, each with its number and whether it holds
+-- the rules of a transaction as a whole: each with its number and whether it holds
 abbrev pub head_rules : List ℕ → List Record → List (ℕ × Bool)
 head_rules head records =
     (2, has_no_title head)
@@ -23,7 +23,8 @@ head_rules head records =
     ∷ (15, is_over_somewhere records)
     ∷ []
 
--- the rules of a record, of a transaction with these publishers, after these records
+-- the rules of a record, given the transaction's publishers and the records before it, the newest first: each with its
+-- number and whether it holds
 abbrev pub record_rules : List (List ℕ) → List Record → Record → List (ℕ × Bool)
 record_rules parties before r =
     (1, is_out_of_order before r)
@@ -34,20 +35,22 @@ record_rules parties before r =
     ∷ (14, has_wrong_territory r)
     ∷ []
 
+-- a fault at this record sequence and record type where the rule holds, and nothing where it does not
 abbrev pub found : ℕ → List ℕ → ℕ → Bool → List Fault
 found sequence rtype number holds = if holds then record { sequence = sequence; number = number; rtype = rtype } ∷ [] else []
 
--- a fault for each rule that holds
+-- a fault for each rule that holds, in the order of the rules
 abbrev pub all_found : ℕ → List ℕ → List (ℕ × Bool) → List Fault
 all_found sequence rtype rules = flat_map (λ rule. found sequence rtype rule.0 rule.1) rules
 
--- of the records after some others, which are the newest first
+-- the faults of these records, which come after the records before, the newest first; record 1 is the first after the
+-- header
 abbrev pub faults_after : List (List ℕ) → List Record → List Record → List Fault
 faults_after parties before [] = []
 faults_after parties before (r ∷ rest) =
     all_found (length before + 1) (name_of r) (record_rules parties before r) ++ faults_after parties (r ∷ before) rest
 
--- of a transaction: of the whole, at sequence 0, then of each record at its own
+-- all faults of a transaction in rising order: those of the whole at sequence 0, then those of each record at its own
 abbrev pub faults_of : WorkKind → List ℕ → List Record → List Fault
 faults_of kind head records =
     all_found 0 (work_kind_code kind) (head_rules head records) ++ faults_after (publishers records) [] records

@@ -4,7 +4,7 @@ pub mod Totals
 pub mod LastBlock
 pub mod Rules
 pub mod Head
-pub mod KeptHead
+pub mod HeaderFields
 pub mod Faults
 pub mod Holds
 pub mod Calls
@@ -12,7 +12,7 @@ pub mod Position
 pub mod Parties
 pub mod Collected
 pub mod Summary
-pub mod SoFar
+pub mod TransactionState
 pub mod Judging
 pub mod OfRecords
 pub mod Added

@@ -20,8 +20,8 @@ use Rattle.cwr_rules.specs.declared.record.Record.TheVariants.{Spu, Opu, Spt, Sw
 use Rattle.cwr_rules.specs.Calls.{call_from}
 use Rattle.cwr_rules.specs.Head.{has_no_title, has_no_number, has_wrong_iswc, has_wrong_date}
 
--- The line of a registration's head: its title and its number are blank where they are so in the head, and no code or
--- date of it is wrong. A call takes over title, number and code.
+-- The line of a registration's header: its title and its number are blank where those of the record are, no code or
+-- date of it is wrong, and a call takes title, number and ISWC of the record.
 pub record IsHeadOf (line : List ℕ) (x : WorkHead) : Type 0 where
   pub no_title : has_no_title line ≡ is_blank x.title
   pub no_number : has_no_number line ≡ is_blank x.submitter_number
@@ -31,10 +31,12 @@ pub record IsHeadOf (line : List ℕ) (x : WorkHead) : Type 0 where
   pub number : (submitter : List ℕ) (kind : WorkKind) (records : List Record) → (call_from submitter kind line records).number ≡ x.submitter_number
   pub iswc : (submitter : List ℕ) (kind : WorkKind) (records : List Record) → (call_from submitter kind line records).iswc ≡ x.iswc
 
+-- a publisher of this kind as the rules read it, with its party and ownership shares
 abbrev pub publisher_as : PublisherKind → Option (List ℕ) → Shares → Record
 publisher_as publisher_kind.Spu party shares = Spu party shares
 publisher_as publisher_kind.Opu party shares = Opu party shares
 
+-- a publisher's record as the rules read it
 abbrev pub of_publisher : Publisher → Record
 of_publisher x = publisher_as x.kind (party_of x.party) (record {
   performing = Some x.performing_ownership;
@@ -42,10 +44,12 @@ of_publisher x = publisher_as x.kind (party_of x.party) (record {
   synchronization = Some x.synchronization_ownership;
 })
 
+-- a writer of this kind as the rules read it; the party of an OWR is not read
 abbrev pub writer_as : WriterKind → Option (List ℕ) → Shares → Record
 writer_as writer_kind.Swr party shares = Swr party shares
 writer_as writer_kind.Owr party shares = Owr shares
 
+-- a writer's record as the rules read it
 abbrev pub of_writer : Writer → Record
 of_writer x = writer_as x.kind (party_of x.party) (record {
   performing = Some x.performing_ownership;
@@ -53,10 +57,11 @@ of_writer x = writer_as x.kind (party_of x.party) (record {
   synchronization = Some x.synchronization_ownership;
 })
 
--- an indicator of one byte, and a territory of four
+-- a territory, given its indicator of one byte and its TIS code of four
 abbrev pub territory_as : List ℕ → List ℕ → Territory
 territory_as indicator territory = record { indicator = slice_index indicator 0; code = territory_of territory }
 
+-- an SPT as the rules read it
 abbrev pub of_publisher_territory : PublisherTerritory → Record
 of_publisher_territory x =
     Spt
@@ -68,6 +73,7 @@ of_publisher_territory x =
     })
     (territory_as x.indicator x.territory)
 
+-- an SWT as the rules read it
 abbrev pub of_writer_territory : WriterTerritory → Record
 of_writer_territory x =
     Swt
@@ -79,5 +85,6 @@ of_writer_territory x =
     })
     (territory_as x.indicator x.territory)
 
+-- a PWR as the rules read it
 abbrev pub of_link : Link → Record
 of_link x = Pwr (party_of x.publisher_party)

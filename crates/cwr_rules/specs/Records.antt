@@ -13,7 +13,7 @@ use Rattle.cwr_rules.specs.declared.record.Territory.{Territory}
 use Rattle.cwr_rules.specs.declared.record.Record.{Record}
 use Rattle.cwr_rules.specs.declared.record.Record.TheVariants.{Spu, Opu, Spt, Swr, Owr, Swt, Pwr, Alt, Xrf, Carried}
 
--- the shares of the three rights, in these columns
+-- the shares of the three rights in these columns; `None` for one that is not valid
 abbrev pub shares_from : List ℕ → RightColumns → Shares
 shares_from line columns = record {
   performing = share_of (field_at line columns.performing);
@@ -21,26 +21,26 @@ shares_from line columns = record {
   synchronization = share_of (field_at line columns.synchronization);
 }
 
--- the shares that a record of this type owns
+-- the ownership shares of a line with a record of this type
 abbrev pub owned_at : RecordType → List ℕ → Shares
 owned_at t line = shares_from line (ownership_columns t)
 
--- the shares that a record of this type collects
+-- the collection shares of a line with a record of this type
 abbrev pub collected_at : RecordType → List ℕ → Shares
 collected_at t line = shares_from line (collection_columns t)
 
--- the interested party number, where it is not blank
+-- the interested party number of a line with a record of this type; `None` where it is blank
 abbrev pub party_at : RecordType → List ℕ → Option (List ℕ)
 party_at t line = party_of (field_at line (party_column t))
 
--- where the shares are collected, and whether the territory is included or excluded
+-- the indicator of a territory, one byte, and its TIS code, `None` where that is not valid
 abbrev pub territory_at : RecordType → List ℕ → Territory
 territory_at t line = record {
   indicator = slice_index (field_at line (indicator_column t)) 0;
   code = territory_of (field_at line (territory_column t));
 }
 
--- a line, read as a record of a type
+-- a line, read as a record of this type; types that the rules do not read are carried along
 abbrev pub record_as : RecordType → List ℕ → Record
 record_as of_type.Spu line = Spu (party_at of_type.Spu line) (owned_at of_type.Spu line)
 record_as of_type.Opu line = Opu (party_at of_type.Opu line) (owned_at of_type.Opu line)
@@ -53,8 +53,10 @@ record_as of_type.Alt line = Alt
 record_as of_type.Xrf line = Xrf
 record_as _ line = Carried (field_at line every_record_type)
 
+-- a line, read as the record that its first three bytes name
 abbrev pub record_of : List ℕ → Record
 record_of line = record_as (type_of line) line
 
+-- the lines, each read as its record
 abbrev pub records_of : List (List ℕ) → List Record
 records_of lines = map record_of lines

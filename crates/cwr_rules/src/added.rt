@@ -11,7 +11,7 @@ use crate::totals::Totals;
 use cwr_grammar::Lines;
 use std::alloc::Allocator;
 
-/// What the shares of a transaction add up to, which the rules J11, J12, J13 and J15 look at.
+/// What the shares of a transaction add up to, which the rules J11, J12, J13 and J15 test.
 #[derive(Clone, Copy, Debug, PartialEq, Eq)]
 pub struct AddedShares {
     /// The ownership shares of SPU, OPU, SWR and OWR.
@@ -29,7 +29,8 @@ pub struct Over {
     pub totals: Totals,
 }
 
-/// The first territory in which more than the whole is collected. Where there is none, no line is gone over.
+/// The first territory in which more than the whole is collected, in the order of the lines. Where there is none, no
+/// line is read.
 pub(crate) fn first_over<A: Allocator + Copy>(
     collected: &Collected<A>,
     lines: Lines,

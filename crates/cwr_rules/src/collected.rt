@@ -13,10 +13,10 @@ use std::hash::{BuildHasherDefault, FoldHasher};
 
 type CodeMap<A> = HashMap<u16, Totals, BuildHasherDefault<FoldHasher>, A>;
 
-/// For how many codes a map may have room that is kept for the next transaction.
-const MOST_KEPT: usize = 64;
+/// The greatest capacity, in codes, of a map that is kept for the next transaction.
+const MAX_KEPT: usize = 64;
 
-/// The collection shares by the codes of their territories, and whether they are above the whole in some territory.
+/// The collection shares by TIS code, and whether they are above the whole for some code.
 ///
 /// The seed of the map's hash is fixed. A code is at most 9999, so no choice of codes makes the map slow.
 #[derive(Drop)]
@@ -30,7 +30,7 @@ pub(crate) struct Collected<A: Allocator> {
 }
 
 impl<A: Allocator + Copy> Collected<A> {
-    /// Of no records.
+    /// The shares of no records.
     pub(crate) fn new(alloc: A) -> Collected<A>
         ensures { IsCollectedBy result [] }
     {
@@ -42,7 +42,7 @@ impl<A: Allocator + Copy> Collected<A> {
         }
     }
 
-    /// As of no records. A map is kept where emptying it takes no longer than making it again.
+    /// Removes all shares. A small map is kept, since emptying it takes no longer than making it again.
     #[inline(always)]
     pub(crate) fn clear(&mut self)
         ensures { IsCollectedBy self.new [] }
@@ -61,7 +61,7 @@ impl<A: Allocator + Copy> Collected<A> {
         ensures same { self.new.is_over ≡ self.old.is_over }
     {
         if let Some(map) = &mut self.others {
-            if map.capacity() <= MOST_KEPT {
+            if map.capacity() <= MAX_KEPT {
                 map.clear();
                 return;
             }
@@ -85,7 +85,7 @@ impl<A: Allocator + Copy> Collected<A> {
         }
     }
 
-    /// What is collected at a code that did not come first.
+    /// What is collected for a code that did not come first.
     fn at_other(&self, code: u16) -> Totals
         ensures { result ≡ value_at (kept_at self.now.others) code }
     {
@@ -98,7 +98,7 @@ impl<A: Allocator + Copy> Collected<A> {
         }
     }
 
-    /// Puts what is collected at a code that did not come first in the place of what was. Few transactions have one.
+    /// Replaces what is collected for a code that did not come first. Few transactions have such a code.
     #[inline(never)]
     fn put_other(&mut self, code: u16, totals: Totals) -> Result<(), Memory>
         ensures found { OnOk result ((q : ℕ) → kept_at self.new.others q ≡ (if code == q then Some totals else kept_at self.old.others q)) }
@@ -118,7 +118,8 @@ impl<A: Allocator + Copy> Collected<A> {
         Ok(())
     }
 
-    /// Adds shares at a code that did not come first and has shares already, and answers what is collected there then.
+    /// Adds shares for a code that did not come first and has shares already. Returns what is collected there then;
+    /// `None` for a code without shares.
     fn add_to_other(&mut self, code: u16, shares: Shares) -> Option<Totals>
         requires { AreSmall (value_at (kept_at self.old.others) code) }
         ensures totals { IfSome result (λ totals. totals ≡ with_shares (value_at (kept_at self.old.others) code) shares) }
@@ -134,7 +135,7 @@ impl<A: Allocator + Copy> Collected<A> {
         }
     }
 
-    /// Adds shares at a code that did not come first, and answers what is collected there then.
+    /// Adds shares for a code that did not come first, and returns what is collected there then.
     fn add_other(&mut self, code: u16, shares: Shares) -> Result<Totals, Memory>
         requires { AreSmall (value_at (kept_at self.old.others) code) }
         ensures totals { IfOk result (λ totals. totals ≡ with_shares (value_at (kept_at self.old.others) code) shares) }
@@ -150,7 +151,7 @@ impl<A: Allocator + Copy> Collected<A> {
         Ok(totals)
     }
 
-    /// Adds shares at a code, and answers what is collected there then.
+    /// Adds shares for a code, and returns what is collected there then.
     fn add_at(&mut self, code: u16, shares: Shares) -> Result<Totals, Memory>
         requires { AreSmall (value_at (found_by self.old) code) }
         ensures totals { IfOk result (λ totals. totals ≡ with_shares (value_at (found_by self.old) code) shares) }
@@ -192,7 +193,7 @@ impl<A: Allocator + Copy> Collected<A> {
         Ok(())
     }
 
-    /// Adds a record to those that were added.
+    /// Adds the collection shares of a record, where it is an SPT or SWT that includes its territory.
     #[inline(always)]
     pub(crate) fn add(&mut self, detail: &Record) -> Result<(), Memory>
         requires { (q : ℕ) → AreSmall (value_at (found_by self.old) q) }
@@ -207,7 +208,8 @@ impl<A: Allocator + Copy> Collected<A> {
     }
 }
 
-/// Adds shares at a code that a map has, and answers what is collected there then.
+/// Adds shares for a code in a map, and returns what is collected there then; `None` where the map does not have the
+/// code.
 fn add_in<A: Allocator>(map: &mut CodeMap<A>, code: u16, shares: Shares) -> Option<Totals>
     requires { AreSmall (value_at (get nat_eq map.old) code) }
     ensures totals { IfSome result (λ totals. totals ≡ with_shares (value_at (get nat_eq map.old) code) shares) }

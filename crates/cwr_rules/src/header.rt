@@ -3,19 +3,19 @@ ghost use Rattle.cwr_field.specs.Iswc.{iswc_of};
 ghost use Rattle.cwr_call.specs.Lawful.{is_iswc};
 ghost use Rattle.cwr_record.specs.Columns.{field_at, work_head_copyright_date, work_head_duration, work_head_iswc};
 ghost use Rattle.cwr_rules.specs.Head.{has_no_title, has_no_number, has_wrong_iswc, has_wrong_date, is_copyright_date, is_duration, number_in};
-ghost use Rattle.cwr_rules.specs.KeptHead.{kept_head};
+ghost use Rattle.cwr_rules.specs.HeaderFields.{header_fields};
 
 use cwr_field::{Iswc, date, is_blank, iswc, time};
 use cwr_record::{WorkHead, WorkKind, field_at, is_no_day};
 
-/// What is kept of a transaction's header line, NWR or REV: what the call and the rules need of it.
+/// What the call and the rules need of a transaction's header line, NWR or REV.
 #[derive(Clone, Copy)]
-pub(crate) struct KeptHead {
+pub(crate) struct HeaderFields {
     pub(crate) kind: WorkKind,
     pub(crate) title: [u8; 60],
     /// The submitter's number of the work.
     pub(crate) number: [u8; 14],
-    /// The number of the ISWC, `None` where it is blank or wrong.
+    /// The number of the ISWC; `None` where it is blank or wrong.
     pub(crate) iswc: Option<u64>,
     /// The title is blank (J2).
     pub(crate) has_no_title: bool,
@@ -27,13 +27,13 @@ pub(crate) struct KeptHead {
     pub(crate) has_wrong_date: bool,
 }
 
-impl KeptHead {
-    /// Of a header's line.
-    pub(crate) fn of(kind: WorkKind, head: &[u8]) -> KeptHead
-        ensures value { result ≡ kept_head kind head.now }
+impl HeaderFields {
+    /// The fields of a header's line.
+    pub(crate) fn of(kind: WorkKind, head: &[u8]) -> HeaderFields
+        ensures value { result ≡ header_fields kind head.now }
         ensures nine_digits { IsTrue (is_iswc result.iswc) }
     {
-        let mut kept = KeptHead {
+        let mut kept = HeaderFields {
             kind,
             title: [b' '; 60],
             number: [b' '; 14],
@@ -47,9 +47,9 @@ impl KeptHead {
         kept
     }
 
-    /// Of a header's line, in the place of what was kept before.
+    /// Replaces the fields by those of another header's line.
     pub(crate) fn read(&mut self, kind: WorkKind, head: &[u8])
-        ensures value { self.new ≡ kept_head kind head.now }
+        ensures value { self.new ≡ header_fields kind head.now }
         ensures nine_digits { IsTrue (is_iswc self.new.iswc) }
     {
         let (has_wrong_iswc, iswc) = work_iswc(head);
@@ -64,7 +64,7 @@ impl KeptHead {
     }
 }
 
-/// Whether the ISWC is neither blank nor valid (J4), and its number, `None` where it is blank or wrong.
+/// Whether the ISWC is neither blank nor valid (J4), and its number, which is `None` where it is blank or wrong.
 fn work_iswc(head: &[u8]) -> (bool, Option<u64>)
     ensures wrong { result.0 ≡ has_wrong_iswc head.now }
     ensures value { result.1 ≡ number_in (iswc_of (field_at head.now work_head_iswc)) }
@@ -91,7 +91,7 @@ fn has_no_number(head: &[u8]) -> bool
     is_blank(field_at(head, WorkHead::SUBMITTER_NUMBER))
 }
 
-/// Whether the copyright date of a header's line is blank, zeros or a day, as rule J5 asks.
+/// Whether the copyright date of a header's line is blank, zeros or a day, as rule J5 requires.
 pub fn is_copyright_date(head: &[u8]) -> bool
     ensures { result ≡ is_copyright_date (field_at head.now work_head_copyright_date) }
 {
@@ -99,7 +99,7 @@ pub fn is_copyright_date(head: &[u8]) -> bool
     is_no_day(&text) || date(text).is_some()
 }
 
-/// Whether the duration of a header's line is blank or a time, as rule J5 asks.
+/// Whether the duration of a header's line is blank or a time, as rule J5 requires.
 pub fn is_duration(head: &[u8]) -> bool
     ensures { result ≡ is_duration (field_at head.now work_head_duration) }
 {

@@ -1,22 +1,23 @@
 ghost use Rattle.std.specs.Prelude.{◌≡◌, ◌≤◌, ◌+◌, length, IsTrue, IfOk};
 ghost use Rattle.cwr_call.specs.Lawful.{is_clean};
-ghost use Rattle.cwr_field.specs.Number.{most_count};
+ghost use Rattle.cwr_field.specs.Number.{max_count};
 ghost use Rattle.cwr_rules.specs.Calls.{call_of};
 ghost use Rattle.cwr_rules.specs.Judging.{IsJudging};
 
-use crate::by_line::Judge;
 use crate::reading::parts;
+use crate::transaction_judge::TransactionJudge;
 use cwr_call::Call;
 use cwr_field::Memory;
 use cwr_grammar::RawTransaction;
 use cwr_record::type_of;
 use std::alloc::Allocator;
 
-/// The call of a transaction: its parts, its control, and every fault of its rules.
+/// The call of a transaction: its parts, its control, and every fault by the rules.
 ///
-/// It is judged whether or not it has faults, and its lines are gone over once. No byte of the submitter is below 32.
+/// A transaction with faults gets a call too. Its lines are gone over once. No byte of the submitter is below 32.
+///
 /// Memory is asked for the parties of its publishers and the totals of its territories, of each for all but the first,
-/// and for its faults; where it is refused nothing is left.
+/// and for its faults. Where it is refused nothing is left.
 pub fn judge<A: Allocator + Copy>(
     alloc: A,
     transaction: &RawTransaction,
@@ -30,17 +31,17 @@ pub fn judge<A: Allocator + Copy>(
     Ok(call)
 }
 
-/// What judges a transaction, once it has gone over all its lines. Memory is asked for as [`judge`] asks.
+/// The judge of a transaction, once it was given all lines. Memory is asked for as in [`judge`].
 #[inline]
 pub fn judged<A: Allocator + Copy>(
     alloc: A,
     transaction: &RawTransaction,
-) -> Result<Judge<A>, Memory>
+) -> Result<TransactionJudge<A>, Memory>
     ensures read { IfOk result (λ read. IsJudging read transaction.now.kind transaction.now.lines) }
-    ensures few { length transaction.now.lines ≤ most_count + 1 }
+    ensures few { length transaction.now.lines ≤ max_count + 1 }
 {
     let (head, details) = parts(transaction);
-    let mut read = Judge::begin(alloc, transaction.kind(), head);
+    let mut read = TransactionJudge::begin(alloc, transaction.kind(), head);
     for line in details {
         read.take(line, type_of(line))?;
     }

@@ -3,7 +3,7 @@ ghost use Rattle.cwr_rules.specs.LastBlock.{next_block};
 
 use crate::record::Record;
 
-/// What stands last, as far as it says what may follow.
+/// The last part of the record order so far: it determines which records may follow.
 #[derive(Clone, Copy)]
 pub(crate) enum LastBlock {
     /// Nothing, or another publisher: a block may begin.
@@ -19,7 +19,7 @@ pub(crate) enum LastBlock {
 }
 
 impl LastBlock {
-    /// What stands last after a record, or `None` where the record may not stand here.
+    /// The last part of the record order after a record; `None` where the record may not stand here.
     #[inline(always)]
     pub(crate) fn next(self, detail: &Record) -> Option<LastBlock>
         ensures { result ≡ next_block self detail.now }

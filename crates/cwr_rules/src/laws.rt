@@ -1,4 +1,4 @@
-//! What the definitions mean: the record order is that of the pattern, the faults are all that hold, in order, and what
+//! What the definitions mean: the record order is that of the pattern, and the faults are all that hold, in order. What
 //! is read of a line that stands for a record is that part of the record.
 //!
 //! A law is a function that does nothing. Its contract is what is proved.
@@ -31,12 +31,12 @@ ghost use Rattle.cwr_rules.specs.Rules.{is_out_of_order, name_of};
 ghost use Rattle.cwr_rules.specs.Totals.{collection, is_over, is_over_somewhere};
 ghost use Rattle.cwr_rules.specs.Faults.{faults_of};
 
-/// The order stands after some records exactly where their types are a prefix of the pattern.
+/// The order is kept after some records exactly where their types are a prefix of the pattern.
 pub fn order_is_prefix()
     ensures { (before : List Record) → IsSome (last_block before) ↔ IsPrefix (types (reverse before)) }
 {}
 
-/// The order breaks at the record with which the types are no prefix any more, so at one record at the most.
+/// The order breaks at the record with which the types are no prefix any more, so at one record at most.
 pub fn order_breaks_once()
     ensures { (before : List Record) (r : Record) → (is_out_of_order before r ≡ true) ↔ (IsPrefix (types (reverse before)) × ¬ IsPrefix (types (reverse (r ∷ before)))) }
 {}
@@ -47,7 +47,7 @@ pub fn faults_are_all()
     ensures all { (kind : WorkKind) (head : List ℕ) (records : List Record) (f : Fault) → IsIn f (faults_of kind head records) ↔ Holds kind head records f }
 {}
 
-/// A collection total is too large exactly where it is so at some code, whatever codes the records name.
+/// A collection total is too large exactly where it is so for some code, whatever codes the records name.
 pub fn territories_are_all()
     ensures { (records : List Record) → (is_over_somewhere records ≡ true) ↔ ((code : ℕ) × (is_over (collection code records) ≡ true)) }
 {}

@@ -10,7 +10,7 @@ use cwr_field::Memory;
 use std::alloc::Allocator;
 use std::collections::BTreeSet;
 
-/// A set of interested party numbers, each kept as the number of its first eight bytes and the last byte.
+/// A set of interested party numbers. Each is kept as a number, made of its first eight bytes, and its last byte.
 #[derive(Drop)]
 pub(crate) struct Parties<A: Allocator> {
     /// The one that came first. Many transactions have no other.
@@ -43,7 +43,7 @@ pub(crate) fn is_same_party(one: [u8; 9], other: [u8; 9]) -> bool
 }
 
 impl<A: Allocator + Copy> Parties<A> {
-    /// None.
+    /// The empty set.
     pub(crate) fn new(alloc: A) -> Parties<A>
         ensures { HoldsParties (kept_by result) [] }
     {
@@ -53,7 +53,7 @@ impl<A: Allocator + Copy> Parties<A> {
         }
     }
 
-    /// None again.
+    /// Empties the set.
     #[inline(always)]
     pub(crate) fn clear(&mut self, alloc: A)
         ensures { HoldsParties (kept_by self.new) [] }
@@ -64,7 +64,7 @@ impl<A: Allocator + Copy> Parties<A> {
         }
     }
 
-    /// Whether the party is named, and none of these.
+    /// Whether a party is named that is not in the set.
     pub(crate) fn is_unknown(&self, party: Option<[u8; 9]>) -> bool
         ensures { (parties : List (List ℕ)) → HoldsParties (kept_by self.now) parties → result ≡ is_unknown parties party }
     {
@@ -83,7 +83,7 @@ impl<A: Allocator + Copy> Parties<A> {
         }
     }
 
-    /// Keeps a key.
+    /// Adds a key.
     fn keep(&mut self, key: (u64, u8)) -> Result<(), Memory>
         ensures { OnOk result ((q : ℕ × ℕ) → kept_by self.new q ≡ (is_eq (key_cmp key q) || kept_by self.old q)) }
     {

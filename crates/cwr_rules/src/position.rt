@@ -7,20 +7,20 @@ use crate::last_block::LastBlock;
 use crate::parties::is_same_party;
 use crate::record::Record;
 
-/// What the records so far say about the next one.
+/// What the next record is judged by, of the records so far.
 #[derive(Clone, Copy)]
 pub(crate) struct Position {
-    /// Where the order stands; `None` once it is broken.
+    /// The last part of the record order; `None` once the order is broken.
     place: Option<LastBlock>,
-    /// The party of the last SPU, `None` inside where it is blank.
+    /// The party of the last SPU: `None` where there is no SPU, `Some(None)` where its party is blank.
     publisher: Option<Option<[u8; 9]>>,
-    /// The party of the last SWR, `None` inside where it is blank.
+    /// The party of the last SWR: `None` where there is no SWR, `Some(None)` where its party is blank.
     writer: Option<Option<[u8; 9]>>,
     /// Whether the last SWR or OWR is an SWR.
     pub(crate) follows_swr: bool,
 }
 
-/// Whether two interested party numbers differ, of which a blank one is `None`.
+/// Whether two interested party numbers differ. A blank one is `None`.
 fn differ(one: Option<[u8; 9]>, other: Option<[u8; 9]>) -> bool
     ensures { result ≡ differ one other }
 {
@@ -31,7 +31,7 @@ fn differ(one: Option<[u8; 9]>, other: Option<[u8; 9]>) -> bool
     }
 }
 
-/// Whether there is a last party, and another one than this.
+/// Whether there is a last party, and it differs from this one.
 fn is_other(last: Option<Option<[u8; 9]>>, party: Option<[u8; 9]>) -> bool
     ensures { result ≡ is_other last party }
 {
@@ -65,7 +65,7 @@ impl Position {
         }
     }
 
-    /// Whether a territory is that of another party than the one that it follows (J8).
+    /// Whether a territory names another party than the record that it follows (J8).
     #[inline(always)]
     pub(crate) fn is_of_another_party(&self, detail: &Record) -> bool
         ensures { (before : List Record) → self.now ≡ position_of before → result ≡ is_of_another_party before detail.now }
@@ -77,7 +77,7 @@ impl Position {
         }
     }
 
-    /// Goes past the record.
+    /// Consumes the record.
     #[inline(always)]
     pub(crate) fn add(&mut self, detail: &Record)
         ensures { (before : List Record) → self.old ≡ position_of before → self.new ≡ position_of (detail.now ∷ before) }

@@ -1,6 +1,6 @@
 ghost use Rattle.std.specs.Prelude.{◌≡◌, ◌<◌, ◌∷◌, IsTrue, None, length, get_or};
 ghost use Rattle.cwr_record.specs.Parties.{has_ownership, has_collection};
-ghost use Rattle.cwr_field.specs.Number.{most_count};
+ghost use Rattle.cwr_field.specs.Number.{max_count};
 ghost use Rattle.cwr_rules.specs.Records.{record_of, record_as, owned_at, collected_at, territory_at};
 ghost use Rattle.cwr_call.specs.Lawful.{is_clean};
 
@@ -15,7 +15,7 @@ use cwr_record::{
 pub(crate) fn parts<'a>(transaction: &RawTransaction<'a>) -> (&'a [u8], Lines<'a>)
     ensures lines { transaction.now.lines ≡ result.0.now ∷ result.1 }
     ensures clean { IsTrue (is_clean result.0.now) }
-    ensures few { length result.1 < most_count }
+    ensures few { length result.1 < max_count }
 {
     let mut lines = transaction.lines();
     match lines.next() {
@@ -31,7 +31,7 @@ pub(crate) fn record_of(line: &[u8]) -> Record
     record_as(line, type_of(line))
 }
 
-/// What the rules read of a line of a type.
+/// What the rules read of a line of this record type.
 #[inline(always)]
 pub(crate) fn record_as(line: &[u8], record_type: RecordType) -> Record
     ensures { result ≡ record_as record_type line.now }
@@ -81,7 +81,7 @@ impl Shares {
         }
     }
 
-    /// The shares that a line of a type owns.
+    /// The ownership shares of a line of this record type.
     #[inline(always)]
     pub(crate) fn owned(line: &[u8], record_type: RecordType) -> Shares
         requires { IsTrue (has_ownership record_type) }
@@ -90,7 +90,7 @@ impl Shares {
         Shares::of(ownership_of(line, record_type))
     }
 
-    /// The shares that a line of a type collects.
+    /// The collection shares of a line of this record type.
     #[inline(always)]
     pub(crate) fn collected(line: &[u8], record_type: RecordType) -> Shares
         requires { IsTrue (has_collection record_type) }
@@ -101,7 +101,7 @@ impl Shares {
 }
 
 impl Territory {
-    /// The territory that a line of a type names.
+    /// The territory of a line of this record type.
     #[inline(always)]
     pub(crate) fn of(line: &[u8], record_type: RecordType) -> Territory
         requires { IsTrue (has_collection record_type) }

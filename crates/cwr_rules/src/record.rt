@@ -7,7 +7,7 @@ pub(crate) struct Shares {
 }
 
 impl Shares {
-    /// Those of a line that ends before its shares.
+    /// The shares of a line that ends before its share fields.
     pub(crate) const BLANK: Shares = Shares {
         performing: Some(0),
         mechanical: Some(0),
@@ -15,14 +15,15 @@ impl Shares {
     };
 }
 
-/// Where shares are collected: the inclusion or exclusion indicator, and the TIS code, `None` where it is not valid.
+/// Where shares are collected: the inclusion or exclusion indicator, and the TIS code, which is `None` where it is not
+/// valid.
 #[derive(Clone, Copy)]
 pub(crate) struct Territory {
     pub(crate) indicator: u8,
     pub(crate) code: Option<u16>,
 }
 
-/// A detail of a transaction, with what the rules read of it. A party is `None` where its number is blank.
+/// A detail of a transaction, with the fields that the rules read. A party is `None` where its number is blank.
 #[derive(Clone, Copy)]
 pub(crate) enum Record {
     /// A publisher of the submitter, and what it owns.
@@ -43,6 +44,6 @@ pub(crate) enum Record {
     Alt,
     /// A cross reference.
     Xrf,
-    /// Any other record, by the first three bytes of its line; no rule reads it.
+    /// Any other record, by the first three bytes of its line. No rule reads it.
     Carried([u8; 3]),
 }

@@ -1,7 +1,7 @@
 ghost use Rattle.std.specs.Prelude.{◌≡◌, ◌+◌, ◌++◌, ℕ, List, length, OnOk};
 ghost use Rattle.cwr_rules.specs.declared.record.Record.{Record};
 ghost use Rattle.cwr_rules.specs.Rules.{has_unknown_publisher, publishers, name_of};
-ghost use Rattle.cwr_rules.specs.SoFar.{link_publisher, all_findings, rules_so_far, some_holds};
+ghost use Rattle.cwr_rules.specs.TransactionState.{link_publisher, all_findings, rules_so_far, some_holds};
 ghost use Rattle.cwr_rules.specs.Position.{position_of};
 ghost use Rattle.cwr_rules.specs.Parties.{HoldsParties, kept_in};
 
@@ -12,7 +12,7 @@ use crate::record::Record;
 use cwr_field::Memory;
 use std::alloc::Allocator;
 
-/// Whether a writer's publisher is named, and is none of the known (J9).
+/// Whether a PWR behind an SWR names a publisher that is not among the known ones (J9).
 #[inline(always)]
 fn has_unknown_publisher<A: Allocator + Copy>(
     known: &Parties<A>,
@@ -28,7 +28,7 @@ fn has_unknown_publisher<A: Allocator + Copy>(
     }
 }
 
-/// The publisher of a writer, where it is named.
+/// The publisher that a PWR names; `None` where it is blank, and for any other record.
 fn link_publisher(detail: &Record) -> Option<[u8; 9]>
     ensures { result ≡ link_publisher detail.now }
 {
@@ -38,7 +38,7 @@ fn link_publisher(detail: &Record) -> Option<[u8; 9]>
     }
 }
 
-/// Whether a record has a finding.
+/// Whether a record has a finding. `is_unknown` is whether rule J9 holds so far.
 #[inline(always)]
 fn has_finding(position: &Position, detail: &Record, is_unknown: bool) -> bool
     ensures { (before : List Record) → position.now ≡ position_of before → is_unknown ≡ has_unknown_publisher (publishers before) before detail.now
@@ -52,8 +52,13 @@ fn has_finding(position: &Position, detail: &Record, is_unknown: bool) -> bool
         || detail.has_wrong_territory()
 }
 
-/// Appends the findings of a record, of which most have none. It is given a copy, so that nothing of a record without a
-/// finding has to stand in memory.
+/// Appends the findings of a record. Most records have none, and do not come here.
+///
+/// - `findings` gets the findings.
+/// - `sequence` is the record's sequence in its transaction, from 1 for the first record behind the header.
+/// - `position` is what the record is judged by, of the records before it.
+/// - `detail` is the record. It is passed by value, so that a record without findings need not be stored in memory.
+/// - `is_unknown` is whether rule J9 holds so far.
 #[cold]
 #[inline(never)]
 fn push_record_findings<A: Allocator>(
@@ -88,6 +93,12 @@ fn push_record_findings<A: Allocator>(
 }
 
 /// Appends the findings of a record.
+///
+/// - `findings` gets the findings.
+/// - `known` are the parties of the publishers before the record.
+/// - `sequence` is the record's sequence in its transaction, from 1 for the first record behind the header.
+/// - `position` is what the record is judged by, of the records before it.
+/// - `detail` is the record.
 #[inline(always)]
 pub(crate) fn add_findings<A: Allocator + Copy>(
     findings: &mut Vec<Finding, A>,

@@ -1,7 +1,7 @@
 ghost use Rattle.std.specs.Prelude.{◌≡◌, ◌++◌, ℕ, List, OnOk};
 ghost use Rattle.cwr_rules.specs.Faults.{found};
 ghost use Rattle.cwr_rules.specs.Parties.{HoldsParties, kept_by};
-ghost use Rattle.cwr_rules.specs.SoFar.{stands, standing};
+ghost use Rattle.cwr_rules.specs.TransactionState.{stands, standing};
 
 use crate::finding::Finding;
 use crate::parties::Parties;
@@ -10,6 +10,12 @@ use cwr_field::Memory;
 use std::alloc::Allocator;
 
 /// Appends a fault, where its rule holds.
+///
+/// - `faults` gets the fault.
+/// - `sequence` is the faulty record's sequence in its transaction, 0 for the header.
+/// - `rtype` is that record's type, the first three bytes of its line.
+/// - `number` is that of the rule, from 1 to 15.
+/// - `holds` is whether the rule holds.
 pub(crate) fn push_found<A: Allocator>(
     faults: &mut Vec<Fault, A>,
     sequence: u32,
@@ -29,7 +35,7 @@ pub(crate) fn push_found<A: Allocator>(
     Ok(())
 }
 
-/// Whether a fault stands, where the parties are those of all publishers.
+/// Whether the fault of a finding stands. `known` are the parties of all publishers of the transaction.
 fn stands<A: Allocator + Copy>(known: &Parties<A>, unless: Option<[u8; 9]>) -> bool
     ensures { (parties : List (List ℕ)) → HoldsParties (kept_by known.now) parties → result ≡ stands parties unless }
 {
@@ -39,7 +45,7 @@ fn stands<A: Allocator + Copy>(known: &Parties<A>, unless: Option<[u8; 9]>) -> b
     }
 }
 
-/// Appends the faults that findings come to, where the parties are those of all publishers.
+/// Appends the faults of those findings that stand. `known` are the parties of all publishers of the transaction.
 pub(crate) fn push_standing<A: Allocator + Copy>(
     faults: &mut Vec<Fault, A>,
     known: &Parties<A>,

@@ -10,7 +10,7 @@ use crate::sums::Sums;
 use cwr_field::Memory;
 use std::alloc::Allocator;
 
-/// What records say together.
+/// What the records of a transaction add up to.
 #[derive(Drop)]
 pub(crate) struct Summary<A: Allocator> {
     pub(crate) sums: Sums,
@@ -20,7 +20,7 @@ pub(crate) struct Summary<A: Allocator> {
 }
 
 impl<A: Allocator + Copy> Summary<A> {
-    /// Of no records.
+    /// The summary of no records.
     pub(crate) fn new(alloc: A) -> Summary<A>
         ensures { IsKeptSummary result [] }
     {
@@ -31,7 +31,7 @@ impl<A: Allocator + Copy> Summary<A> {
         }
     }
 
-    /// As of no records.
+    /// Resets it to the summary of no records.
     #[inline(always)]
     pub(crate) fn clear(&mut self, alloc: A)
         ensures { IsKeptSummary self.new [] }
@@ -41,7 +41,7 @@ impl<A: Allocator + Copy> Summary<A> {
         self.collected.clear();
     }
 
-    /// Adds a record to those that were added.
+    /// Adds a record.
     #[inline(always)]
     pub(crate) fn add(&mut self, detail: &Record) -> Result<(), Memory>
         requires sums { AreSmallSums self.old.sums }

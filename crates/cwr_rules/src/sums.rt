@@ -8,15 +8,15 @@ use crate::totals::Totals;
 /// What is added up over a transaction.
 #[derive(Clone, Copy)]
 pub(crate) struct Sums {
-    /// Over all publishers and writers.
+    /// The ownership shares of all publishers and writers.
     pub(crate) ownership: Totals,
-    /// Over those of the submitter.
+    /// The ownership shares of those of the submitter.
     pub(crate) control: Totals,
     pub(crate) has_writer: bool,
 }
 
 impl Sums {
-    /// Of no records.
+    /// The sums of no records.
     pub(crate) fn new() -> Sums
         ensures { result ≡ sums_of [] }
     {
@@ -27,7 +27,7 @@ impl Sums {
         }
     }
 
-    /// Adds a record to those that were added.
+    /// Adds a record.
     #[inline(always)]
     pub(crate) fn add(&mut self, detail: &Record)
         requires { AreSmallSums self.old }

@@ -3,7 +3,7 @@ ghost use Rattle.cwr_rules.specs.Totals.{valued, is_over, included_in};
 ghost use Rattle.cwr_rules.specs.Collected.{AreSmall, with_shares};
 
 use crate::record::{Shares, Territory};
-use cwr_field::MOST_WHOLE;
+use cwr_field::MAX_WHOLE;
 
 /// Shares of the three rights, added up, in hundredths of one per cent. A share that is not valid counts 0.
 #[derive(Clone, Copy, Debug, PartialEq, Eq)]
@@ -16,7 +16,7 @@ pub struct Totals {
     pub synchronization: u64,
 }
 
-/// A share that is not valid counts 0.
+/// A share as a number, 0 where it is not valid.
 fn valued(share: Option<u16>) -> u64
     ensures value { result ≡ valued share }
     ensures small { result < 65536 }
@@ -34,7 +34,7 @@ impl Totals {
         synchronization: 0,
     };
 
-    /// With the shares of a record added.
+    /// These totals with the shares of a record added.
     pub(crate) fn with(self, shares: Shares) -> Totals
         requires { AreSmall self }
         ensures { result ≡ with_shares self shares }
@@ -62,12 +62,12 @@ impl Totals {
     pub(crate) fn is_over(&self) -> bool
         ensures { result ≡ is_over self.now }
     {
-        self.performing > MOST_WHOLE
-            || self.mechanical > MOST_WHOLE
-            || self.synchronization > MOST_WHOLE
+        self.performing > MAX_WHOLE
+            || self.mechanical > MAX_WHOLE
+            || self.synchronization > MAX_WHOLE
     }
 
-    /// Whether some right is above the whole by more than the tolerance, or it was so before.
+    /// Whether some right is above the whole by more than the tolerance, or `before` is true.
     pub(crate) fn is_over_or(&self, before: bool) -> bool
         ensures { result ≡ (is_over self.now || before) }
     {
@@ -76,7 +76,7 @@ impl Totals {
 }
 
 impl Territory {
-    /// The code, of a territory that is included.
+    /// The TIS code of a territory that is included; `None` for any other.
     pub(crate) fn included(&self) -> Option<u16>
         ensures { result ≡ included_in self.now }
     {

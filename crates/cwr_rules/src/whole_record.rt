@@ -1,5 +1,5 @@
-//! Records that are read from lines which have each of their fields, or from a copy with blanks behind the line's end. A
-//! line's length is looked at once, and no more for each field.
+//! Records that are read from lines which have each field that the rules read, or from a copy with blanks behind the
+//! line's end. So a line's length is tested once, and not for each field.
 
 ghost use Rattle.std.specs.Prelude.{◌≡◌, IfSome};
 ghost use Rattle.cwr_record.specs.declared.record_type.RecordType.{RecordType};
@@ -9,7 +9,7 @@ ghost use Rattle.cwr_rules.specs.Records.{record_as};
 use crate::record::{Record, Shares, Territory};
 use cwr_record::{Column, Publisher, RecordType, Writer, field_at, party_of, publisher_of};
 
-/// An SPU, `None` where the line ends before the last of its fields.
+/// An SPU; `None` where the line ends before the last field that the rules read.
 #[inline(always)]
 pub(crate) fn whole_spu(line: &[u8]) -> Option<Record>
     ensures { IfSome result (λ detail. detail ≡ record_as of_type.Spu line.now) }
@@ -23,7 +23,7 @@ pub(crate) fn whole_spu(line: &[u8]) -> Option<Record>
     }
 }
 
-/// An OPU, `None` where the line ends before the last of its fields.
+/// An OPU; `None` where the line ends before the last field that the rules read.
 #[inline(always)]
 pub(crate) fn whole_opu(line: &[u8]) -> Option<Record>
     ensures { IfSome result (λ detail. detail ≡ record_as of_type.Opu line.now) }
@@ -37,7 +37,7 @@ pub(crate) fn whole_opu(line: &[u8]) -> Option<Record>
     }
 }
 
-/// An SPT, `None` where the line ends before the last of its fields.
+/// An SPT; `None` where the line ends before the last field that the rules read.
 #[inline(always)]
 pub(crate) fn whole_spt(line: &[u8]) -> Option<Record>
     ensures { IfSome result (λ detail. detail ≡ record_as of_type.Spt line.now) }
@@ -52,7 +52,7 @@ pub(crate) fn whole_spt(line: &[u8]) -> Option<Record>
     }
 }
 
-/// An SWR, `None` where the line ends before the last of its fields.
+/// An SWR; `None` where the line ends before the last field that the rules read.
 #[inline(always)]
 pub(crate) fn whole_swr(line: &[u8]) -> Option<Record>
     ensures { IfSome result (λ detail. detail ≡ record_as of_type.Swr line.now) }
@@ -66,7 +66,7 @@ pub(crate) fn whole_swr(line: &[u8]) -> Option<Record>
     }
 }
 
-/// An OWR, `None` where the line ends before the last of its fields.
+/// An OWR; `None` where the line ends before the last field that the rules read.
 #[inline(always)]
 pub(crate) fn whole_owr(line: &[u8]) -> Option<Record>
     ensures { IfSome result (λ detail. detail ≡ record_as of_type.Owr line.now) }
@@ -77,7 +77,7 @@ pub(crate) fn whole_owr(line: &[u8]) -> Option<Record>
     }
 }
 
-/// An SWT, `None` where the line ends before the last of its fields.
+/// An SWT; `None` where the line ends before the last field that the rules read.
 #[inline(always)]
 pub(crate) fn whole_swt(line: &[u8]) -> Option<Record>
     ensures { IfSome result (λ detail. detail ≡ record_as of_type.Swt line.now) }
@@ -92,7 +92,7 @@ pub(crate) fn whole_swt(line: &[u8]) -> Option<Record>
     }
 }
 
-/// A PWR, `None` where the line ends before the last of its fields.
+/// A PWR; `None` where the line ends before the last field that the rules read.
 #[inline(always)]
 pub(crate) fn whole_pwr(line: &[u8]) -> Option<Record>
     ensures { IfSome result (λ detail. detail ≡ record_as of_type.Pwr line.now) }
@@ -103,7 +103,8 @@ pub(crate) fn whole_pwr(line: &[u8]) -> Option<Record>
     }
 }
 
-/// A record whose line ends before its shares, which so are blank, `None` where it has some of them, or names a territory.
+/// A record whose line ends before its shares, so that these are blank. `None` where the line has some of them, or is
+/// of a type with a territory.
 #[inline(always)]
 pub(crate) fn bare_record(line: &[u8], record_type: RecordType) -> Option<Record>
     ensures { IfSome result (λ detail. detail ≡ record_as record_type line.now) }
@@ -126,13 +127,13 @@ pub(crate) fn bare_record(line: &[u8], record_type: RecordType) -> Option<Record
     }
 }
 
-/// Where the fields of the records end that the rules read.
+/// The part of a line that has each field that the rules read.
 const FRONT: Column = Column {
     start: 1,
     width: 150,
 };
 
-/// The front of a line, which has each field that the rules read, with blanks behind the line's end.
+/// The front of a line, with each field that the rules read, and with blanks behind the line's end.
 #[inline(always)]
 pub(crate) fn padded_front(line: &[u8]) -> [u8; 150]
     ensures { (record_type : RecordType) → record_as record_type result ≡ record_as record_type line.now }

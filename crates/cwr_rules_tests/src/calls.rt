@@ -1,10 +1,10 @@
-//! What a call tells, and what it can be made of.
+//! What a call contains, and what it can be made of.
 
 use crate::judging::judged;
 use crate::records::{HALF_WRITER, OWNER, link};
 use cwr_rules::{Call, Fault, Faults, WorkKind};
-use cwr_sheets::same;
 use std::test::Fail;
+use test_files::same;
 
 /// The parts of a call, with the ISWC, and with the control of a publisher and a writer.
 #[test]
@@ -43,7 +43,7 @@ fn expect_parts(call: &Call) -> Result<(), Fail> {
     )
 }
 
-/// A fault of the whole has the type of the header.
+/// A fault of the transaction itself has the type of the header.
 #[test]
 fn faults_of_a_revision(rt: HostRuntime) -> Result<(), Fail> {
     let call = judged(rt.alloc(), &["REV0000000000000000"], WorkKind::Rev)?;

@@ -2,11 +2,11 @@
 
 use cwr_grammar::{RawTransaction, parse_file};
 use cwr_record::type_of;
-use cwr_rules::{Call, Fault, Judge, WorkKind, judge};
-use cwr_sheets::same;
+use cwr_rules::{Call, Fault, TransactionJudge, WorkKind, judge};
 use std::alloc::Global;
 use std::process::Abort;
 use std::test::Fail;
+use test_files::same;
 
 /// The header of the file.
 const HEADER: &str =
@@ -18,7 +18,7 @@ fn taken(alloc: Global, transaction: &RawTransaction) -> Result<Call, Fail> {
     let Some(head) = lines.next() else {
         return Err(Fail::new("no line"));
     };
-    let mut read = Judge::begin(alloc, transaction.kind(), head);
+    let mut read = TransactionJudge::begin(alloc, transaction.kind(), head);
     for line in lines {
         read.take(line, type_of(line))?;
     }
@@ -41,8 +41,8 @@ fn same_calls(found: &Call, wanted: &Call) -> Result<(), Fail> {
     same("faults", &found.faults(), &wanted.faults())
 }
 
-/// The call of the transaction of these lines, as the one transaction of a file. A judge that takes the lines one by one
-/// must give the same.
+/// The call of the transaction of these lines, as the one transaction of a file. A judge that takes the lines one by
+/// one must give the same.
 pub(crate) fn judged(alloc: Global, lines: &[&str], kind: WorkKind) -> Result<Call, Fail> {
     let file = file_of(alloc, lines, kind)?;
     judged_in(alloc, &file)

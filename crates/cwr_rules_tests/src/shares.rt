@@ -3,10 +3,10 @@
 use crate::judging::{expect, judged};
 use crate::records::{WORK, WRITER, writer};
 use cwr_rules::WorkKind;
-use cwr_sheets::same;
 use std::alloc::Global;
 use std::process::Abort;
 use std::test::Fail;
+use test_files::same;
 
 /// A writer's line up to its shares.
 const START: &str = writer!("SWR0000000000000001000000001", "");
@@ -50,7 +50,7 @@ fn expect_each(rt: &impl Abort, alloc: Global, share: &str, is_wrong: bool) -> R
     Ok(())
 }
 
-/// The share in each of three columns, the whole in the two others, with this between them.
+/// The share in each of three columns, 10000 in the two others, with this between them.
 fn shares_with(alloc: Global, share: &str, between: &str) -> Result<[String; 3], Fail> {
     Ok([
         format!(in alloc; "{share}{between}10000{between}10000")?,
@@ -80,7 +80,7 @@ fn numbers_of_shares(rt: HostRuntime) -> Result<(), Fail> {
     Ok(())
 }
 
-/// A writer of the submitter with this share of each right in turn controls so much of it.
+/// A writer of the submitter with this share of each right in turn controls `number` hundredths of one per cent of it.
 fn expect_control(alloc: Global, share: &str, number: u64) -> Result<(), Fail> {
     let wanted = [
         [number, 10000, 10000],

@@ -32,7 +32,7 @@ fn ownership_within_the_tolerance(rt: HostRuntime) -> Result<(), Fail> {
     Ok(())
 }
 
-/// Ownership of each right: none, or the whole.
+/// Ownership of each right: none, or all of it.
 #[test]
 fn ownership_of_each_right(rt: HostRuntime) -> Result<(), Fail> {
     let cases: [(&[&str], &[(u32, u8)]); 3] = [

@@ -27,29 +27,29 @@ Keeps = Option Header → List RawParts → Option RawParts → Type 0
 pub nothing_passed : (K : Keeps) (reader : ReaderState) (text : List ℕ) → reader ≡ at_start → K None [] None → HasLeft K reader text text
 nothing_passed K reader text is kept = record { passed = []; text_is = refl; lines_read = rw is (starts K text kept) }
 
-module _ (K : Keeps) (reader : ReaderState) (text piece later : List ℕ) (h : HasLeft K reader text (piece ++ later)) where
+module _ (K : Keeps) (reader : ReaderState) (text chunk later : List ℕ) (h : HasLeft K reader text (chunk ++ later)) where
   -- the piece stands in the text
-  pub stands : StandsAt piece text (length h.passed)
-  stands = record { after = later; here = ap (λ (xs : List ℕ). drop (length h.passed) xs) h.text_is ∙ drop_at h.passed (piece ++ later) (length h.passed) refl }
+  pub stands : StandsAt chunk text (length h.passed)
+  stands = record { after = later; here = ap (λ (xs : List ℕ). drop (length h.passed) xs) h.text_is ∙ drop_at h.passed (chunk ++ later) (length h.passed) refl }
 
   -- where it ends
-  pub few : (limit : ℕ) → limit < 4611686018427387904 → length text ≤ limit + length later → length h.passed + length piece < 2 ^ 63
+  pub few : (limit : ℕ) → limit < 4611686018427387904 → length text ≤ limit + length later → length h.passed + length chunk < 2 ^ 63
   few limit small long =
       let all = ap length h.text_is in
-      let a = length-append h.passed (piece ++ later) in
-      let b = length-append piece later in
+      let a = length-append h.passed (chunk ++ later) in
+      let b = length-append chunk later in
       omega (arith, small, long, all, a, b)
 
   -- some of it is passed
-  pub passes : (L : Keeps) (next : ReaderState) (n : ℕ) → n ≤ length piece → IsReadUpTo L next text (length h.passed + n) → HasLeft L next text (drop n piece ++ later)
+  pub passes : (L : Keeps) (next : ReaderState) (n : ℕ) → n ≤ length chunk → IsReadUpTo L next text (length h.passed + n) → HasLeft L next text (drop n chunk ++ later)
   passes L next n inside read =
-      let front : List ℕ = take n piece in
-      let long : length (h.passed ++ front) ≡ length h.passed + n = length-append h.passed front ∙ ap (λ (k : ℕ). length h.passed + k) (length-take-le n piece inside) in
+      let front : List ℕ = take n chunk in
+      let long : length (h.passed ++ front) ≡ length h.passed + n = length-append h.passed front ∙ ap (λ (k : ℕ). length h.passed + k) (length-take-le n chunk inside) in
       record {
         passed = h.passed ++ front;
         text_is =
-            h.text_is ∙ ap (λ (xs : List ℕ). h.passed ++ (xs ++ later)) (sym (take-append-drop n piece))
-            ∙ ap (λ (xs : List ℕ). h.passed ++ xs) (append_assoc front (drop n piece) later) ∙ sym (append_assoc h.passed front (drop n piece ++ later));
+            h.text_is ∙ ap (λ (xs : List ℕ). h.passed ++ (xs ++ later)) (sym (take-append-drop n chunk))
+            ∙ ap (λ (xs : List ℕ). h.passed ++ xs) (append_assoc front (drop n chunk) later) ∙ sym (append_assoc h.passed front (drop n chunk ++ later));
         lines_read = subst (λ (k : ℕ). IsReadUpTo L next text k) (sym long) read;
       }
 

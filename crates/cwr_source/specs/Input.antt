@@ -5,11 +5,12 @@ use Rattle.cwr_grammar.specs.Faults.{IsLeastFault}
 use Rattle.cwr_source.specs.declared.refused.SourceRefused.{SourceRefused}
 use Rattle.cwr_source.specs.declared.refused.SourceRefused.TheVariants.{Memory, Read, TooLong, Fault}
 
--- a text of at most so many bytes, which is what was left to a reader, where that is known
+-- the text has at most `limit` bytes, and it is what was left to a reader, where that is known
 abbrev pub IsInput : ℕ → Option (List ℕ) → List ℕ → Type 0
 IsInput limit left input = (length input ≤ limit) × IfSome left (λ bytes. input ≡ bytes)
 
--- why the file of a reader was not judged
+-- why the file of a reader was not judged: an allocation failed, a read failed, it is too long, or it has this first
+-- fault
 abbrev pub IsUnjudged : ℕ → Option (List ℕ) → Bool → SourceRefused → Type 0
 IsUnjudged limit left failed Memory = Unit {0}
 IsUnjudged limit left failed Read = failed ≡ true

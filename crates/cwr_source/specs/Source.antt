@@ -11,7 +11,7 @@ use Rattle.cwr_grammar.specs.declared.refusal.FileRefusal.TheVariants as file
 use Rattle.cwr_source.specs.declared.refused.SourceRefused.{SourceRefused}
 use Rattle.cwr_source.specs.declared.refused.SourceRefused.TheVariants.{Memory, Read, TooLong, Fault}
 
--- what is answered where a file was not consumed
+-- the error of a file, given why its text was not consumed
 abbrev pub answer_for : ConsumeError FileRefusal → SourceRefused
 answer_for (consumed.Unread unread.Memory) = Memory
 answer_for (consumed.Unread unread.Read) = Read
@@ -19,13 +19,14 @@ answer_for (consumed.Unread unread.TooLong) = TooLong
 answer_for (consumed.Refused file.Memory) = Memory
 answer_for (consumed.Refused (file.Fault number line)) = Fault number line
 
--- the file is refused for want of memory
+-- the file is refused because an allocation failed
 abbrev pub is_memory : FileRefusal → Bool
 is_memory file.Memory = true
 is_memory (file.Fault number line) = false
 
--- a reader has passed what stands in a text before its last bytes
+-- a reader has read the text up to its last bytes, `left`
 pub record HasLeft (keeps : Option Header → List RawParts → Option RawParts → Type 0) (reader : ReaderState) (text left : List ℕ) : Type 0 where
+  -- the bytes that the reader has read
   pub passed : List ℕ
   pub text_is : text ≡ passed ++ left
   pub lines_read : IsReadUpTo keeps reader text (length passed)

@@ -12,7 +12,7 @@ pub enum SourceRefused {
     /// The file has more bytes than the limit: a byte past it was read.
     #[error("too long")]
     TooLong,
-    /// The file has this fault at this line, and none before it; it was read to its end.
+    /// The file has this fault at this line, and none before it. It was read to its end.
     #[error("F{number} at line {line}")]
     Fault {
         /// The fault's number, from 1 to 12.

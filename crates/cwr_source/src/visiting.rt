@@ -13,19 +13,24 @@ use byte_streams::{ConsumeError, Consumer, ReadRefused, Source, consume};
 use cwr_grammar::{Envelope, FileReader, FileRefusal, Visitor};
 use std::alloc::Allocator;
 
-/// How many bytes of a submission file the program holds while it is read, unless a line is longer.
+/// How many bytes of a submission file the program holds while it reads it, unless a line is longer.
 pub const WINDOW: usize = 65_536;
 
-/// Reads the file of a source, of at most `limit` bytes, through a window of `room` bytes, and gives its header and its
-/// transactions to a visitor on the way.
+/// Reads the file of a source, and gives its header and its transactions to a visitor, line by line.
 ///
-/// A well-formed file gives the visitor its header and all its transactions, in order, and answers its envelope and the
-/// visitor. A fault is answered once the file was read to its end.
+/// - `alloc` is where the window gets its memory.
+/// - `reader` is the source, and has not failed.
+/// - `limit` is the greatest number of bytes of the file.
+/// - `capacity` is the size of the window in bytes. The window grows beyond it only for a line that is longer.
+/// - `visitor` is given the header and the transactions.
+///
+/// Of a well-formed file the visitor is given the header and all transactions, in order, and is returned with the
+/// file's envelope. A fault is returned once the file was read to its end.
 pub fn visit_source<R: Source, V: Visitor + Drop, A: Allocator>(
     alloc: A,
     reader: &mut R,
     limit: usize,
-    room: usize,
+    capacity: usize,
     visitor: V,
 ) -> Result<(Envelope, V), SourceRefused>
     requires going { R.has_failed reader.old ≡ false }
@@ -40,7 +45,7 @@ pub fn visit_source<R: Source, V: Visitor + Drop, A: Allocator>(
         file: FileReader::new(),
         visitor,
     };
-    match consume(alloc, reader, limit, room, visit) {
+    match consume(alloc, reader, limit, capacity, visit) {
         Ok(made) => Ok(made),
         Err(why) => Err(refused(why)),
     }
@@ -72,8 +77,8 @@ impl<V: Visitor + Drop> Consumer for Visit<V> {
         *refusal == FileRefusal::Memory
     }
 
-    fn take(&mut self, piece: &[u8]) -> Result<usize, FileRefusal> {
-        self.file.take_lines(&mut self.visitor, piece)
+    fn take(&mut self, chunk: &[u8]) -> Result<usize, FileRefusal> {
+        self.file.take_lines(&mut self.visitor, chunk)
     }
 
     fn end(self, rest: &[u8]) -> Result<(Envelope, V), FileRefusal> {
@@ -83,7 +88,7 @@ impl<V: Visitor + Drop> Consumer for Visit<V> {
     }
 }
 
-/// What is answered where a file was not consumed.
+/// The error for a file that was not consumed.
 fn refused(why: ConsumeError<FileRefusal>) -> SourceRefused
     ensures { result ≡ answer_for why }
 {

@@ -8,14 +8,14 @@ use Rattle.cwr_call.specs.CallValue.{CallValue}
 use Rattle.cwr_record.specs.Stamp.{StampParts}
 use Rattle.cwr_record.specs.declared.control.Header.{Header}
 use Rattle.cwr_acknowledgement.specs.AckItem.{Item}
-use Rattle.cwr_acknowledgement.specs.Acknowledgement.{ack_text, told_count, most_told}
+use Rattle.cwr_acknowledgement.specs.Acknowledgement.{ack_text, reported_fault_count, max_ack_records}
 use Rattle.cwr_grammar.specs.RawParts.{RawParts}
 use Rattle.cwr_rules.specs.Calls.{call_of}
-use Rattle.cwr_engine.specs.Account.{IsAcked, IsMadeOfAll, WriteEnds, answer_of, most}
+use Rattle.cwr_engine.specs.Account.{IsAcked, IsMadeOfAll, WriteEnds, answer_of, max_file_bytes}
 use Rattle.cwr_engine.specs.Handing.{AreAnswered}
 use Rattle.cwr_engine.specs.Items.{item_of, items_of, calls_in}
 use Rattle.cwr_engine.specs.Judged.{JudgedValue, WasJudged, judged_of}
-use Rattle.cwr_engine.specs.Told.{told_of, told_all}
+use Rattle.cwr_engine.specs.AckItems.{item_with_reply, items_with_replies}
 use Rattle.cwr_engine.specs.declared.judged.JudgedFile.{JudgedFile}
 use Rattle.cwr_engine.proofs.Accounts.{few_told}
 use Rattle.work_registry.specs.EntryValue.{EntryValue}
@@ -42,15 +42,15 @@ asked_of submitter (t ∷ ts) = ap (λ (l : List CallValue). call_of submitter t
 
 -- the calls of a run are those of the transactions, so that its entries tell what the replies do
 pub told_by_run : (submitter : List ℕ) (ts : List RawParts) (run : List EntryValue) → calls_of run ≡ calls_in submitter ts
-    → told_all (map (judged_of submitter) ts) (map (λ e. e.reply) run) ≡ items_of ts run
+    → items_with_replies (map (judged_of submitter) ts) (map (λ e. e.reply) run) ≡ items_of ts run
 told_by_run submitter [] run is = refl
 told_by_run submitter (t ∷ ts) [] is = refl
 told_by_run submitter (t ∷ ts) (e ∷ run) is =
     let all : e.call ∷ calls_of run ≡ call_of submitter t ∷ calls_in submitter ts = is in
     let same : call_of submitter t ≡ e.call = cc in
     let rest : calls_of run ≡ calls_in submitter ts = cc in
-    let item : told_of (judged_of submitter t) e.reply ≡ item_of t e =
-    ap (λ (c : CallValue). told_of (record { group = t.group; sequence = t.sequence; call = c }) e.reply) same in
+    let item : item_with_reply (judged_of submitter t) e.reply ≡ item_of t e =
+    ap (λ (c : CallValue). item_with_reply (record { group = t.group; sequence = t.sequence; call = c }) e.reply) same in
     λ i. item i ∷ told_by_run submitter ts run rest i
 
 -- as many items as entries
@@ -66,18 +66,18 @@ items_size submitter (t ∷ ts) (e ∷ run) is =
 -- what is known of a file whose transactions got their replies by these entries
 pub record IsFileRun (text : List ℕ) (head : Header) (replied : Replied) (entries : List EntryValue) : Type 0 where
   pub whole : IsMadeOfAll text entries
-  pub told : told_all replied.transactions replied.replies ≡ items_of whole.transactions entries
+  pub told : items_with_replies replied.transactions replied.replies ≡ items_of whole.transactions entries
   pub header : whole.head ≡ head
-  pub few : length (told_all replied.transactions replied.replies) + told_count (told_all replied.transactions replied.replies) ≤ most_told
+  pub few : length (items_with_replies replied.transactions replied.replies) + reported_fault_count (items_with_replies replied.transactions replied.replies) ≤ max_ack_records
 
 pub file_run : (text : List ℕ) (head : Header) (replied : Replied) (entries : List EntryValue)
-    → length text ≤ most → WasJudged text head replied.transactions → AreRepliedBy replied entries → IsFileRun text head replied entries
+    → length text ≤ max_file_bytes → WasJudged text head replied.transactions → AreRepliedBy replied entries → IsFileRun text head replied entries
 file_run text head replied run fits was by =
     let ts : List RawParts = was.transactions in
     let judged_is : replied.transactions ≡ map (judged_of head.sender) ts = was.are.judged_are in
     let calls : calls_of run ≡ calls_in head.sender ts = by.calls ∙ (ap asked_in judged_is ∙ asked_of head.sender ts) in
-    let told : told_all replied.transactions replied.replies ≡ items_of ts run =
-    (λ i. told_all (judged_is i) (by.replies i)) ∙ told_by_run head.sender ts run calls in
+    let told : items_with_replies replied.transactions replied.replies ≡ items_of ts run =
+    (λ i. items_with_replies (judged_is i) (by.replies i)) ∙ told_by_run head.sender ts run calls in
     let part : AreAnswered 0 head.sender ts (items_of ts run) none_yet (record { list = run; whole = None }) = record {
       made = run;
       gained = record { list = refl; whole = tt };
@@ -89,13 +89,13 @@ file_run text head replied run fits was by =
       whole = record { head = head; transactions = ts; read = is_read text head replied.transactions fits was; calls = calls };
       told = told;
       header = refl;
-      few = subst (λ (l : List Item). length l + told_count l ≤ most_told) (sym told)
+      few = subst (λ (l : List Item). length l + reported_fault_count l ≤ max_ack_records) (sym told)
           (few_told 0 head ts (items_of ts run) none_yet (record { list = run; whole = None }) (are_judged text head replied.transactions fits was).bounds part);
     }
 
 -- the text for its replies acknowledges it
 pub acked : (stamp : StampParts) (text : List ℕ) (head : Header) (replied : Replied) (entries : List EntryValue) → IsFileRun text head replied entries
-    → IsAcked stamp text (length entries) (ack_text stamp head (told_all replied.transactions replied.replies)) entries
+    → IsAcked stamp text (length entries) (ack_text stamp head (items_with_replies replied.transactions replied.replies)) entries
 acked stamp text head replied entries its = record {
   whole = its.whole;
   transaction_count = refl;
@@ -110,7 +110,7 @@ checked_run text reading file replied entries is judged its by =
     file_run text file.header replied entries read.0 (subst (WasJudged text file.header) (sym (its ∙ ap transactions_in is)) read.1) by
 
 pub answered_by : (sent : Sent) (stamp : StampParts) (head : Header) (replied : Replied) (entries : List EntryValue) → IsFileRun sent.text head replied entries
-    → sent.acknowledgement ≡ ack_text stamp head (told_all replied.transactions replied.replies) → IsAnsweredBy sent entries
+    → sent.acknowledgement ≡ ack_text stamp head (items_with_replies replied.transactions replied.replies) → IsAnsweredBy sent entries
 answered_by sent stamp head replied entries its same =
     record { stamp = stamp; acked = subst (λ (text : List ℕ). IsAcked stamp sent.text (length entries) text entries) (sym same) (acked stamp sent.text head replied entries its) }
 
@@ -122,7 +122,7 @@ pub record IsOwnRun (text : List ℕ) (head : Header) (entry : Option ℕ) (hist
 
 -- the run is known by lists that are equal to those of the file and of the book
 pub own_run : (text : List ℕ) (head : Header) (judged asked : List JudgedValue) (entry : Option ℕ) (history entries : List EntryValue) (replied : Replied)
-    → asked ≡ judged → entries ≡ history → replied.transactions ≡ asked → length text ≤ most → WasJudged text head judged
+    → asked ≡ judged → entries ≡ history → replied.transactions ≡ asked → length text ≤ max_file_bytes → WasJudged text head judged
     → (run : List EntryValue) × IsRunFrom entry (asked_in asked) entries run × (replied.replies ≡ map (λ e. e.reply) run)
     → IsOwnRun text head entry history replied
 own_run text head judged asked entry history entries replied same_judged same_history its fits was run =
@@ -138,18 +138,18 @@ own_run text head judged asked entry history entries replied same_judged same_hi
 -- ---- what was written
 
 pub written_again : (stamp : StampParts) (text : List ℕ) (head : Header) (entry : Option ℕ) (history : List EntryValue) (replied : Replied) (ends : WriteEnds)
-    → IsOwnRun text head entry history replied → Appends ends.taken_before ends.taken_after (ack_text stamp head (told_all replied.transactions replied.replies))
+    → IsOwnRun text head entry history replied → Appends ends.taken_before ends.taken_after (ack_text stamp head (items_with_replies replied.transactions replied.replies))
     → IsAnsweredAgain stamp text entry history ends
 written_again stamp text head entry history replied ends its appended = record {
   run = its.run;
   its = its.its;
-  written = ack_text stamp head (told_all replied.transactions replied.replies);
+  written = ack_text stamp head (items_with_replies replied.transactions replied.replies);
   appended = appended;
   acked = acked stamp text head replied its.run its.all;
 }
 
 pub cut_again : (stamp : StampParts) (text : List ℕ) (head : Header) (entry : Option ℕ) (history : List EntryValue) (replied : Replied) (ends : WriteEnds) (why : NoAnswer)
-    → IsOwnRun text head entry history replied → IsSentInPart ends (ack_text stamp head (told_all replied.transactions replied.replies)) why
+    → IsOwnRun text head entry history replied → IsSentInPart ends (ack_text stamp head (items_with_replies replied.transactions replied.replies)) why
     → IsWhyNot stamp text entry history ends why
 cut_again stamp text head entry history replied ends Memory its part = tt
 cut_again stamp text head entry history replied ends TooLong its part = absurd part
@@ -157,11 +157,11 @@ cut_again stamp text head entry history replied ends (Refused number line) its p
 cut_again stamp text head entry history replied ends OtherEntry its part = absurd part
 cut_again stamp text head entry history replied ends (Transaction group sequence) its part = absurd part
 cut_again stamp text head entry history replied ends (Write sent) its part =
-    let same : ack_text stamp head (told_all replied.transactions replied.replies) ≡ answer_of stamp its.run its.all.whole = λ i. ack_text stamp (sym its.all.header i) (its.all.told i) in
+    let same : ack_text stamp head (items_with_replies replied.transactions replied.replies) ≡ answer_of stamp its.run its.all.whole = λ i. ack_text stamp (sym its.all.header i) (its.all.told i) in
     record {
       run = its.run;
       its = its.its;
-      written = take sent (ack_text stamp head (told_all replied.transactions replied.replies));
+      written = take sent (ack_text stamp head (items_with_replies replied.transactions replied.replies));
       appended = part.0;
       cut = record {
         whole = its.all.whole;

@@ -1,7 +1,7 @@
 -- What is known of a file that was judged.
 use Rattle.std.proofs.Common.{◌≤◌, ℕ, List, [], length, refl, arith}
 use Rattle.cwr_record.specs.declared.control.Header.{Header}
-use Rattle.cwr_engine.specs.Account.{IsRead, most}
+use Rattle.cwr_engine.specs.Account.{IsRead, max_file_bytes}
 use Rattle.cwr_engine.specs.Judged.{JudgedValue, AreJudged, WasJudged}
 use Rattle.cwr_verify.specs.Reading.{IsReadingOf, transactions_in}
 use Rattle.cwr_verify.specs.Replied.{AreOfFile}
@@ -9,12 +9,12 @@ use Rattle.cwr_verify.specs.declared.reading.Reading.{Reading}
 use Rattle.cwr_verify.specs.declared.reading.Reading.TheVariants.{File, TooLong, Refused}
 
 -- of no more bytes than a file may have, it is read
-pub is_read : (text : List ℕ) (head : Header) (judged : List JudgedValue) → length text ≤ most → (was : WasJudged text head judged) → IsRead text head was.transactions
+pub is_read : (text : List ℕ) (head : Header) (judged : List JudgedValue) → length text ≤ max_file_bytes → (was : WasJudged text head judged) → IsRead text head was.transactions
 is_read text head judged fits was = record { fits = fits; file = was.file; formed = was.formed; header = was.header; found = was.found }
 
 -- and its transactions have the bounds of such a file
-pub are_judged : (text : List ℕ) (head : Header) (judged : List JudgedValue) → length text ≤ most → (was : WasJudged text head judged)
-    → AreJudged most head was.transactions judged
+pub are_judged : (text : List ℕ) (head : Header) (judged : List JudgedValue) → length text ≤ max_file_bytes → (was : WasJudged text head judged)
+    → AreJudged max_file_bytes head was.transactions judged
 are_judged text head judged fits was =
     let bounds = was.are.bounds in
     record {

@@ -9,7 +9,7 @@ use Rattle.cwr_call.specs.Lawful.{are_faults}
 use Rattle.cwr_acknowledgement.specs.Acknowledgement.{FitsItem}
 use Rattle.cwr_engine.specs.Handing.{Entries}
 use Rattle.cwr_engine.specs.Judged.{JudgedValue}
-use Rattle.cwr_engine.specs.Told.{told_of, told_all}
+use Rattle.cwr_engine.specs.AckItems.{item_with_reply, items_with_replies}
 use Rattle.cwr_engine.proofs.Answering.{answered, fit_next, next_judged, told_next, told_none}
 use Rattle.work_registry.specs.EntryValue.{EntryValue, entry_of}
 use Rattle.work_registry.specs.Numbers.{IsNumbered}
@@ -23,7 +23,7 @@ none_yet = record { list = []; whole = None }
 
 -- what is told of a transaction and of a reply fits its line
 item_fits : (transactions : List JudgedValue) (n : ℕ) (judged : JudgedValue) (r : Reply) → AreOfFile transactions
-    → drop n transactions ≡ judged ∷ drop (n + 1) transactions → IsNumbered r → IsTrue (are_faults judged.call.faults) → FitsItem (told_of judged r)
+    → drop n transactions ≡ judged ∷ drop (n + 1) transactions → IsNumbered r → IsTrue (are_faults judged.call.faults) → FitsItem (item_with_reply judged r)
 item_fits transactions n judged r file here numbered lawful =
     let next = next_judged file.submitter n file.found judged (drop (n + 1) transactions) file.placed (sym here ∙ ap (drop n) file.judged) in
     (answered 0 file.submitter next.transaction judged judged.call r none_yet (record { list = entry_of 0 judged.call r ∷ []; whole = None })
@@ -60,7 +60,7 @@ fitting_more transactions replies next e r so_far call numbered lawful reply is 
     record {
       of_file = so_far.of_file;
       few = omega (arith, size, within);
-      fit = fit_next (told_all transactions replies) (told_all transactions next) (told_of its.0 r)
+      fit = fit_next (items_with_replies transactions replies) (items_with_replies transactions next) (item_with_reply its.0 r)
           (told_next transactions (drop (n + 1) transactions) its.0 replies next r here is)
           so_far.fit
           (item_fits transactions n its.0 r so_far.of_file here (subst IsNumbered (sym reply) numbered)

@@ -188,18 +188,34 @@ abbrev pub Begins : List CallValue → List CallValue → Type 0
 Begins [] left = ⊤
 Begins (x ∷ calls) left = slice_get left 0 ≡ Some x
 
+-- how far the entries of calls are found in a history
+pub record RunPart : Type 0 where
+  -- the calls whose entries are found
+  pub done : List CallValue
+  -- the calls behind them
+  pub left : List CallValue
+  -- all entries
+  pub history : List EntryValue
+  -- the entries that are still to be seen
+  pub behind : List EntryValue
+  -- the entries that are found
+  pub run : List EntryValue
+
 -- The calls `done` have the entries `run`, so that the run of what goes on as the calls that are left is that of the entries
 -- behind; and what has entries at all has them there.
-pub record IsSoFar (done left : List CallValue) (history behind run : List EntryValue) : Type 0 where
-  pub made : (calls : List CallValue) (others : List EntryValue) → Begins calls left → IsRun calls behind others → IsRun (done ++ calls) history (run ++ others)
-  pub only : (calls : List CallValue) → Begins calls left → HasRun (done ++ calls) history → HasRun calls behind
+pub record IsPartOfRun (part : RunPart) : Type 0 where
+  pub made : (calls : List CallValue) (others : List EntryValue) → Begins calls part.left → IsRun calls part.behind others
+      → IsRun (part.done ++ calls) part.history (part.run ++ others)
+  pub only : (calls : List CallValue) → Begins calls part.left → HasRun (part.done ++ calls) part.history → HasRun calls part.behind
 
-pub none_so_far : (left : List CallValue) (history : List EntryValue) → IsSoFar [] left history history []
+pub none_so_far : (left : List CallValue) (history : List EntryValue)
+    → IsPartOfRun (record { done = []; left = left; history = history; behind = history; run = [] })
 none_so_far left history = record { made = λ calls others begins is. is; only = λ calls begins has. has }
 
 -- an entry more, which has the next call
-pub one_found : (done left : List CallValue) (history behind run : List EntryValue) (e : EntryValue) → IsSoFar done (e.call ∷ left) history (e ∷ behind) run
-    → IsSoFar (done ++ e.call ∷ []) left history behind (run ++ e ∷ [])
+pub one_found : (done left : List CallValue) (history behind run : List EntryValue) (e : EntryValue)
+    → IsPartOfRun (record { done = done; left = e.call ∷ left; history = history; behind = e ∷ behind; run = run })
+    → IsPartOfRun (record { done = done ++ e.call ∷ []; left = left; history = history; behind = behind; run = run ++ e ∷ [] })
 one_found done left history behind run e so_far = record {
   made = λ calls others begins is.
       subst (λ (l : List CallValue). IsRun l history ((run ++ e ∷ []) ++ others)) (sym (append_assoc done (e.call ∷ []) calls))
@@ -214,7 +230,8 @@ one_found done left history behind run e so_far = record {
 
 -- an entry more, which has another one
 pub one_passed : (done left : List CallValue) (history behind run : List EntryValue) (e : EntryValue) → (slice_get left 0 ≡ Some e.call → ⊥)
-    → IsSoFar done left history (e ∷ behind) run → IsSoFar done left history behind run
+    → IsPartOfRun (record { done = done; left = left; history = history; behind = e ∷ behind; run = run })
+    → IsPartOfRun (record { done = done; left = left; history = history; behind = behind; run = run })
 one_passed done left history behind run e other so_far = record { made = made; only = only } where
   made : (calls : List CallValue) (others : List EntryValue) → Begins calls left → IsRun calls behind others → IsRun (done ++ calls) history (run ++ others)
   made [] others begins is = so_far.made [] others tt is
@@ -235,22 +252,26 @@ first_left xs zero = refl
 first_left [] (suc n) = refl
 first_left (x ∷ xs) (suc n) = first_left xs n
 
+-- the first `n` calls are found among the first `i` entries
+abbrev pub part_of : List CallValue → ℕ → List EntryValue → ℕ → List EntryValue → RunPart
+part_of calls n history i run = record { done = take n calls; left = drop n calls; history = history; behind = drop i history; run = run }
+
 abbrev pub IsFound : List CallValue → ℕ → List EntryValue → ℕ → List EntryValue → Type 0
-IsFound calls n history i run = IsSoFar (take n calls) (drop n calls) history (drop i history) run
+IsFound calls n history i run = IsPartOfRun (part_of calls n history i run)
 
 pub found_more : (calls : List CallValue) (n : ℕ) (history : List EntryValue) (i : ℕ) (run : List EntryValue) (e : EntryValue)
     → slice_get calls n ≡ Some e.call → slice_get history i ≡ Some e → IsFound calls n history i run → IsFound calls (n + 1) history (i + 1) (run ++ e ∷ [])
 found_more calls n history i run e call entry so_far =
-    subst (λ (l : List CallValue). IsSoFar l (drop (n + 1) calls) history (drop (i + 1) history) (run ++ e ∷ [])) (sym (take_here calls n e.call call))
+    subst (λ (l : List CallValue). IsPartOfRun (record (part_of calls (n + 1) history (i + 1) (run ++ e ∷ [])) { done = l })) (sym (take_here calls n e.call call))
     (one_found (take n calls) (drop (n + 1) calls) history (drop (i + 1) history) run e
-    (subst (λ (l : List CallValue). IsSoFar (take n calls) l history (e ∷ drop (i + 1) history) run) (drop_here calls n e.call call)
-    (subst (λ (h : List EntryValue). IsSoFar (take n calls) (drop n calls) history h run) (drop_here history i e entry) so_far)))
+    (subst (λ (l : List CallValue). IsPartOfRun (record (part_of calls n history i run) { left = l; behind = e ∷ drop (i + 1) history })) (drop_here calls n e.call call)
+    (subst (λ (h : List EntryValue). IsPartOfRun (record (part_of calls n history i run) { behind = h })) (drop_here history i e entry) so_far)))
 
 pub passed_more : (calls : List CallValue) (n : ℕ) (history : List EntryValue) (i : ℕ) (run : List EntryValue) (e : EntryValue)
     → (slice_get calls n ≡ Some e.call → ⊥) → slice_get history i ≡ Some e → IsFound calls n history i run → IsFound calls n history (i + 1) run
 passed_more calls n history i run e other entry so_far =
     one_passed (take n calls) (drop n calls) history (drop (i + 1) history) run e (λ call. other (sym (first_left calls n) ∙ call))
-    (subst (λ (h : List EntryValue). IsSoFar (take n calls) (drop n calls) history h run) (drop_here history i e entry) so_far)
+    (subst (λ (h : List EntryValue). IsPartOfRun (record (part_of calls n history i run) { behind = h })) (drop_here history i e entry) so_far)
 
 -- those that are found have their run
 pub found_run : (calls : List CallValue) (n : ℕ) (history : List EntryValue) (i : ℕ) (run : List EntryValue) → IsFound calls n history i run → IsRun (take n calls) history run

@@ -18,7 +18,7 @@ use Rattle.cwr_call.specs.CallValue.{CallValue}
 use Rattle.work_registry.specs.EntryValue.{EntryValue}
 use Rattle.cwr_verify.proofs.Lists.{slice_get-set_other, slice_get-set_same}
 use Rattle.cwr_verify.specs.declared.waiting.Key.{Key}
-use Rattle.cwr_verify.specs.declared.told.Told.{Told}
+use Rattle.cwr_verify.specs.declared.ack_status.AckStatus.{AckStatus}
 use Rattle.cwr_verify.specs.Wanting.{Wanting, CanHaveMade, IsFirst, HasMovedOn, AreWaiting, NoneWaits, WaitsUnder, found_by, key_of, key_of_entry, next_key, next_of, key_cmp, turn_cmp}
 
 -- ---- the order of turns
@@ -120,7 +120,7 @@ made_key : (w : Wanting) (e : EntryValue) → CanHaveMade w e → next_key w ≡
 unfolding next_key
 made_key w e made =
     ap (λ (o : Option CallValue). option_and_then (λ call. option_map (λ told. key_of told call) (slice_get w.told (length w.replied.replies))) o) made.call
-    ∙ ap (λ (o : Option Told). option_map (λ told. key_of told e.call) o) made.told
+    ∙ ap (λ (o : Option AckStatus). option_map (λ told. key_of told e.call) o) made.told
 
 pub key_made : (all : List Wanting) (file : ℕ) (w : Wanting) (e : EntryValue) → slice_get all file ≡ Some w → CanHaveMade w e → next_of all file ≡ Some (key_of_entry e)
 key_made all file w e is made = ap (option_and_then next_key) is ∙ made_key w e made

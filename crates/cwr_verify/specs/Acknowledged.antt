@@ -1,4 +1,4 @@
--- What a line of an acknowledgement tells of a transaction.
+-- What a line of an acknowledgement contains about a transaction.
 use Rattle.std.specs.Prelude.{ℕ, Bool, ◌&&◌, List, Option, None, codes, is_some, option_map, if◌then◌else◌}
 use Rattle.std.specs.List.{filter_map, list_all}
 use Rattle.std.specs.Str.{bytes_eq}
@@ -12,13 +12,13 @@ use Rattle.cwr_record.specs.Columns.{field_at}
 use Rattle.cwr_record.specs.Faults.{checked}
 use Rattle.cwr_record.specs.Kinds.{status_named}
 use Rattle.cwr_record.specs.Layout.{reading}
-use Rattle.cwr_verify.specs.declared.told.Told.{Told}
+use Rattle.cwr_verify.specs.declared.ack_status.AckStatus.{AckStatus}
 
--- it is the acknowledgement of a transaction: no field that can have a fault has one
+-- the line is an ACK: each of its fields that can have a fault has none
 abbrev pub is_ack : List ℕ → Bool
 is_ack line = list_all (λ s. is_some (reading line s)) (checked table.ack)
 
--- the same, field by field: the type is that of one, and each number, date and time can be read
+-- the same, field by field: the type is ACK, and each number, date and time can be read
 abbrev pub can_be_read : List ℕ → Bool
 can_be_read line =
     bytes_eq (field_at line column.every_record_type) (codes "ACK")
@@ -30,14 +30,14 @@ can_be_read line =
     && (is_some (number_of (field_at line column.ack_original_transaction))
     && is_some (day_of (field_at line column.ack_processing_date))))))))
 
--- its status, and the registry's number of the work in front of the recipient's number; none where it is no acknowledgement
--- of a transaction, or has a status that is none
-abbrev pub told_by : List ℕ → Option Told
-told_by line =
+-- the status of an ACK, and the registry's number of the work, which the recipient's number begins with; `None` where
+-- the line is no ACK, or its status is none of the four
+abbrev pub status_in_line : List ℕ → Option AckStatus
+status_in_line line =
     if is_ack line
     then option_map (λ status. record { status = status; work = number_of (field (field_at line column.ack_recipient_number) 1 8) }) (status_named (field_at line column.ack_status))
     else None
 
--- what is told of each transaction, in order
-abbrev pub told_in : List ℕ → List Told
-told_in text = filter_map told_by (lines text)
+-- the status and work of each ACK in a text, in order
+abbrev pub statuses_in : List ℕ → List AckStatus
+statuses_in text = filter_map status_in_line (lines text)

@@ -9,6 +9,6 @@ pub mod Digest
 pub mod Wanting
 pub mod Proposed
 pub mod Verified
-pub mod Told
+pub mod VerifyErrors
 pub mod Run
 pub mod Again

@@ -2,7 +2,8 @@
 use Rattle.std.specs.Prelude.{ℕ, ◌==◌, List, [], ◌∷◌, if◌then◌else◌}
 use Rattle.work_registry.specs.EntryValue.{EntryValue}
 
--- the entries whose owner is this file, in the order of the history
+-- the entries whose owner is this file, counted from 0, in the order of the history; `owners` has the owner of each
+-- entry
 abbrev pub owned : ℕ → List ℕ → List EntryValue → List EntryValue
 owned file [] history = []
 owned file (owner ∷ owners) [] = []

@@ -6,14 +6,15 @@ use Rattle.work_registry.specs.EntryValue.{EntryValue}
 use Rattle.cwr_verify.specs.Sent.{Sent}
 use Rattle.cwr_verify.specs.Owned.{owned}
 
--- These entries answer the file: their calls are those of all its transactions, judged anew, in file order, and its
+-- These entries answer the file: their calls are those of all its transactions, judged again, in file order, and its
 -- acknowledgement is, byte for byte, the text for their replies, with some stamp.
 pub record IsAnsweredBy (file : Sent) (entries : List EntryValue) : Type 0 where
   pub stamp : StampParts
   pub acked : IsAcked stamp file.text (length entries) file.acknowledgement entries
 
--- Each entry of the history has one owner: a file, counted from 0, or a number that is none of a file. Each file is
+-- Each entry of the history has one owner: a file, counted from 0, or a number that is that of no file. Each file is
 -- answered by the entries that it owns, and by no others.
 pub record AreAnswered (owners : List ℕ) (history : List EntryValue) (files : List Sent) : Type 0 where
+  -- there is an owner for each entry
   pub each_entry : length owners ≡ length history
   pub each_file : (file : ℕ) (d : Sent) → file < length files → IsAnsweredBy (slice_index_or files file d) (owned file owners history)

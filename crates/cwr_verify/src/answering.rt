@@ -3,10 +3,10 @@ ghost use Rattle.std.specs.Io.KnownBytes.{Appends};
 ghost use Rattle.std.specs.List.{AllByRecursion};
 ghost use Rattle.work_registry.specs.EntryValue.{EntryValue};
 ghost use Rattle.work_registry.specs.Numbers.{IsNumbered};
-ghost use Rattle.cwr_acknowledgement.specs.Acknowledgement.{ack_text, most_told, told_count};
-ghost use Rattle.cwr_engine.specs.Account.{WriteEnds, most, write_ends};
+ghost use Rattle.cwr_acknowledgement.specs.Acknowledgement.{ack_text, max_ack_records, reported_fault_count};
+ghost use Rattle.cwr_engine.specs.Account.{WriteEnds, max_file_bytes, write_ends};
 ghost use Rattle.cwr_engine.specs.Judged.{WasJudged};
-ghost use Rattle.cwr_engine.specs.Told.{told_all};
+ghost use Rattle.cwr_engine.specs.AckItems.{items_with_replies};
 ghost use Rattle.cwr_record.specs.Stamp.{StampParts};
 ghost use Rattle.cwr_verify.specs.Again.{IsAnsweredAgain, IsJudgedFile, IsSentInPart, IsWhyNot, is_cut};
 ghost use Rattle.cwr_verify.specs.Reading.{asked_in};
@@ -18,7 +18,7 @@ use crate::reading::{Reading, reading_of};
 use crate::replied::Replied;
 use crate::run::{place_of, replies_of};
 use byte_streams::Sink;
-use cwr_acknowledgement::{AckStopped, send_answers};
+use cwr_acknowledgement::{AckError, send_answers};
 use cwr_engine::{Judged, JudgedFile};
 use cwr_field::Memory;
 use cwr_record::{Header, Stamp};
@@ -27,11 +27,19 @@ use work_registry::{Book, Entry};
 
 /// Writes the acknowledgement of a file again, from a book in which its transactions have entries.
 ///
-/// The transactions are judged anew. Their run is an entry with the call of the first of them, the first entry behind it
-/// with the call of the second, and so on. It is that from the entry of the number `entry`, from 1, or, where none is
-/// named, from the last place of the book from which there is one: of a file that was taken twice, the second time. What is
-/// written is, byte for byte, what was written when the file was taken with this stamp and got the replies of these
-/// entries. Nothing is written before each of its transactions has its entry. Any other file gets an error that says why.
+/// - `alloc` is where memory comes from.
+/// - `book` is the book.
+/// - `text` are the bytes of the file.
+/// - `stamp` is who acknowledged the file, and when.
+/// - `entry` is the number of the entry at which the run begins, from 1. With `None` the run begins at the last place
+///   of the book from which there is one: of a file that was taken twice, that is the second time.
+/// - `writer` gets the acknowledgement, and has not failed.
+///
+/// The transactions are judged again. Their run is an entry with the call of the first of them, the first entry behind
+/// it with the call of the second, and so on.
+///
+/// What is written is the acknowledgement, byte for byte, that the file got when it was taken with this stamp and these
+/// replies. Nothing is written before each transaction has its entry. For any other file the error says why.
 pub fn answer<W: Sink, A: Allocator + Copy + Drop>(
     alloc: A,
     book: &Book<A>,
@@ -52,7 +60,7 @@ pub fn answer<W: Sink, A: Allocator + Copy + Drop>(
 
 /// The file of a text, judged.
 fn judged<A: Allocator + Copy>(alloc: A, text: &[u8]) -> Result<JudgedFile<A>, NoAnswer>
-    ensures fits { OnOk result (length text.now ≤ most) }
+    ensures fits { OnOk result (length text.now ≤ max_file_bytes) }
     ensures judged { IfOk result (λ file. WasJudged text.now file.header file.transactions.items) }
     ensures why_not { IfErr result (λ why. (stamp : StampParts) (entry : Option ℕ) (history : List EntryValue) (ends : WriteEnds)
         → IsWhyNot stamp text.now entry history ends why) }
@@ -65,7 +73,8 @@ fn judged<A: Allocator + Copy>(alloc: A, text: &[u8]) -> Result<JudgedFile<A>, N
     }
 }
 
-/// These transactions with the replies of the entries of their run.
+/// These transactions with the replies of the entries of their run. `entry` is the number of the entry at which it
+/// begins, or `None`, as for [`answer`].
 fn run_of<'t, A: Allocator + Copy>(
     alloc: A,
     history: &[Entry<A>],
@@ -95,6 +104,12 @@ fn run_of<'t, A: Allocator + Copy>(
 }
 
 /// Writes the acknowledgement of a file whose transactions got these replies.
+///
+/// - `alloc` is where memory comes from.
+/// - `header` is the header of the file.
+/// - `replied` are its transactions and their replies.
+/// - `stamp` is who acknowledges, and when.
+/// - `writer` gets the acknowledgement, and has not failed.
 fn send<W: Sink, A: Allocator + Copy>(
     alloc: A,
     header: &Header,
@@ -103,14 +118,14 @@ fn send<W: Sink, A: Allocator + Copy>(
     writer: &mut W,
 ) -> Result<(), NoAnswer>
     requires works { W.has_failed writer.old ≡ false }
-    requires few { length (told_all replied.now.transactions replied.now.replies) + told_count (told_all replied.now.transactions replied.now.replies) ≤ most_told }
-    ensures all { OnOk result (Appends (W.taken writer.old) (W.taken writer.new) (ack_text stamp.now header.now (told_all replied.now.transactions replied.now.replies))) }
-    ensures part { IfErr result (IsSentInPart (write_ends W.Sink writer.old writer.new) (ack_text stamp.now header.now (told_all replied.now.transactions replied.now.replies))) }
+    requires few { length (items_with_replies replied.now.transactions replied.now.replies) + reported_fault_count (items_with_replies replied.now.transactions replied.now.replies) ≤ max_ack_records }
+    ensures all { OnOk result (Appends (W.taken writer.old) (W.taken writer.new) (ack_text stamp.now header.now (items_with_replies replied.now.transactions replied.now.replies))) }
+    ensures part { IfErr result (IsSentInPart (write_ends W.Sink writer.old writer.new) (ack_text stamp.now header.now (items_with_replies replied.now.transactions replied.now.replies))) }
     ensures unwritten { IfErr result (λ why. is_cut why ≡ false → writer.new ≡ writer.old) }
 {
     match send_answers(alloc, writer, stamp, header, &replied.answered()) {
         Ok(()) => Ok(()),
-        Err(AckStopped::Memory) => Err(NoAnswer::Memory),
-        Err(AckStopped::Write { sent }) => Err(NoAnswer::Write { sent }),
+        Err(AckError::Memory) => Err(NoAnswer::Memory),
+        Err(AckError::Write { sent }) => Err(NoAnswer::Write { sent }),
     }
 }

@@ -1,11 +1,11 @@
-//! A text that is compared as it is written.
+//! A text that is compared with another while it is written.
 ghost use Rattle.std.specs.Prelude.{◌≡◌, ◌≤◌, ◌++◌, ℕ, List, Some, false, length, take, IsTrue};
 ghost use Rattle.cwr_verify.specs.Compared.{taken_of};
 
 use byte_streams::{Failed, Sink};
 use std::marker::Model;
 
-/// A sink that takes a text alone: its bytes one after the other, and no others. It keeps none.
+/// A sink that takes only the bytes of one text, in order, and fails at any other. It keeps none.
 #[derive(Drop)]
 pub(crate) struct Compared<'a> {
     expected: &'a [u8],
@@ -36,14 +36,14 @@ impl<'a> Compared<'a> {
         }
     }
 
-    /// Whether this text, with which it was made, was written whole.
+    /// Whether this text, with which the sink was made, was written completely.
     pub(crate) fn is_whole(&self, text: &[u8]) -> bool
         ensures { (written : List ℕ) → IsTrue result → taken_of self.now ≡ text.now ++ written → written ≡ text.now }
     {
         self.expected.len() == text.len() && self.same == text.len()
     }
 
-    /// The line of the text, from 1, behind whose first bytes others were written, or none.
+    /// The line of the text, from 1, at which what was written differs from it or ends.
     pub(crate) fn line(&self) -> usize {
         let ends = self.expected[..self.same]
             .iter()
@@ -62,7 +62,7 @@ impl<'a> Sink for Compared<'a> {
         self.differs
     }
 
-    /// Takes the bytes as far as they are the next ones of the text.
+    /// Takes the bytes up to the first that is not the next one of the text.
     fn write_some(&mut self, bytes: &[u8]) -> Result<usize, Failed> {
         let same = same_front(bytes, &self.expected[self.same..]);
         if same == 0 && !bytes.is_empty() {
@@ -74,7 +74,7 @@ impl<'a> Sink for Compared<'a> {
     }
 }
 
-/// How many bytes two texts have alike before the first that differs.
+/// How many bytes at the front of two texts are the same.
 fn same_front(one: &[u8], other: &[u8]) -> usize
     ensures within { result ≤ length one.now }
     ensures other { result ≤ length other.now }

@@ -1,27 +1,29 @@
-//! One number for what a transaction and what is told of its reply are told apart by.
+//! A digest of a transaction and of what its acknowledgement says, by which they are looked up.
 ghost use Rattle.std.specs.Prelude.{◌≡◌, ◌+◌, ◌≤◌, length};
 ghost use Rattle.cwr_verify.specs.Digest.{all_mixed, digest_of, fault_mixed, faults_mixed, kind_number, mixed, parts_of, status_number, word_at};
 
-use crate::told::Told;
+use crate::ack_status::AckStatus;
 use cwr_record::WorkKind;
 use std::alloc::Allocator;
 use work_registry::{Call, Fault, Status};
 
-/// A number into which is mixed what is told of a reply and what a call says, but for the last six bytes of its number,
-/// which are in the key. What differs has another digest, but for chance, or where somebody means it to have the same:
-/// then it is looked at in vain. Time alone rests on it.
+/// A digest of a call and of what an acknowledgement says of it, except the last six bytes of the call's number, which
+/// are in the key.
+///
+/// Two that differ have different digests, except by chance or by intent. Then a lookup finds a wrong one, which is
+/// compared in vain. No result rests on the digest, only time.
 #[tactic(auto, unfolding(crate::specs::Digest::digest_of))]
-pub(crate) fn digest_of<A: Allocator>(told: Told, call: &Call<A>) -> u64
+pub(crate) fn digest_of<A: Allocator>(told: AckStatus, call: &Call<A>) -> u64
     ensures { result ≡ digest_of told call.now }
 {
     let parts = all_mixed(0, &parts_of(told, call));
     faults_mixed(all_mixed(parts, &call.control()), call.faults())
 }
 
-/// What is told of a reply, and what a call says, but for its control and its faults, as numbers.
+/// What an acknowledgement says of a call, and the call without its control and its faults, as numbers.
 #[inline(always)]
 #[tactic(auto, unfolding(crate::specs::Digest::parts_of))]
-fn parts_of<A: Allocator>(told: Told, call: &Call<A>) -> [u64; 15]
+fn parts_of<A: Allocator>(told: AckStatus, call: &Call<A>) -> [u64; 15]
     ensures { result ≡ parts_of told call.now }
 {
     let number = call.number();
@@ -66,7 +68,7 @@ fn kind_number(kind: WorkKind) -> u64
     }
 }
 
-/// Eight bytes of a text, from here on, as one number.
+/// The eight bytes of a text from an index on, as one number, the first byte the most significant.
 #[inline(always)]
 #[tactic(auto, unfolding(crate::specs::Digest::word_at))]
 pub(crate) fn word_at(text: &[u8], at: usize) -> u64
@@ -79,7 +81,7 @@ pub(crate) fn word_at(text: &[u8], at: usize) -> u64
     u64::from_be_bytes(bytes)
 }
 
-/// One number more, mixed with those before it.
+/// Mixes a number into those before it.
 #[inline(always)]
 #[tactic(auto, unfolding(crate::specs::Digest::mixed))]
 fn mixed(so_far: u64, next: u64) -> u64
@@ -90,7 +92,7 @@ fn mixed(so_far: u64, next: u64) -> u64
         .wrapping_add(next)
 }
 
-/// Many numbers more.
+/// Mixes numbers into those before them.
 #[inline(always)]
 #[tactic(auto, unfolding(crate::specs::Digest::all_mixed))]
 fn all_mixed(so_far: u64, numbers: &[u64]) -> u64
@@ -103,7 +105,7 @@ fn all_mixed(so_far: u64, numbers: &[u64]) -> u64
     all
 }
 
-/// A fault more.
+/// Mixes a fault into what comes before it.
 #[tactic(auto, unfolding(crate::specs::Digest::fault_mixed))]
 fn fault_mixed(so_far: u64, fault: &Fault) -> u64
     ensures { result ≡ fault_mixed so_far fault.now }
@@ -113,7 +115,7 @@ fn fault_mixed(so_far: u64, fault: &Fault) -> u64
     mixed(mixed(so_far, fault.sequence as u64), rule)
 }
 
-/// Many faults more.
+/// Mixes faults into what comes before them.
 #[tactic(auto, unfolding(crate::specs::Digest::faults_mixed))]
 fn faults_mixed(so_far: u64, faults: &[Fault]) -> u64
     ensures { result ≡ faults_mixed so_far faults.now }

@@ -1,4 +1,4 @@
-/// Why a file is not acknowledged again. But for a write that failed, nothing was written.
+/// Why a file is not acknowledged again. Nothing was written, except where a write failed.
 #[derive(Clone, Copy, Debug, PartialEq, Eq)]
 pub enum NoAnswer {
     /// Memory was refused.
@@ -12,10 +12,11 @@ pub enum NoAnswer {
         /// The line that has it, from 1. The one after the last line is the end of the file.
         line: u64,
     },
-    /// The entry that was named is none of the register, or has not the call of the file's first transaction.
+    /// The register has no entry with the number that was named, or that entry does not have the call of the file's
+    /// first transaction.
     OtherEntry,
-    /// No run of entries has the calls of the transactions up to this one, the first such one: none of the register, or none
-    /// from the entry that was named on.
+    /// No run of entries has the calls of the transactions up to this one, the first such one. Where an entry was
+    /// named, there is no such run from it on, and else there is none in the register.
     Transaction {
         /// Group id of its group, from 1.
         group: u32,

@@ -1,17 +1,19 @@
-//! Which file each entry answers, as the acknowledgements let one think. That they tell so is checked.
+//! Which file each entry answers, as the acknowledgements suggest. What they suggest is checked afterwards.
 ghost use Rattle.std.specs.Prelude.{◌≡◌, length, map, IfOk};
 ghost use Rattle.std.specs.List.{AllByRecursion};
 ghost use Rattle.work_registry.specs.Numbers.{IsNumbered};
 ghost use Rattle.cwr_verify.specs.Proposed.{AreFirst, wanting_of};
 
+use crate::ack_status::statuses_in;
 use crate::sent::ReadFile;
-use crate::told::told_in;
 use crate::wanted::{Wanted, owner_of, waiting_of};
 use std::alloc::{AllocError, Allocator};
 use work_registry::Entry;
 
-/// The owner of each entry, one after the other: the first file whose next transaction can have made it, else the number
-/// of the files. That transaction gets its reply.
+/// The owner of each entry, in the order of the history: the first file whose next transaction can have made it. Where
+/// there is none, the owner is the number of files.
+///
+/// That transaction gets the reply of the entry.
 pub(crate) fn owners_of<A: Allocator + Copy>(
     alloc: A,
     wanted: &mut [Wanted<A>],
@@ -30,7 +32,7 @@ pub(crate) fn owners_of<A: Allocator + Copy>(
     Ok(owners)
 }
 
-/// What each of the files wants of a history: its calls, and what its acknowledgement tells of them.
+/// What each of the files looks for in a history: its calls, and what its acknowledgement says of them.
 pub(crate) fn wanted_of<'r, A: Allocator + Copy>(
     alloc: A,
     files: &'r [ReadFile<A>],
@@ -39,7 +41,7 @@ pub(crate) fn wanted_of<'r, A: Allocator + Copy>(
 {
     let mut all = Vec::with_capacity(alloc, files.len())?;
     for file in files {
-        let told = told_in(alloc, file.acknowledgement)?;
+        let told = statuses_in(alloc, file.acknowledgement)?;
         all.push(Wanted::of(alloc, file.text.transactions(), told)?)?;
     }
     Ok(all)

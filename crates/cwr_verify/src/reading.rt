@@ -1,17 +1,17 @@
-//! What files are, each of them judged once.
+//! Files, each of them judged once.
 ghost use Rattle.std.specs.Prelude.{◌≡◌, ℕ, List, IfOk};
 ghost use Rattle.cwr_verify.specs.Read.{AreReadFrom};
 ghost use Rattle.cwr_verify.specs.Reading.{IsReadingOf, transactions_in};
 ghost use Rattle.cwr_verify.specs.Replied.{AreOfFile};
 
 use crate::sent::{ReadFile, SentFile};
-use cwr_engine::{Judged, JudgedFile, MOST_BYTES, judge_file};
+use cwr_engine::{Judged, JudgedFile, MAX_BYTES, judge_file};
 use cwr_field::Memory;
 use cwr_grammar::FileRefusal;
 use std::alloc::{Allocator, Global};
 use std::marker::Model;
 
-/// What a file was judged to.
+/// The result of judging a file.
 #[derive(Drop)]
 pub(crate) enum Reading<A: Allocator> {
     /// A well-formed file, with its calls.
@@ -27,7 +27,7 @@ pub(crate) enum Reading<A: Allocator> {
     },
 }
 
-/// The text of a file that was read: what it was judged to. It borrows no byte of the text.
+/// The result of judging the text of a file. It borrows no byte of the text.
 #[derive(Drop)]
 pub struct ReadText<A: Allocator = Global> {
     reading: Reading<A>,
@@ -47,7 +47,7 @@ impl<A: Allocator> Model for ReadText<A> {
 }
 
 impl<A: Allocator> ReadText<A> {
-    /// What it was judged to.
+    /// The result of judging it.
     pub(crate) fn reading(&self) -> &Reading<A>
         ensures its { result.now ≡ self.now }
         ensures some { (text : List ℕ) × IsReadingOf text result.now }
@@ -55,7 +55,7 @@ impl<A: Allocator> ReadText<A> {
         &self.reading
     }
 
-    /// The transactions of a well-formed file; of any other none.
+    /// The transactions of a well-formed file; none of any other.
     pub(crate) fn transactions(&self) -> &[Judged<A>]
         ensures its { result.now ≡ transactions_in self.now }
         ensures of_file { AreOfFile result.now }
@@ -67,10 +67,10 @@ impl<A: Allocator> ReadText<A> {
     }
 }
 
-/// Reads the text of a file and judges it. What it answers borrows no byte of the text.
+/// Reads the text of a file and judges it. The result borrows no byte of the text.
 ///
-/// A text of any kind can be read, and is judged to what it is: a well-formed file with its transactions, a text of more
-/// bytes than a file may have, or one with a first fault. An error says that memory was refused, and nothing of the text.
+/// Any text can be read. The result is a well-formed file with its transactions, or that the text has more bytes than a
+/// file may have, or its first fault. An error says that memory was refused, and nothing about the text.
 pub fn read_text<A: Allocator + Copy>(alloc: A, text: &[u8]) -> Result<ReadText<A>, Memory>
     ensures { IfOk result (IsReadingOf text.now) }
 {
@@ -78,11 +78,11 @@ pub fn read_text<A: Allocator + Copy>(alloc: A, text: &[u8]) -> Result<ReadText<
     Ok(ReadText { reading })
 }
 
-/// A text, judged.
+/// The result of judging a text.
 pub(crate) fn reading_of<A: Allocator + Copy>(alloc: A, text: &[u8]) -> Result<Reading<A>, Memory>
     ensures { IfOk result (IsReadingOf text.now) }
 {
-    if text.len() > MOST_BYTES {
+    if text.len() > MAX_BYTES {
         return Ok(Reading::TooLong);
     }
     match judge_file(alloc, text) {
@@ -92,7 +92,7 @@ pub(crate) fn reading_of<A: Allocator + Copy>(alloc: A, text: &[u8]) -> Result<R
     }
 }
 
-/// Each of the files, read.
+/// The files, each judged.
 pub(crate) fn read_files<'a, A: Allocator + Copy>(
     alloc: A,
     files: &[SentFile<'a>],

@@ -2,7 +2,7 @@
 ghost use Rattle.std.specs.Prelude.{◌≡◌, ◌↔◌, Some, [], length, option_map, slice_get, IsTrue, IfOk, OnOk, MatchOption};
 ghost use Rattle.std.specs.List.{AllByRecursion};
 ghost use Rattle.cwr_acknowledgement.specs.Acknowledgement.{FitsItem};
-ghost use Rattle.cwr_engine.specs.Told.{told_all};
+ghost use Rattle.cwr_engine.specs.AckItems.{items_with_replies};
 ghost use Rattle.work_registry.specs.Numbers.{IsNumbered};
 ghost use Rattle.cwr_verify.specs.Replied.{AreOfFile, next_call, replied_by};
 
@@ -12,7 +12,8 @@ use std::alloc::{AllocError, Allocator};
 use std::marker::Model;
 use work_registry::{Entry, Reply};
 
-/// The transactions of a file, and the replies to the first of them: each that of an entry with its call.
+/// The transactions of a file, and the replies to the first of them. Each reply is that of an entry with the
+/// transaction's call.
 #[derive(Drop)]
 pub(crate) struct Replied<'t, A: Allocator> {
     transactions: &'t [Judged<A>],
@@ -30,7 +31,7 @@ impl<'t, A: Allocator> Model for Replied<'t, A> {
 }
 
 impl<'t, A: Allocator> Replied<'t, A> {
-    /// These transactions, and no reply.
+    /// These transactions, without a reply.
     pub(crate) fn of(alloc: A, transactions: &'t [Judged<A>]) -> Result<Replied<'t, A>, AllocError>
         requires { AreOfFile transactions.now }
         ensures { IfOk result (λ replied. replied ≡ record { transactions = transactions.now; replies = [] }) }
@@ -64,23 +65,23 @@ impl<'t, A: Allocator> Replied<'t, A> {
         has_call(self.transactions, self.replies.len(), entry)
     }
 
-    /// Gives it the reply of this entry.
+    /// Gives the first transaction that has no reply the reply of this entry.
     pub(crate) fn push(&mut self, entry: &Entry<A>) -> Result<(), AllocError>
         requires call { next_call self.old ≡ Some entry.now.call }
         requires numbered { IsNumbered entry.now.reply }
         ensures { OnOk result (self.new ≡ replied_by entry.now self.old) }
     {
-        // Looking at them tells the check what holds of the faults of every call.
+        // Reading them makes known to the check what holds of the faults of every call.
         let _faults = entry.call().faults().len();
         self.replies.push(entry.reply())?;
         Ok(())
     }
 
-    /// What an acknowledgement tells of them, which fits its lines.
+    /// What an acknowledgement contains of them, which fits its lines.
     pub(crate) fn answered(&self) -> Answered<'_, A>
         ensures transactions { result.transactions.now ≡ self.now.transactions }
         ensures replies { result.replies.now ≡ self.now.replies }
-        ensures fit { AllByRecursion FitsItem (told_all result.transactions.now result.replies.now) }
+        ensures fit { AllByRecursion FitsItem (items_with_replies result.transactions.now result.replies.now) }
     {
         Answered {
             transactions: self.transactions,

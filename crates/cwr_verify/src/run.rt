@@ -1,4 +1,4 @@
-//! The entries of a history that answer a file anew: its run.
+//! The entries of a history that answer a file again: its run.
 ghost use Rattle.std.specs.Prelude.{◌≡◌, ◌<◌, ◌≤◌, ◌+◌, ℕ, List, Some, None, length, drop, take, map, IfNone, IfOk, IfSome, MatchOption};
 ghost use Rattle.std.specs.List.{AllByRecursion};
 ghost use Rattle.work_registry.specs.EntryValue.{EntryValue};
@@ -15,7 +15,7 @@ use work_registry::Entry;
 
 /// The last place from which entries have the calls of the transactions; 0 where there is none.
 ///
-/// The entries are gone through once, from the last one on, and the calls are found from the last one on.
+/// The entries are gone through once, backwards, and the calls are found from the last one on.
 fn last_place<A: Allocator>(history: &[Entry<A>], transactions: &[Judged<A>]) -> usize
     ensures within { result ≤ length history.now }
     ensures later { (other : ℕ) → result < other → other ≤ length history.now → HasRun (asked_in transactions.now) (drop other history.now) → ⊥ }
@@ -32,7 +32,8 @@ fn last_place<A: Allocator>(history: &[Entry<A>], transactions: &[Judged<A>]) ->
     at
 }
 
-/// The place of the entry of this number, from 1, where it has the call of the first transaction.
+/// The place, from 0, of the entry with this number, from 1; `None` where it does not have the call of the first
+/// transaction.
 fn named_place<A: Allocator>(
     history: &[Entry<A>],
     transactions: &[Judged<A>],
@@ -49,7 +50,8 @@ fn named_place<A: Allocator>(
     }
 }
 
-/// Where the run of these transactions begins; none where the entry that is named has not the call of the first of them.
+/// The place, from 0, where the run of these transactions begins; `None` where an entry is named that does not have the
+/// call of the first of them.
 pub(crate) fn place_of<A: Allocator>(
     history: &[Entry<A>],
     transactions: &[Judged<A>],
@@ -66,8 +68,8 @@ pub(crate) fn place_of<A: Allocator>(
     }
 }
 
-/// The replies of the entries of the run of these transactions, from the front of these entries; those of its first
-/// entries, where the others are none.
+/// The replies of the entries of the run of these transactions, where the run begins at the front of `history`. Where
+/// the run is not complete, they are the replies of its first entries.
 pub(crate) fn replies_of<'t, A: Allocator + Copy>(
     alloc: A,
     history: &[Entry<A>],

@@ -6,7 +6,7 @@ use cwr_record::WorkKind;
 use std::alloc::Allocator;
 use work_registry::{Call, Entry, Fault};
 
-/// Whether the transaction at this place has the call of an entry.
+/// Whether the transaction at this place, from 0, has the call of an entry.
 pub(crate) fn has_call<A: Allocator>(
     transactions: &[Judged<A>],
     place: usize,
@@ -20,7 +20,7 @@ pub(crate) fn has_call<A: Allocator>(
     }
 }
 
-/// Whether two calls ask the same.
+/// Whether two calls are the same.
 fn is_same_call<A: Allocator>(one: &Call<A>, other: &Call<A>) -> bool
     ensures { IsTrue result ↔ (one.now ≡ other.now) }
 {
@@ -33,7 +33,7 @@ fn is_same_call<A: Allocator>(one: &Call<A>, other: &Call<A>) -> bool
         && are_same_faults(one.faults(), other.faults())
 }
 
-/// Whether two texts of one length are the same. That the length is known spares a call.
+/// Whether two texts of the same length are the same. Since the length is known, no call is needed.
 #[inline(always)]
 fn are_same_texts<const N: usize>(one: [u8; N], other: [u8; N]) -> bool
     ensures { IsTrue result ↔ (one ≡ other) }

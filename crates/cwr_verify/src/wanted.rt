@@ -1,11 +1,11 @@
-//! What files want of a history.
+//! What files look for in a history.
 ghost use Rattle.std.specs.Prelude.{◌≡◌, ◌↔◌, ◌<◌, ◌≤◌, [], IsTrue, IfNone, IfOk, IfSome, OnOk, Some, length, MatchOption};
 ghost use Rattle.work_registry.specs.Numbers.{IsNumbered};
 ghost use Rattle.cwr_verify.specs.Replied.{AreOfFile, next_call};
 ghost use Rattle.cwr_verify.specs.Wanting.{CanHaveMade, IsFirst, HasMovedOn, AreWaiting, NoneWaits, found_by, key_of_entry, next_key};
 
+use crate::ack_status::AckStatus;
 use crate::replied::Replied;
-use crate::told::Told;
 use crate::waiting::{Key, Waiting};
 use cwr_engine::Judged;
 use std::alloc::{AllocError, Allocator};
@@ -13,12 +13,12 @@ use std::collections::BTreeSet;
 use std::marker::Model;
 use work_registry::Entry;
 
-/// The transactions of a file whose calls are to be found, with what its acknowledgement tells of them. Those that are
+/// The transactions of a file whose calls are to be found, with what its acknowledgement says of them. Those that are
 /// found have the replies of their entries.
 #[derive(Drop)]
 pub(crate) struct Wanted<'r, A: Allocator> {
     replied: Replied<'r, A>,
-    told: Vec<Told, A>,
+    told: Vec<AckStatus, A>,
 }
 
 impl<'r, A: Allocator> Model for Wanted<'r, A> {
@@ -30,11 +30,11 @@ impl<'r, A: Allocator> Model for Wanted<'r, A> {
 }
 
 impl<'r, A: Allocator> Wanted<'r, A> {
-    /// The calls of these transactions, none of which is found, with what is told of them.
+    /// These transactions, none of which is found, with what the acknowledgement says of them.
     pub(crate) fn of(
         alloc: A,
         transactions: &'r [Judged<A>],
-        told: Vec<Told, A>,
+        told: Vec<AckStatus, A>,
     ) -> Result<Wanted<'r, A>, AllocError>
         requires { AreOfFile transactions.now }
         ensures { IfOk result (λ wanted. wanted ≡ record { replied = record { transactions = transactions.now; replies = [] }; told = told.items }) }
@@ -50,18 +50,19 @@ impl<'r, A: Allocator> Wanted<'r, A> {
         &self.replied
     }
 
-    /// Whether the next transaction can have made an entry.
+    /// Whether the next transaction can have made an entry: the entry has its call, and the reply that the
+    /// acknowledgement contains.
     fn can_have_made(&self, entry: &Entry<A>) -> bool
         ensures { IsTrue result ↔ CanHaveMade self.now entry.now }
     {
         match self.told.get(self.replied.len()) {
-            Some(told) => *told == Told::of(entry.reply()) && self.replied.is_next(entry),
+            Some(told) => *told == AckStatus::of(entry.reply()) && self.replied.is_next(entry),
             None => false,
         }
     }
 
-    /// What the next transaction is looked up by, where there is one of which something is told. One of which nothing is
-    /// told can have made none.
+    /// What the next transaction is looked up by. `None` where there is no next one, or the acknowledgement says
+    /// nothing of it: then it can have made no entry.
     #[tactic(auto, unfolding(crate::specs::Wanting::next_key))]
     fn next_key(&self) -> Option<Key>
         ensures { result ≡ next_key self.now }
@@ -73,7 +74,7 @@ impl<'r, A: Allocator> Wanted<'r, A> {
         Some(Key::of(*told, &next.call))
     }
 
-    /// The next transaction is found: this entry has its call.
+    /// Marks the next transaction as found: this entry has its call.
     fn pass(&mut self, entry: &Entry<A>) -> Result<(), AllocError>
         requires call { next_call self.old.replied ≡ Some entry.now.call }
         requires numbered { IsNumbered entry.now.reply }
@@ -99,7 +100,8 @@ pub(crate) fn waiting_of<A: Allocator + Copy>(
     Ok(waiting)
 }
 
-/// The first file whose next transaction can have made an entry, which is looked up by this key.
+/// The first file whose next transaction can have made an entry; `None` where there is none. `key` is that of the
+/// entry.
 fn first_of<A: Allocator>(
     wanted: &[Wanted<A>],
     waiting: &Waiting<A>,
@@ -120,7 +122,7 @@ fn first_of<A: Allocator>(
     None
 }
 
-/// The first file that waits under this key, from one on and before an end.
+/// The first file that waits under this key, of those from `from` on and before `end`.
 fn first_from<A: Allocator>(
     waiting: &Waiting<A>,
     key: Key,
@@ -137,8 +139,9 @@ fn first_from<A: Allocator>(
     }
 }
 
-/// The first file whose next transaction can have made an entry, else the number of the files. The transaction is then
-/// found, and its file waits for the one after it.
+/// The first file whose next transaction can have made an entry; the number of files where there is none.
+///
+/// The transaction is then found, and its file waits for the one after it.
 pub(crate) fn owner_of<A: Allocator + Copy>(
     wanted: &mut [Wanted<A>],
     waiting: &mut Waiting<A>,
@@ -150,7 +153,7 @@ pub(crate) fn owner_of<A: Allocator + Copy>(
     ensures moved { IfOk result (HasMovedOn entry.now wanted.old wanted.new) }
     ensures waiting { OnOk result (AreWaiting wanted.new waiting.new) }
 {
-    let key = Key::of(Told::of(entry.reply()), entry.call());
+    let key = Key::of(AckStatus::of(entry.reply()), entry.call());
     let Some(file) = first_of(wanted, waiting, key, entry) else {
         return Ok(wanted.len());
     };

@@ -1,13 +1,13 @@
 //! Acknowledgements that are made again.
 
 use crate::runs::{answered_again, expect_again, expect_none, work};
-use cwr_sheets::{
-    ALL, SENDER, acknowledgement, decision, file, file_of_lines, miscounted, plain_file,
-    rival_claims, same, same_bytes, three_works, work as work_head, writer,
-};
 use cwr_verify::NoAnswer;
 use std::alloc::Global;
 use std::test::Fail;
+use test_files::{
+    ALL, SENDER, acknowledgement, decision, file, file_of_lines, miscounted, plain_file,
+    rival_claims, same, same_bytes, three_works, work as work_head, writer,
+};
 use work_registry::Book;
 
 /// The file of one of the three works alone.
@@ -24,8 +24,8 @@ fn missing(sequence: u32) -> NoAnswer {
     NoAnswer::Transaction { group: 1, sequence }
 }
 
-/// A file of three works that was sent on two nights, another file before, between and after them: entries 2 to 4 and 6 to
-/// 8. The acknowledgement is that of the second night, or of the night whose first entry is named.
+/// A file of three works that was sent on two nights, another file before, between and after them: entries 2 to 4 and 6
+/// to 8. The acknowledgement is that of the second night, or of the night whose first entry is named.
 fn expect_two_nights(alloc: Global) -> Result<(), Fail> {
     let works = three_works(alloc)?;
     let rivals = rival_claims(alloc)?;
@@ -97,7 +97,8 @@ fn work_one(alloc: Global, book: Book, number: &str) -> Result<Book, Fail> {
     work(alloc, book, &one, &mut Vec::new(alloc))
 }
 
-/// A whole night, and one of which the last entry is missing: the whole one is acknowledged, from its last place on.
+/// A complete night, and one of which the last entry is missing: the complete one is acknowledged, from its last place
+/// on.
 fn expect_cut_night(alloc: Global) -> Result<(), Fail> {
     let works = three_works(alloc)?;
     let mut answers = Vec::new(alloc);
@@ -127,7 +128,8 @@ fn takes_no_run_that_is_not_whole(rt: HostRuntime) -> Result<(), Fail> {
     expect_cut_night(rt.alloc())
 }
 
-/// What is told of three works at the book of some of them, each worked alone: the transaction of this sequence has no entry.
+/// Why three works are not acknowledged again at the book of some of them, each worked alone: the transaction of this
+/// sequence has no entry.
 fn expect_missing(alloc: Global, numbers: &[&str], sequence: u32) -> Result<(), Fail> {
     let mut book = Book::new(alloc, 20);
     for number in numbers {
@@ -162,7 +164,8 @@ fn acknowledges_no_transactions(rt: HostRuntime) -> Result<(), Fail> {
     expect_empty(rt.alloc())
 }
 
-/// What is told of a file with a fault, and blanks behind it up to so many bytes, whichever entry is named.
+/// Why a file with a fault is not acknowledged again, with blanks behind it up to `size` bytes, whichever entry is
+/// named.
 fn expect_refused(alloc: Global, size: usize, why: NoAnswer) -> Result<(), Fail> {
     let mut refused = miscounted(alloc)?;
     if refused.len() < size {
@@ -186,7 +189,7 @@ fn tells_a_file_that_is_too_long(rt: HostRuntime) -> Result<(), Fail> {
     expect_refused(rt.alloc(), 16_777_217, NoAnswer::TooLong)
 }
 
-/// A writer that takes no more than so many bytes has the first ones.
+/// A writer that takes a number of bytes has the first bytes of an acknowledgement.
 fn expect_cut(alloc: Global) -> Result<(), Fail> {
     let file = plain_file(alloc)?;
     let mut answers = Vec::new(alloc);

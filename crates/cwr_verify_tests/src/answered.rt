@@ -1,9 +1,9 @@
 //! Files that a register answers.
 
 use crate::runs::{verified, work, work_three};
-use cwr_sheets::{rival_claims, same_lists, three_works};
 use std::alloc::Global;
 use std::test::Fail;
+use test_files::{rival_claims, same_lists, three_works};
 use work_registry::Book;
 
 /// Two rival claims are taken, three works after them, and the first claim once more.
@@ -54,7 +54,8 @@ fn expect_each(
     Ok(())
 }
 
-/// Two files with their acknowledgements, each of whose entries answers this one of them.
+/// Two files that are verified at a book. `alloc` allocates, and `book` has the entries. `texts` are the files, and
+/// `acknowledgements` their acknowledgements. `owners` says for each entry which of the files it must answer, from 0.
 fn expect_verified(
     alloc: Global,
     book: &Book,

@@ -1,5 +1,5 @@
-//! Tests of files and their acknowledgements against a register: which entries answer them, and what is told where they
-//! do not fit. Tests of acknowledgements that are made again from a register.
+//! Tests of files and their acknowledgements against a register: which entries answer them, and what is reported if
+//! they do not fit. Tests of acknowledgements that are made again from a register.
 #![tactic(auto)]
 
 #[cfg(test)]

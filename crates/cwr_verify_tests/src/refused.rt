@@ -1,12 +1,12 @@
-//! Requests for memory that are refused, each in turn.
+//! Allocations that fail, each in turn.
 
 use byte_streams::{Feed, Room};
 use cwr_engine::{FileOutcome, Job, work_alone};
-use cwr_sheets::{SENDER, acknowledgement, decision, same_bytes, stamp, work_twice};
 use cwr_verify::{NoAnswer, answer};
-use refusing::{Ended, Refusing, Sweep, answered, refuse_each, refused};
+use failing_alloc::{Ended, FailingAlloc, Sweep, answered, refuse_each, refused};
 use std::alloc::Global;
 use std::test::Fail;
+use test_files::{SENDER, acknowledgement, decision, same_bytes, stamp, work_twice};
 use work_registry::Book;
 
 /// Makes the acknowledgement of a file again, of a book in which the file was worked.
@@ -17,12 +17,12 @@ struct Again<'a> {
     wanted: &'a [u8],
 }
 
-/// The book in which a file was worked; `None` where there was no memory for it.
+/// The book in which a file was worked; `None` if an allocation failed.
 fn worked<'m>(
-    memory: &'m Refusing,
+    memory: &'m FailingAlloc,
     alloc: Global,
     file: &[u8],
-) -> Result<Option<Book<&'m Refusing>>, Fail> {
+) -> Result<Option<Book<&'m FailingAlloc>>, Fail> {
     let stamp = stamp()?;
     let job = Job {
         reader: Feed::new(file, 1000, None),
@@ -36,7 +36,7 @@ fn worked<'m>(
 }
 
 impl Sweep for Again<'_> {
-    fn ends(&self, memory: &Refusing) -> Ended {
+    fn ends(&self, memory: &FailingAlloc) -> Ended {
         let Some(book) = worked(memory, self.alloc, self.file)? else {
             return Ok(true);
         };

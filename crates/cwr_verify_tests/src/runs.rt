@@ -2,10 +2,10 @@
 
 use byte_streams::{Feed, Room};
 use cwr_engine::{Job, work_alone};
-use cwr_sheets::{same, same_bytes, stamp};
-use cwr_verify::{NoAnswer, SentFile, Unverified, answer, verify};
+use cwr_verify::{NoAnswer, SentFile, VerifyError, answer, verify};
 use std::alloc::Global;
 use std::test::Fail;
+use test_files::{same, same_bytes, stamp};
 use work_registry::Book;
 
 /// Works a file at a book, and appends its acknowledgement.
@@ -43,13 +43,13 @@ pub(crate) fn work_three(
     work(alloc, book, works, answers)
 }
 
-/// What verifying two files, each with its acknowledgement, answers at a book.
+/// The result of verifying two files at a book, each with its acknowledgement.
 pub(crate) fn verified(
     alloc: Global,
     book: &Book,
     texts: [&[u8]; 2],
     acknowledgements: [&[u8]; 2],
-) -> Result<Vec<usize>, Unverified> {
+) -> Result<Vec<usize>, VerifyError> {
     let files = [
         SentFile {
             text: texts[0],
@@ -63,7 +63,9 @@ pub(crate) fn verified(
     verify(alloc, book, &files)
 }
 
-/// How making the acknowledgement of a file again ended, and what a writer has of it that takes so many bytes.
+/// Makes the acknowledgement of a file again, and returns how that ended and what was written. `alloc` allocates, and
+/// `book` has the entries. `file` is the file that was sent, and `entry` that of its first transaction, from 1, if it
+/// is named. The writer takes `size` bytes.
 pub(crate) fn answered_again(
     alloc: Global,
     book: &Book,
@@ -76,7 +78,9 @@ pub(crate) fn answered_again(
     Ok((told, writer.bytes().to_vec(alloc)?))
 }
 
-/// The acknowledgement of a file, made again, is this one.
+/// The acknowledgement of a file, made again, is this one. `alloc` allocates, and `book` has the entries. `file` is the
+/// file that was sent, and `entry` that of its first transaction, from 1, if it is named. `wanted` is the
+/// acknowledgement.
 pub(crate) fn expect_again(
     alloc: Global,
     book: &Book,
@@ -89,7 +93,9 @@ pub(crate) fn expect_again(
     same_bytes("the acknowledgement", &written, wanted)
 }
 
-/// The acknowledgement of a file is not made again, for this reason, and nothing is written.
+/// The acknowledgement of a file is not made again, and nothing is written. `alloc` allocates, and `book` has the
+/// entries. `file` is the file that was sent, and `entry` that of its first transaction, from 1, if it is named. `why`
+/// is the reason.
 pub(crate) fn expect_none(
     alloc: Global,
     book: &Book,

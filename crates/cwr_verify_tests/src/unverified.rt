@@ -1,10 +1,10 @@
 //! Files that a register does not answer.
 
 use crate::runs::{verified, work};
-use cwr_sheets::{miscounted, rival_claims, same, three_works};
-use cwr_verify::Unverified;
+use cwr_verify::VerifyError;
 use std::alloc::Global;
 use std::test::Fail;
+use test_files::{miscounted, rival_claims, same, three_works};
 use work_registry::Book;
 
 /// Where the line of the first transaction ends: HDR has 167 bytes, GRH 28 and ACK 159, each with CR LF.
@@ -23,7 +23,7 @@ fn damaged(alloc: Global, text: &[u8], from_end: usize) -> Result<Vec<u8>, Fail>
     Ok(other)
 }
 
-/// What is told of files that do not fit a register of two rival claims and three works.
+/// What is reported of files that do not fit a register of two rival claims and three works.
 fn expect_told(alloc: Global) -> Result<(), Fail> {
     let rivals = rival_claims(alloc)?;
     let first = rivals[0].as_slice();
@@ -69,7 +69,7 @@ fn expect_each<'a>(
         (
             refused,
             answer,
-            Unverified::Refused {
+            VerifyError::Refused {
                 file: 1,
                 number: 9,
                 line: 5,
@@ -85,13 +85,13 @@ fn expect_each<'a>(
 }
 
 /// This line of the second file's acknowledgement is another.
-fn other_line(line: usize) -> Unverified {
-    Unverified::Acknowledgement { file: 1, line }
+fn other_line(line: usize) -> VerifyError {
+    VerifyError::Acknowledgement { file: 1, line }
 }
 
 /// The transaction of this sequence of the second file has no entry.
-fn missing(sequence: u32) -> Unverified {
-    Unverified::Transaction {
+fn missing(sequence: u32) -> VerifyError {
+    VerifyError::Transaction {
         file: 1,
         group: 1,
         sequence,
@@ -103,8 +103,8 @@ fn tells_what_does_not_fit(rt: HostRuntime) -> Result<(), Fail> {
     expect_told(rt.alloc())
 }
 
-/// What is told of a file with a fault, and blanks behind it up to so many bytes.
-fn expect_padded(alloc: Global, size: usize, why: Unverified) -> Result<(), Fail> {
+/// What is reported of a file with a fault, and blanks behind it up to `size` bytes.
+fn expect_padded(alloc: Global, size: usize, why: VerifyError) -> Result<(), Fail> {
     let rivals = rival_claims(alloc)?;
     let first = rivals[0].as_slice();
     let mut answers = Vec::new(alloc);
@@ -121,7 +121,7 @@ fn expect_padded(alloc: Global, size: usize, why: Unverified) -> Result<(), Fail
 
 #[test]
 fn tells_a_fault_of_a_file_as_long_as_may_be(rt: HostRuntime) -> Result<(), Fail> {
-    let why = Unverified::Refused {
+    let why = VerifyError::Refused {
         file: 1,
         number: 9,
         line: 5,
@@ -131,5 +131,5 @@ fn tells_a_fault_of_a_file_as_long_as_may_be(rt: HostRuntime) -> Result<(), Fail
 
 #[test]
 fn tells_a_file_that_is_too_long_before_its_fault(rt: HostRuntime) -> Result<(), Fail> {
-    expect_padded(rt.alloc(), 16_777_217, Unverified::TooLong { file: 1 })
+    expect_padded(rt.alloc(), 16_777_217, VerifyError::TooLong { file: 1 })
 }

@@ -2,10 +2,10 @@
 
 use crate::three_ways::{expect_three_ways, nothing, whole};
 use cwr_desk::FileOutcome;
-use cwr_sheets::plain_file;
 use std::sync::Wait;
 use std::test::Fail;
 use std::thread::Threads;
+use test_files::plain_file;
 
 /// The plain file with 0 in place of the byte with this index, which is in this line.
 fn expect_byte_0<T: AllocGlobal + Threads + Wait + Sync>(

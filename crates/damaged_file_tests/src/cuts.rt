@@ -3,16 +3,16 @@
 use crate::three_ways::{NEW, Wanted, expect_three_ways, nothing, whole};
 use byte_streams::{Feed, Room};
 use cwr_desk::{FileOutcome, acknowledge};
-use cwr_sheets::{one_answer, plain_file, same, stamp};
 use std::alloc::Global;
 use std::sync::Wait;
 use std::test::Fail;
 use std::thread::Threads;
+use test_files::{one_answer, plain_file, same, stamp};
 
-/// How many bytes the last line of the plain file has, and its end.
+/// The number of bytes of the plain file's last line and its end.
 const LAST_LINE: usize = 26;
 
-/// The faults that some cuts leave, each with how many bytes remain. The plain file has so many bytes.
+/// The faults that some cuts leave, each with the number of bytes that remain. The plain file has `all` bytes.
 fn faults(all: usize) -> [(usize, FileOutcome); 9] {
     let five = all.saturating_sub(LAST_LINE);
     let refused = |number: u8, line: u64| FileOutcome::Refused { number, line };
@@ -36,7 +36,7 @@ fn end_of(alloc: Global, bytes: &[u8]) -> Result<FileOutcome, Fail> {
     Ok(acknowledge(alloc, &mut reader, &mut writer, &stamp()?))
 }
 
-/// What remains is refused, in each way for the same fault: that of the list, where it is there.
+/// What remains is refused, in each way for the same fault: that of the list, if it is in the list.
 fn expect_refused<T: AllocGlobal + Threads + Wait + Sync>(
     rt: &T,
     remains: &[u8],

@@ -2,10 +2,10 @@
 
 use crate::three_ways::{Ends, NEW, Wanted, expect_three_ways, nothing, whole};
 use cwr_desk::{FileOutcome, Why};
-use cwr_sheets::{one_answer, plain_file, same};
 use std::sync::Wait;
 use std::test::Fail;
 use std::thread::Threads;
+use test_files::{one_answer, plain_file, same};
 
 /// The reads of the plain file, a byte at a time, are one more than its bytes: the last one finds the end.
 #[test]
@@ -17,7 +17,7 @@ fn stops_where_a_read_fails(rt: HostRuntime) -> Result<(), Fail> {
     };
     for number in 0..=text.len() {
         let ends = Ends {
-            piece: 1,
+            chunk: 1,
             fail: Some(number as u64 + 1),
             ..whole(&text)
         };

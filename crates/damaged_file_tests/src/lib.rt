@@ -5,10 +5,10 @@
 #[cfg(test)]
 mod bytes;
 #[cfg(test)]
+mod chunks;
+#[cfg(test)]
 mod cuts;
 #[cfg(test)]
 mod failures;
-#[cfg(test)]
-mod pieces;
 #[cfg(test)]
 mod three_ways;

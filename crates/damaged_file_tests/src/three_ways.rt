@@ -3,12 +3,12 @@ ghost use Rattle.std.specs.Prelude.{◌≡◌, IfOk, false};
 
 use byte_streams::{Feed, Room};
 use cwr_desk::{Book, FileOutcome, Job, OpenGate, Reply, acknowledge, serve, serve_in_turn};
-use cwr_sheets::{same, same_bytes, stamp};
-use desk_runs::{accepted, expect_run};
 use std::alloc::Global;
 use std::sync::Wait;
 use std::test::Fail;
 use std::thread::Threads;
+use test_files::{same, same_bytes, stamp};
+use test_jobs::{accepted, expect_run};
 
 type MemoryJob<'a> = Job<Feed<'a>, Room>;
 
@@ -17,11 +17,11 @@ type MemoryJob<'a> = Job<Feed<'a>, Room>;
 pub(crate) struct Ends<'a> {
     /// The bytes of the file.
     pub(crate) bytes: &'a [u8],
-    /// How many of them a read gives at most. A read gives one at least.
-    pub(crate) piece: usize,
-    /// The read that fails, from 1 on, if one does.
+    /// The number of bytes that a read gives at most. A read gives at least one.
+    pub(crate) chunk: usize,
+    /// The read that fails, counted from 1, if one does.
     pub(crate) fail: Option<u64>,
-    /// How many bytes the writer takes.
+    /// The number of bytes that the writer takes.
     pub(crate) room: usize,
     /// Whether it fails when it is full, or takes nothing more.
     pub(crate) fails: bool,
@@ -31,14 +31,14 @@ pub(crate) struct Ends<'a> {
 pub(crate) fn whole(bytes: &[u8]) -> Ends<'_> {
     Ends {
         bytes,
-        piece: 4096,
+        chunk: 4096,
         fail: None,
         room: 425,
         fails: true,
     }
 }
 
-/// What must become of a file: how it ends, what is written, and the replies that its book holds.
+/// The required outcome of a file: how it ends, what is written, and the replies that its book holds.
 #[derive(Clone, Copy)]
 pub(crate) struct Wanted<'a> {
     pub(crate) end: FileOutcome,
@@ -52,7 +52,7 @@ pub(crate) const NEW: [Reply; 1] = [Reply::Accepted {
     version: 1,
 }];
 
-/// A file that ends so before anything is handed in.
+/// A file that ends like this before anything is handed in.
 pub(crate) fn nothing<'a>(end: FileOutcome) -> Wanted<'a> {
     Wanted {
         end,
@@ -64,7 +64,7 @@ pub(crate) fn nothing<'a>(end: FileOutcome) -> Wanted<'a> {
 fn reader<'a>(ends: Ends<'a>) -> Feed<'a>
     ensures { result.has_failed ≡ false }
 {
-    Feed::new(ends.bytes, ends.piece.max(1), ends.fail)
+    Feed::new(ends.bytes, ends.chunk.max(1), ends.fail)
 }
 
 fn job<'a>(alloc: Global, ends: Ends<'a>) -> Result<MemoryJob<'a>, Fail>

@@ -3,15 +3,15 @@ ghost use Rattle.std.specs.Prelude.{◌≡◌, true};
 ghost use Rattle.work_registry.specs.Replay.{is_opening};
 
 use cwr_desk::{Book, FileOutcome, OpenGate, RegisterRefusal, Reply, Why, audit, read_register};
-use cwr_sheets::{acknowledgement, decision, same, three_works};
-use desk_runs::{
-    MemoryRun, accepted, expect_ends, expect_history, expect_run, expect_written, run_at_desk,
-    run_in_turn, whole,
-};
 use std::alloc::Global;
 use std::sync::Wait;
 use std::test::Fail;
 use std::thread::Threads;
+use test_files::{acknowledgement, decision, same, three_works};
+use test_jobs::{
+    MemoryRun, accepted, expect_ends, expect_history, expect_run, expect_written, run_at_desk,
+    run_in_turn, whole,
+};
 
 /// How a file is worked: in turn, or at the desk.
 #[derive(Clone, Copy)]
@@ -20,7 +20,8 @@ enum Call {
     AtTheDesk,
 }
 
-/// Works one file in this way, with a book.
+/// Works one file. `rt` starts threads and waits, and `alloc` allocates. `call` says whether it is worked in turn or at
+/// the desk. `input` is worked into `book`.
 fn run_by<'a, T: Threads + Wait + Sync>(
     rt: &T,
     alloc: Global,
@@ -91,7 +92,8 @@ fn expect_continued(alloc: Global, run: &MemoryRun) -> Result<(), Fail> {
     expect_five(alloc, &run.book)
 }
 
-/// Works the file once more, with the book of a register and room for ten entries.
+/// Works the file once more, with a limit of ten entries. `rt` starts threads and waits, and `alloc` allocates. `call`
+/// says whether it is worked in turn or at the desk, `input` is the file, and `register` that of the book.
 fn run_again<'a, T: Threads + Wait + Sync>(
     rt: &T,
     alloc: Global,
@@ -112,7 +114,9 @@ fn expect_too_small(alloc: Global, register: &[u8]) -> Result<(), Fail> {
     same("why it is refused", &refused, &Some(too_many))
 }
 
-/// What the register of the book that was full is good for, and the file once more with it.
+/// Reads the register of the book that was full, and works the file once more with it. `rt` starts threads and waits,
+/// and `alloc` allocates. `call` says whether the file is worked in turn or at the desk, `input` is the file, and
+/// `register` that of the book.
 fn expect_register<T: Threads + Wait + Sync>(
     rt: &T,
     alloc: Global,

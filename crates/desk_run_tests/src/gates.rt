@@ -1,17 +1,17 @@
-//! Gates that shut, and one that keeps who passed it.
+//! Gates that close, and one that records who passed it.
 ghost use Rattle.std.specs.Prelude.{false, true};
 
 use crate::threads::serve_two;
 use cwr_desk::{Book, FileOutcome, Gate, Reply, Shut, Why};
-use cwr_sheets::{
-    OTHER_SENDER, SENDER, acknowledgement, decision, same, same_lists, three_works, work_twice,
-};
-use desk_runs::{MemoryRun, accepted, expect_ends, expect_run, expect_written, run_at_desk, whole};
 use std::alloc::Global;
 use std::sync::Mutex;
 use std::test::Fail;
+use test_files::{
+    OTHER_SENDER, SENDER, acknowledgement, decision, same, same_lists, three_works, work_twice,
+};
+use test_jobs::{MemoryRun, accepted, expect_ends, expect_run, expect_written, run_at_desk, whole};
 
-/// Is shut for one transaction of one worker.
+/// A gate that is closed for one transaction of one worker.
 #[derive(Drop)]
 struct ShutFor {
     worker: u32,
@@ -60,7 +60,8 @@ fn replies_of(alloc: Global, book: &Book, session: u32) -> Result<Vec<Reply>, Fa
     Ok(replies)
 }
 
-/// A job's session has these replies.
+/// A job's session has these replies. `alloc` allocates, and `book` has the entries of session `session`. `what` names
+/// the test, and `wanted` has the replies.
 fn expect_replies(
     alloc: Global,
     book: &Book,
@@ -84,7 +85,7 @@ fn expect_both(alloc: Global, book: &Book) -> Result<u32, Fail> {
     Ok(whole)
 }
 
-/// The acknowledgement of a file that holds a work twice, which has this number.
+/// The acknowledgement of a file that has a work twice. The work has this number.
 fn told_twice(alloc: Global, work: u32) -> Result<Vec<u8>, Fail> {
     let number = format!(in alloc; "{work:08}")?;
     let answers = [
@@ -134,7 +135,7 @@ const fn after(index: u32) -> Passed {
     Passed::After { worker: 1, index }
 }
 
-/// Lets everyone pass, and keeps who did, in order.
+/// Lets everyone pass, and records who did, in order.
 #[derive(Drop)]
 struct Recording {
     passed: Mutex<Vec<Passed>>,
@@ -188,7 +189,7 @@ fn each_transaction_passes_the_gate(rt: HostRuntime) -> Result<(), Fail> {
     expect_two_passed(&run, &gate.into_passed())
 }
 
-/// The first transaction passed the gate. The second one, for which the book had no room, did not get behind it.
+/// The first transaction passed the gate. The second one, for which the book had no room, did not pass it.
 fn expect_one_passed(run: &MemoryRun, passed: &[Passed]) -> Result<(), Fail> {
     let end = FileOutcome::Stopped {
         handed: 1,

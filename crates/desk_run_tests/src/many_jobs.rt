@@ -1,15 +1,15 @@
 //! Many jobs at one desk, and jobs that end in different ways beside one another.
 
 use cwr_desk::{Book, Entry, FileOutcome, OpenGate, Why};
-use cwr_sheets::{ALL, file, miscounted, one_answer, plain_file, same, work, writer};
-use desk_runs::{
-    ACKED, MemoryRun, accepted, expect_ends, expect_history, expect_written, run_at_desk,
-    run_whole_files, unread, with_room,
-};
 use std::alloc::Global;
 use std::sync::Wait;
 use std::test::Fail;
 use std::thread::Threads;
+use test_files::{ALL, file, miscounted, one_answer, plain_file, same, work, writer};
+use test_jobs::{
+    ACKED, MemoryRun, accepted, expect_ends, expect_history, expect_written, run_at_desk,
+    run_whole_files, unread, with_room,
+};
 
 /// The file of one new work of this sender.
 fn file_from(alloc: Global, sender: &str) -> Result<Vec<u8>, Fail> {
@@ -35,7 +35,7 @@ fn files(alloc: Global) -> Result<Vec<Vec<u8>>, Fail> {
     Ok(files)
 }
 
-/// How many of the entries are of this session and this submitter.
+/// The number of entries of this session and this submitter.
 fn entries_of(entries: &[Entry], session: u32, submitter: &[u8]) -> usize {
     let mut count: usize = 0;
     for entry in entries {

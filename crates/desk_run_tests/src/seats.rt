@@ -2,13 +2,13 @@
 use crate::threads::SecondFirst;
 use byte_streams::{Feed, Room};
 use cwr_desk::{Book, Desk, FileOutcome, Why, work};
-use cwr_sheets::{one_answer, rival_claims, same, same_bytes, stamp};
-use desk_runs::{ACKED, accepted, expect_history};
 use std::alloc::Global;
 use std::sync::Wait;
 use std::test::Fail;
+use test_files::{one_answer, rival_claims, same, same_bytes, stamp};
+use test_jobs::{ACKED, accepted, expect_history};
 
-/// What two seats leave: the book, and how each file ended and what was written of its acknowledgement.
+/// What two seats leave: the book, how each file ended and what was written of its acknowledgement.
 #[derive(Drop)]
 struct Worked {
     book: Book,
@@ -16,7 +16,7 @@ struct Worked {
     writers: [Room; 2],
 }
 
-/// Works two files at two seats of one desk, with a gate that lets worker 1 pass after worker 2 alone.
+/// Works two files at two seats of one desk, with a gate that lets worker 1 pass only after worker 2.
 fn work_two<T: Wait>(rt: &T, alloc: Global, one: &[u8], other: &[u8]) -> Result<Worked, Fail> {
     let stamp = stamp()?;
     let mut first_writer = Room::new(alloc, 425, true)?;

@@ -3,15 +3,15 @@ ghost use Rattle.std.specs.Prelude.{true};
 
 use crate::turns::expect_no_jobs;
 use cwr_desk::{Book, FileOutcome, Gate, OpenGate, Reply, Shut, Why};
-use cwr_sheets::{one_answer, plain_file, rival_claims, same};
-use desk_runs::{
-    ACKED, MemoryRun, accepted, expect_ends, expect_history, expect_written, run_at_desk, whole,
-};
 use std::alloc::Global;
 use std::sync::Wait;
 use std::sync::atomic::{AtomicU64, Ordering};
 use std::test::Fail;
 use std::thread::{Threads, yield_now};
+use test_files::{one_answer, plain_file, rival_claims, same};
+use test_jobs::{
+    ACKED, MemoryRun, accepted, expect_ends, expect_history, expect_written, run_at_desk, whole,
+};
 
 /// Holds each worker until two have come, and then worker 1 until worker 2 has its reply. It gives up after some time.
 #[derive(Drop)]
@@ -51,7 +51,8 @@ impl Gate for SecondFirst {
     }
 }
 
-/// Works two files at once, at an empty book of 100 entries.
+/// Works two files at once, at an empty book of 100 entries. `rt` starts threads and waits, and `alloc` allocates.
+/// `first` and `second` are the files, and `gate` is passed before and after each transaction.
 pub(crate) fn serve_two<'a, T: Threads + Wait + Sync, G: Gate + Sync>(
     rt: &T,
     alloc: Global,
@@ -101,7 +102,7 @@ fn one_worker_waits_in_vain(rt: HostRuntime) -> Result<(), Fail> {
     expect_stopped(&run)
 }
 
-/// What was written of the two acknowledgements of the plain file: the first, where it came first, tells a new work.
+/// What was written of the two acknowledgements of the plain file: the first accepts a new work if it came first.
 fn expect_both_written(alloc: Global, run: &MemoryRun, first_came: bool) -> Result<(), Fail> {
     let registered = one_answer(alloc, "AS")?;
     let duplicate = one_answer(alloc, "DU")?;

@@ -1,16 +1,16 @@
 //! Jobs in turn at one book.
 
 use cwr_desk::{Book, Claim, FileOutcome, Reply, Why};
-use cwr_sheets::{
-    OTHER_SENDER, SENDER, Told, acknowledgement, decision, miscounted, one_answer, one_work,
-    plain_file, same, same_bytes, three_works,
+use std::alloc::Global;
+use std::test::Fail;
+use test_files::{
+    FaultMessage, OTHER_SENDER, SENDER, acknowledgement, decision, miscounted, one_answer,
+    one_work, plain_file, same, same_bytes, three_works,
 };
-use desk_runs::{
+use test_jobs::{
     ACKED, MemoryRun, accepted, expect_ends, expect_history, expect_run, expect_written,
     run_in_turn, unread, whole, with_room,
 };
-use std::alloc::Global;
-use std::test::Fail;
 
 /// A run without files leaves no outcome and no job, and the book as it was: empty, with room for 100 entries.
 pub(crate) fn expect_no_jobs(run: &MemoryRun) -> Result<(), Fail> {
@@ -108,7 +108,7 @@ fn expect_second_reply(run: &MemoryRun, second: Reply) -> Result<(), Fail> {
     expect_history(&run.book, &[(1, accepted(1, 1)), (2, second)])
 }
 
-/// What becomes of a work of another submitter with the same number.
+/// The outcome for a work of another submitter with the same number.
 fn two_submitters(alloc: Global, iswc: &str, shares: [&str; 2], second: Reply) -> Result<(), Fail> {
     let one = one_work(alloc, SENDER, "NWR", "W1", iswc, ["05000", "05000"])?;
     let other = one_work(alloc, OTHER_SENDER, "NWR", "W1", iswc, shares)?;
@@ -201,7 +201,7 @@ fn run_all(alloc: Global, files: &[Vec<u8>]) -> Result<MemoryRun<'_>, Fail> {
     run_in_turn(alloc, Book::new(alloc, 100), &inputs)
 }
 
-/// A run of so many files, each of which was acknowledged.
+/// A run of `files` files, each of which was acknowledged.
 fn expect_all_acknowledged(run: &MemoryRun, files: usize) -> Result<(), Fail> {
     for outcome in &run.outcomes {
         same("how a file ended", outcome, &ACKED)?;
@@ -296,7 +296,7 @@ fn a_new_version_with_another_iswc(rt: HostRuntime) -> Result<(), Fail> {
 #[test]
 fn a_new_version_with_a_wrong_iswc(rt: HostRuntime) -> Result<(), Fail> {
     let alloc = rt.alloc();
-    let faults: &[Told] = &[(0, "REV", 4, "ISWC IS NOT VALID")];
+    let faults: &[FaultMessage] = &[(0, "REV", 4, "ISWC IS NOT VALID")];
     let answers = [decision(0, "REV", "W1", "", "RJ", faults)];
     let written = acknowledgement(alloc, &answers)?;
     expect_last(alloc, "T0000000019", Reply::Rejected, &written)

@@ -31,7 +31,7 @@ const BAD: &[u8] = b"\
 HDRPB000000456PUBLISHER B                                  01.102024050112000020240501\n\
 TRL000000000000000000003\n";
 
-/// A job over bytes in memory, with room for an acknowledgement of so many bytes.
+/// A job over bytes in memory, with room for an acknowledgement of `size` bytes.
 fn job(alloc: Global, bytes: &'static [u8], size: usize) -> Result<MemoryJob, Memory>
     ensures { IfOk result (λ j. (j.reader.has_failed ≡ false) × (j.writer.has_failed ≡ false)) }
 {
@@ -58,23 +58,29 @@ fn stamp() -> Option<Stamp> {
     Stamp::new(7, b"MY SOCIETY", day, clock)
 }
 
-/// Works both jobs at once, each on a thread of its own. `None` where memory was refused.
+/// Works both jobs at once, each on a thread of its own. `None` if an allocation failed.
 fn work_both<R: Threads + Wait + Sync>(rt: &R, alloc: Global) -> Option<MemoryRun> {
     let jobs = both_jobs(alloc).ok()?;
     let book = Book::new(alloc, 1000);
     serve(rt, alloc, jobs, book, &stamp()?, &OpenGate).ok()
 }
 
-/// Tells what became of a job.
-fn tell<R: Print>(rt: &R, alloc: Global, name: &str, outcome: &FileOutcome, job: &MemoryJob) {
+/// Prints how a job ended. `rt` prints, `alloc` allocates, `name` is that of the file, and `outcome` how `job` ended.
+fn print_outcome<R: Print>(
+    rt: &R,
+    alloc: Global,
+    name: &str,
+    outcome: &FileOutcome,
+    job: &MemoryJob,
+) {
     if let Ok(line) = outcome_line(alloc, name.as_bytes(), outcome) {
         let _ = rt.write_all(&line);
     }
     let _ = println!(rt; "{} bytes of acknowledgement", job.writer.bytes().len());
 }
 
-/// Tells what the book has under the number of the first work.
-fn tell_claim<R: Print>(rt: &R, book: &Book) {
+/// Prints the claim that the book has under the number of the first work.
+fn print_claim<R: Print>(rt: &R, book: &Book) {
     if let Some(claim) = book.claim(b"PB000000123", b"A-1           ") {
         let _ = println!(rt; "work {}, version {}", claim.work, claim.version);
     }
@@ -91,9 +97,9 @@ fn main(rt: HostRuntime) -> ExitCode {
         return ExitCode::FAILURE;
     };
     for (outcome, job) in run.outcomes.iter().zip(&run.jobs) {
-        tell(&rt, rt.alloc(), "job", outcome, job);
+        print_outcome(&rt, rt.alloc(), "job", outcome, job);
     }
-    tell_claim(&rt, &run.book);
+    print_claim(&rt, &run.book);
     let Some(book) = read_again(rt.alloc(), &run.book) else {
         return ExitCode::FAILURE;
     };

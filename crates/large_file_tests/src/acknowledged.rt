@@ -1,13 +1,13 @@
 //! Files of real size, acknowledged.
 
 use byte_streams::{Feed, ReadRefused, Room, read_file};
-use cwr_desk::{FileOutcome, MOST_BYTES, Why, acknowledge};
-use cwr_sheets::{
+use cwr_desk::{FileOutcome, MAX_BYTES, Why, acknowledge};
+use std::alloc::Global;
+use std::test::Fail;
+use test_files::{
     SENDER, acknowledgement, crowded_faults, crowded_work, decision, many_answers, many_groups,
     many_works, same, same_bytes, stamp,
 };
-use std::alloc::Global;
-use std::test::Fail;
 
 /// Acknowledges a file: how it must end, and what must be written.
 fn expect(alloc: Global, input: &[u8], end: FileOutcome, written: &[u8]) -> Result<(), Fail> {
@@ -31,7 +31,7 @@ fn acknowledges_70_000_transactions(rt: HostRuntime) -> Result<(), Fail> {
 /// The acknowledgement goes out in three pieces, the first two of 407 lines each. The writer fails before, at and after
 /// their ends.
 #[test]
-fn stops_in_each_piece_of_an_acknowledgement(rt: HostRuntime) -> Result<(), Fail> {
+fn stops_in_each_chunk_of_an_acknowledgement(rt: HostRuntime) -> Result<(), Fail> {
     let alloc = rt.alloc();
     let input = many_works(alloc, SENDER, 1000)?;
     let answers = many_answers(alloc, 1000, 0)?;
@@ -77,7 +77,7 @@ fn refuses_one_group_more(rt: HostRuntime) -> Result<(), Fail> {
     expect(rt.alloc(), &input, end, b"")
 }
 
-/// The most bytes of a file.
+/// The greatest number of bytes of a file.
 const LIMIT: usize = 16_777_216;
 
 const TOO_LONG: FileOutcome = FileOutcome::Stopped {
@@ -99,7 +99,7 @@ fn refuses_line_ends_alone(rt: HostRuntime) -> Result<(), Fail> {
 #[test]
 fn acknowledges_16_777_216_bytes(rt: HostRuntime) -> Result<(), Fail> {
     let alloc = rt.alloc();
-    same("the limit", &MOST_BYTES, &LIMIT)?;
+    same("the limit", &MAX_BYTES, &LIMIT)?;
     let mut input = many_works(alloc, SENDER, 70_000)?;
     input.resize(LIMIT, b' ')?;
     let end = FileOutcome::Acked {
@@ -110,7 +110,7 @@ fn acknowledges_16_777_216_bytes(rt: HostRuntime) -> Result<(), Fail> {
     expect(alloc, &input, TOO_LONG, b"")
 }
 
-/// Reads these bytes, of which at most so many are taken.
+/// Reads these bytes, of which at most `limit` are taken.
 fn read(alloc: Global, bytes: &[u8], limit: usize) -> Result<Vec<u8>, ReadRefused> {
     read_file(alloc, &mut Feed::new(bytes, 65_536, None), limit)
 }

@@ -3,17 +3,17 @@ ghost use Rattle.std.specs.Prelude.{◌≡◌, true};
 ghost use Rattle.work_registry.specs.Replay.{is_opening};
 
 use cwr_desk::{Book, FileOutcome, OpenGate, Why, audit, read_register};
-use cwr_sheets::{OTHER_SENDER, SENDER, many_answers, many_entries, many_works, same, same_bytes};
-use desk_runs::{MemoryRun, expect_ends, expect_written, run_at_desk, run_in_turn, with_room};
 use std::alloc::Global;
 use std::sync::Wait;
 use std::test::Fail;
 use std::thread::Threads;
+use test_files::{OTHER_SENDER, SENDER, many_answers, many_entries, many_works, same, same_bytes};
+use test_jobs::{MemoryRun, expect_ends, expect_written, run_at_desk, run_in_turn, with_room};
 
-/// The most bytes that an acknowledgement has here.
+/// A bound on the bytes of an acknowledgement here.
 const ROOM: usize = 10_000_000;
 
-/// Half of the entries, which is how many works each of two files has.
+/// Half of the entries, which is the number of works of each of two files.
 const HALF: u32 = 50_000;
 
 const WHOLE: FileOutcome = FileOutcome::Acked { transactions: HALF };
@@ -72,7 +72,7 @@ fn stops_at_the_last_of_100_000(rt: HostRuntime) -> Result<(), Fail> {
     same("entries", &run.book.len(), &99_999)
 }
 
-/// A book has so many entries and this register.
+/// A book has `entries` entries and this register.
 fn expect_book(alloc: Global, book: &Book, entries: usize, register: &[u8]) -> Result<(), Fail> {
     same("entries", &book.len(), &entries)?;
     same_bytes("its register", &book.write_register(alloc)?, register)
@@ -122,7 +122,7 @@ fn run_four<'a, T: Threads + Wait + Sync>(
     run_at_desk(rt, alloc, Book::new(alloc, 100_000), &inputs, &OpenGate)
 }
 
-/// How many entries of a book are of a session.
+/// The number of entries of a book that are of a session.
 fn entries_of(book: &Book, session: u32) -> usize {
     let mut count: usize = 0;
     for entry in book.history() {

@@ -2,14 +2,14 @@
 ghost use Rattle.std.specs.Prelude.{true};
 
 use cwr_desk::{Book, FileOutcome, Gate, Shut, audit};
-use cwr_sheets::{many_works, same};
-use desk_runs::{MemoryRun, expect_ends, run_whole_files};
 use std::alloc::Global;
 use std::sync::atomic::{AtomicU64, Ordering};
 use std::test::Fail;
 use std::thread::yield_now;
+use test_files::{many_works, same};
+use test_jobs::{MemoryRun, expect_ends, run_whole_files};
 
-/// How many works each file has.
+/// The number of works of each file.
 const WORKS: u32 = 40;
 
 /// Holds each worker at its first transaction until all 63 have come, so that all are at the desk at once. It gives up

@@ -2,15 +2,15 @@
 
 use byte_streams::Feed;
 use cwr_check::{Checked, check_source, check_text};
-use cwr_desk::MOST_BYTES;
+use cwr_desk::MAX_BYTES;
 use cwr_grammar::{RawTransaction, Submission, WorkKind, parse_file};
 use cwr_rules::{Call, judge};
-use cwr_sheets::{
-    SENDER, Told, crowded_faults, crowded_work, many_checked, many_works, same, same_bytes,
-};
 use cwr_source::WINDOW;
 use std::alloc::Global;
 use std::test::Fail;
+use test_files::{
+    FaultMessage, SENDER, crowded_faults, crowded_work, many_checked, many_works, same, same_bytes,
+};
 
 /// The transaction at a place of a file of many works.
 fn expect_transaction(transaction: &RawTransaction, place: u32) -> Result<(), Fail> {
@@ -38,7 +38,7 @@ fn reads_70_000_transactions(rt: HostRuntime) -> Result<(), Fail> {
     expect_70_000(&parse_file(rt.alloc(), &text)?)
 }
 
-/// What a check must tell of a file.
+/// What a check must print of a file.
 fn expect_checked(checked: &Checked, wanted: &[u8]) -> Result<(), Fail> {
     same("whether it is clean", &checked.clean, &false)?;
     same_bytes("what was told", &checked.text, wanted)
@@ -55,16 +55,16 @@ fn checks_70_000_transactions(rt: HostRuntime) -> Result<(), Fail> {
 fn checks_70_000_transactions_through_a_window(rt: HostRuntime) -> Result<(), Fail> {
     let text = many_works(rt.alloc(), SENDER, 70_000)?;
     let wanted = many_checked(rt.alloc(), 70_000)?;
-    for piece in [1000, 1_000_000] {
-        let mut reader = Feed::new(&text, piece, None);
-        let checked = check_source(rt.alloc(), &mut reader, MOST_BYTES, WINDOW)?;
+    for chunk in [1000, 1_000_000] {
+        let mut reader = Feed::new(&text, chunk, None);
+        let checked = check_source(rt.alloc(), &mut reader, MAX_BYTES, WINDOW)?;
         expect_checked(&checked, &wanted)?;
     }
     Ok(())
 }
 
 /// A call has these faults.
-fn expect_faults(call: &Call, wanted: &[Told]) -> Result<(), Fail> {
+fn expect_faults(call: &Call, wanted: &[FaultMessage]) -> Result<(), Fail> {
     for (fault, (sequence, rtype, number, _)) in call.faults().iter().zip(wanted) {
         let found = (fault.sequence, fault.rtype.as_slice(), fault.number as u32);
         same("a fault", &found, &(*sequence, rtype.as_bytes(), *number))?;
@@ -72,12 +72,12 @@ fn expect_faults(call: &Call, wanted: &[Told]) -> Result<(), Fail> {
     same("faults", &call.faults().len(), &wanted.len())
 }
 
-/// The one transaction of a file has so many lines and these faults.
+/// The one transaction of a file has `lines` lines and these faults.
 fn expect_crowded(
     alloc: Global,
     file: &Submission,
     lines: usize,
-    wanted: &[Told],
+    wanted: &[FaultMessage],
 ) -> Result<(), Fail> {
     same("transactions", &file.transactions.len(), &1)?;
     let transaction = file.transactions.get(0).ok_or("a transaction")?;
@@ -95,8 +95,8 @@ fn judges_30_000_records(rt: HostRuntime) -> Result<(), Fail> {
     expect_crowded(alloc, &parse_file(alloc, &text)?, 30_000, &faults)
 }
 
-/// What a check tells of one transaction with these faults.
-fn told(alloc: Global, faults: &[Told]) -> Result<String, Fail> {
+/// What a check prints of one transaction with these faults.
+fn told(alloc: Global, faults: &[FaultMessage]) -> Result<String, Fail> {
     let mut text = String::from_str(alloc, "00001 00000000 NWR rejected")?;
     for (sequence, _, number, _) in faults {
         text.push_str(&format!(in alloc; " {sequence}:J{number}")?)?;

@@ -11,14 +11,14 @@ use std::test::Fail;
 pub(crate) struct Beginning {
     /// The register that it goes on from, if it is not empty.
     register: Option<Vec<u8>>,
-    /// How many entries it may hold.
+    /// The number of entries that it may hold.
     limit: u32,
     ghost least: { 1 ≤ limit },
     ghost most: { limit ≤ 10000 },
 }
 
 impl Beginning {
-    /// An empty book of so many entries.
+    /// An empty book that may hold `limit` entries.
     pub(crate) fn empty(limit: u32) -> Beginning
         requires least { 1 ≤ limit }
         requires most { limit ≤ 10000 }
@@ -29,7 +29,7 @@ impl Beginning {
         }
     }
 
-    /// A book that goes on from a register and may hold so many entries.
+    /// A book that goes on from a register and may hold `limit` entries.
     pub(crate) fn after(register: Vec<u8>, limit: u32) -> Beginning
         requires least { 1 ≤ limit }
         requires most { limit ≤ 10000 }
@@ -40,7 +40,7 @@ impl Beginning {
         }
     }
 
-    /// A book that begins so.
+    /// A book with this beginning.
     pub(crate) fn book(&self, alloc: Global) -> Result<Book, Fail>
         ensures { IfOk result (λ book. is_opening book.history ≡ true) }
     {

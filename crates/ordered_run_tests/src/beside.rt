@@ -5,16 +5,16 @@ use crate::same_runs::expect_same_books;
 use crate::stock::{stock, ten_files};
 use byte_streams::{Failed, ReadCount, Sink, Source};
 use cwr_desk::{Book, Job, Run, serve_in_order};
-use cwr_sheets::{
-    OTHER_SENDER, SENDER, many_works, plain_file, same, same_bytes, same_lists, stamp,
-};
-use desk_runs::{MemoryRun, all_with_room, run_in_turn};
 use std::alloc::Global;
 use std::sync::atomic::{AtomicU64, Ordering};
 use std::test::Fail;
 use std::thread::{Threads, yield_now};
+use test_files::{
+    OTHER_SENDER, SENDER, many_works, plain_file, same, same_bytes, same_lists, stamp,
+};
+use test_jobs::{MemoryRun, all_with_room, run_in_turn};
 
-/// How often a reader or a writer looks for the others before it gives up.
+/// The number of times that a reader or a writer looks for the others before it gives up.
 const LOOKS: u64 = 10_000_000;
 
 /// What a reader or a writer has to do with those of other files.
@@ -24,12 +24,12 @@ enum Turn<'a> {
     Free,
     /// It is counted: a reader when it has found its end, and a writer when it has taken bytes.
     Counted(&'a AtomicU64),
-    /// It begins once so many others were counted.
+    /// It begins once this number of others were counted.
     After(&'a AtomicU64, u64),
 }
 
 impl Turn<'_> {
-    /// Waits until it may begin. Answers whether it may: it gives up after some time.
+    /// Waits until it may begin, and returns whether it may: it gives up after some time.
     fn may_begin(self) -> bool {
         match self {
             Turn::Free | Turn::Counted(_) => true,
@@ -37,7 +37,7 @@ impl Turn<'_> {
         }
     }
 
-    /// Counts it, where it is to be counted.
+    /// Counts it, if it is to be counted.
     fn count(self) {
         if let Turn::Counted(counted) = self {
             counted.fetch_add(1, Ordering::SeqCst);
@@ -45,7 +45,7 @@ impl Turn<'_> {
     }
 }
 
-/// Waits until so many were counted. Answers whether they were: it gives up after some time.
+/// Waits until `wanted` were counted, and returns whether they were: it gives up after some time.
 fn were_counted(counted: &AtomicU64, wanted: u64) -> bool {
     for _ in 0..LOOKS {
         if counted.load(Ordering::SeqCst) >= wanted {
@@ -56,7 +56,7 @@ fn were_counted(counted: &AtomicU64, wanted: u64) -> bool {
     false
 }
 
-/// A source over bytes in memory, which may wait before it gives the first of them. It fails where it waited in vain.
+/// A source over bytes in memory, which may wait before it gives the first of them. It fails if it waited in vain.
 #[derive(Drop)]
 struct WaitingReader<'a> {
     left: &'a [u8],
@@ -94,7 +94,7 @@ impl Source for WaitingReader<'_> {
     }
 }
 
-/// A sink that keeps what it takes in memory, and may wait before it takes the first. It fails where it waited in vain.
+/// A sink that keeps what it takes in memory, and may wait before it takes the first. It fails if it waited in vain.
 #[derive(Drop)]
 struct WaitingWriter<'a> {
     bytes: Vec<u8>,
@@ -202,7 +202,8 @@ fn jobs<'a>(
     Ok(jobs)
 }
 
-/// Works files in their order, with an empty book of 4,000 entries.
+/// Works files in their order, with an empty book of 4,000 entries. `rt` starts threads, and `alloc` allocates. `waits`
+/// says which readers or writers of `files` wait for which others, and `counted` counts those that others wait for.
 fn run_waiting<'a, T: Threads + Sync>(
     rt: &T,
     alloc: Global,

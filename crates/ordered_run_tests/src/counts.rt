@@ -1,10 +1,10 @@
-//! How often each kind of end, of reply and of set came, so that no test passes by making nothing.
+//! The number of times that each kind of end, of reply and of set came, so that no test passes by making nothing.
 
 use cwr_desk::{FileOutcome, Reply, Why};
-use cwr_sheets::same;
 use std::test::Fail;
+use test_files::same;
 
-/// How often each kind must have come, at least.
+/// The number of times that each kind must have come, at least.
 const OFTEN: u32 = 40;
 
 /// Something must have come often.
@@ -12,7 +12,7 @@ fn expect_often(what: &str, count: u32) -> Result<(), Fail> {
     same(what, &(count, count >= OFTEN), &(count, true))
 }
 
-/// How often jobs ended in each way.
+/// The number of jobs that ended in each way.
 #[derive(Default, Drop)]
 pub(crate) struct Ends {
     acknowledged: u32,
@@ -52,7 +52,7 @@ impl Ends {
     }
 }
 
-/// How often each reply came.
+/// The number of times that each reply came.
 #[derive(Default, Drop)]
 pub(crate) struct Replies {
     new: u32,
@@ -84,7 +84,7 @@ impl Replies {
     }
 }
 
-/// How many sets were of each size, and how many went on from a register.
+/// The number of sets of each size, and of those that went on from a register.
 #[derive(Default, Drop)]
 pub(crate) struct Sizes {
     empty: u32,
@@ -95,7 +95,7 @@ pub(crate) struct Sizes {
 }
 
 impl Sizes {
-    /// Counts a set of so many files, and whether there were entries before it.
+    /// Counts a set of `files` files, and whether there were entries before it.
     pub(crate) fn count(&mut self, files: usize, is_continued: bool) {
         match files {
             0 => one_more(&mut self.empty),

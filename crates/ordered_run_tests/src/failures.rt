@@ -4,11 +4,11 @@ use crate::beginnings::Beginning;
 use crate::same_runs::expect_as_in_turn;
 use crate::stock::ten_files;
 use cwr_desk::{FileOutcome, Why};
-use cwr_sheets::same;
-use desk_runs::{ACKED, Input, all_with_room, with_room};
 use std::alloc::Global;
 use std::test::Fail;
 use std::thread::Threads;
+use test_files::same;
+use test_jobs::{ACKED, Input, all_with_room, with_room};
 
 /// Where the three files stand: the first one and a middle one of the first eight, and the ninth. Each holds one work.
 const PLACES: [usize; 3] = [0, 4, 8];
@@ -16,10 +16,10 @@ const PLACES: [usize; 3] = [0, 4, 8];
 /// Room for each acknowledgement.
 const AMPLE: usize = 4000;
 
-/// How many bytes a read of the three files gives.
-const PIECE: usize = 4;
+/// The number of bytes that a read of the three files gives.
+const CHUNK: usize = 4;
 
-/// How many bytes the acknowledgement of one work has.
+/// The number of bytes of the acknowledgement of one work.
 const ANSWER: usize = 425;
 
 /// What fails of a file.
@@ -30,7 +30,7 @@ enum Fails {
 }
 
 impl Fails {
-    /// In how many places it may fail. Behind the last of them is the end, so that it does not fail.
+    /// The number of places where it may fail. Behind the last of them is the end, so that it does not fail.
     fn places(self) -> usize {
         match self {
             Fails::Reader => 160,
@@ -38,11 +38,11 @@ impl Fails {
         }
     }
 
-    /// A file of which it fails after so many pieces or bytes.
+    /// A file of which it fails after `after` pieces or bytes.
     fn input(self, bytes: &[u8], after: usize) -> Input<'_> {
         match self {
             Fails::Reader => Input {
-                piece: PIECE,
+                chunk: CHUNK,
                 fail: Some((after as u64).saturating_add(1)),
                 ..with_room(bytes, AMPLE)
             },
@@ -61,14 +61,14 @@ impl Fails {
             why: Why::Write { sent: after as u64 },
         };
         match self {
-            Fails::Reader if after <= bytes.len().div_ceil(PIECE) => unread,
+            Fails::Reader if after <= bytes.len().div_ceil(CHUNK) => unread,
             Fails::Writer if after < ANSWER => unwritten,
             Fails::Reader | Fails::Writer => ACKED,
         }
     }
 
-    /// After how many pieces or bytes it fails of one of the three, counted from 0, in a run: elsewhere than of the other
-    /// two. In as many runs as there are places it fails in each.
+    /// The number of pieces or bytes after which it fails, for one of the three, counted from 0, in a run. It differs
+    /// from that of the other two. In as many runs as there are places, it fails in each place.
     fn after(self, run: usize, which: usize) -> usize {
         let ahead = which.saturating_mul(self.places() / 3);
         run.saturating_add(ahead) % self.places().max(1)
@@ -90,7 +90,7 @@ fn inputs<'a>(
     Ok(inputs)
 }
 
-/// The three files must have ended where something failed of them.
+/// The three files must have ended where something of them failed.
 fn expect_ends(
     files: &[Vec<u8>],
     fails: Fails,
@@ -110,7 +110,8 @@ fn expect_ends(
     Ok(())
 }
 
-/// Works the files in both ways.
+/// Works the files in both ways. `rt` starts threads, and `alloc` allocates. `files` are worked, and `fails` says what
+/// fails of three of them. `run` is the number of the run, from 0.
 fn expect_run<T: Threads + Sync>(
     rt: &T,
     alloc: Global,

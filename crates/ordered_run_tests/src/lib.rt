@@ -1,5 +1,5 @@
-//! Tests that files worked in their order, and read on threads, leave what the same files leave worked in turn: made sets
-//! of files, readers and writers that fail, long files, and readers and writers that wait for others.
+//! Tests that files worked in their order, and read on threads, leave what the same files leave worked in turn. They
+//! take made sets of files, readers and writers that fail, long files, and readers and writers that wait for others.
 #![tactic(auto)]
 
 #[cfg(test)]

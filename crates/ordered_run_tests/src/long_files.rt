@@ -4,16 +4,16 @@ ghost use Rattle.std.specs.Prelude.{◌≤◌};
 use crate::beginnings::Beginning;
 use crate::same_runs::expect_as_in_turn;
 use cwr_desk::{FileOutcome, Why};
-use cwr_sheets::{OTHER_SENDER, SENDER, many_works, miscounted, plain_file, three_works};
-use desk_runs::{ACKED, Input, MemoryRun, all_with_room, expect_ends, with_room};
 use std::alloc::Global;
 use std::test::Fail;
 use std::thread::Threads;
+use test_files::{OTHER_SENDER, SENDER, many_works, miscounted, plain_file, three_works};
+use test_jobs::{ACKED, Input, MemoryRun, all_with_room, expect_ends, with_room};
 
 /// Room for each acknowledgement.
 const AMPLE: usize = 200_000;
 
-/// Puts the files of a group of eight behind other files. Three of their acknowledgements are written on threads: the
+/// Puts the files of a group of eight behind other files. Three of their acknowledgements are written on threads. The
 /// sixth file has one transaction too few for that, and behind the eighth one of the group there is none to be decided
 /// meanwhile.
 fn push_group(files: &mut Vec<Vec<u8>>, alloc: Global) -> Result<(), Fail> {
@@ -50,7 +50,7 @@ fn acknowledged(transactions: u32) -> FileOutcome {
 
 const MISCOUNTED: FileOutcome = FileOutcome::Refused { number: 9, line: 5 };
 
-/// Works files in both ways, with a book of so many entries.
+/// Works files in both ways, with a book of `limit` entries.
 fn run_both<'a, T: Threads + Sync>(
     rt: &T,
     alloc: Global,
@@ -63,7 +63,7 @@ fn run_both<'a, T: Threads + Sync>(
     expect_as_in_turn(rt, alloc, "long files", &Beginning::empty(limit), inputs)
 }
 
-/// How the files end where nothing fails.
+/// How the files end if nothing fails.
 fn whole_ends() -> [FileOutcome; 11] {
     [
         acknowledged(1001),
@@ -89,8 +89,8 @@ fn whole_files(rt: HostRuntime) -> Result<(), Fail> {
     expect_ends(&run, &whole_ends())
 }
 
-/// The writers of the long files that fail: their places, and after how many bytes. An acknowledgement goes out in
-/// pieces, the first of 65,404 bytes.
+/// The writers of the long files that fail: their places, and the number of bytes after which they fail. An
+/// acknowledgement goes out in pieces, the first of 65,404 bytes.
 const ROOMS: [(usize, usize); 5] = [(0, 0), (2, 1), (4, 65_404), (7, 65_405), (9, 130_000)];
 
 /// The files, with little room for the acknowledgements of the long ones.
@@ -111,7 +111,7 @@ fn unwritten(handed: u32, sent: u64) -> FileOutcome {
     }
 }
 
-/// How the files end where the writers of the long ones fail.
+/// How the files end if the writers of the long ones fail.
 fn unwritten_ends() -> [FileOutcome; 11] {
     [
         unwritten(1001, 0),
@@ -148,12 +148,12 @@ fn with_failing_reader(alloc: Global, files: &[Vec<u8>]) -> Result<Vec<Input<'_>
     Ok(inputs)
 }
 
-/// So many transactions of a file were decided, and then the job was stopped.
+/// `handed` transactions of a file were decided, and then the job was stopped.
 fn stopped(handed: u32, why: Why) -> FileOutcome {
     FileOutcome::Stopped { handed, why }
 }
 
-/// How the files end where the first one is not read to its end, and the book is full in the middle of the fifth.
+/// How the files end if the first one is not read to its end, and the book is full in the middle of the fifth.
 fn full_ends() -> [FileOutcome; 11] {
     [
         stopped(0, Why::Read),

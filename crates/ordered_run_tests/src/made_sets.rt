@@ -6,18 +6,18 @@ use crate::numbers::Numbers;
 use crate::same_runs::expect_as_in_turn;
 use crate::stock::stock;
 use cwr_desk::Book;
-use desk_runs::{Input, MemoryRun, run_in_turn, with_room};
 use std::alloc::Global;
 use std::test::Fail;
 use std::thread::Threads;
+use test_jobs::{Input, MemoryRun, run_in_turn, with_room};
 
-/// How many sets a test makes.
+/// The number of sets that a test makes.
 const SETS: u32 = 200;
 
 /// Room for each acknowledgement.
 const AMPLE: usize = 4000;
 
-/// How many entries a book may hold that never is full.
+/// The limit of a book that is never full.
 const MANY: u32 = 1000;
 
 /// Files to be worked, and the book that their run begins with.
@@ -27,7 +27,7 @@ struct Made<'a> {
     beginning: Beginning,
 }
 
-/// How many files a set has: none, all that a run takes, up to that, and mostly 1 to 20.
+/// The number of files of a set: none, the greatest number that a run takes, up to that, and mostly 1 to 20.
 fn size(numbers: &mut Numbers) -> usize {
     match numbers.below(24) {
         0 => 0,
@@ -69,13 +69,13 @@ fn input<'a>(numbers: &mut Numbers, bytes: &'a [u8]) -> Input<'a> {
     let little = numbers.below(10) == 0;
     let room = if little { numbers.below(600) } else { AMPLE };
     Input {
-        piece: 1 + numbers.below(600),
+        chunk: 1 + numbers.below(600),
         fail: failing_read(numbers),
         ..with_room(bytes, room)
     }
 }
 
-/// So many files.
+/// `count` files.
 fn inputs<'a>(
     alloc: Global,
     numbers: &mut Numbers,
@@ -98,7 +98,7 @@ fn earlier_book(alloc: Global, numbers: &mut Numbers, stock: &[Vec<u8>]) -> Resu
     Ok(run.book)
 }
 
-/// A book that goes on from the register of an earlier run, with room for up to thirty entries more.
+/// A book that goes on from the register of an earlier run, and may hold up to thirty more entries.
 fn continued(alloc: Global, numbers: &mut Numbers, stock: &[Vec<u8>]) -> Result<Beginning, Fail> {
     let book = earlier_book(alloc, numbers, stock)?;
     let entries = book.len().saturating_add(numbers.below(31));
@@ -106,7 +106,7 @@ fn continued(alloc: Global, numbers: &mut Numbers, stock: &[Vec<u8>]) -> Result<
     Ok(Beginning::after(book.write_register(alloc)?, limit))
 }
 
-/// An empty book of up to thirty entries, one that never is full, or one that goes on from a register.
+/// An empty book of up to thirty entries, one that is never full, or one that goes on from a register.
 fn beginning(alloc: Global, numbers: &mut Numbers, stock: &[Vec<u8>]) -> Result<Beginning, Fail> {
     match numbers.below(3) {
         0 => Ok(Beginning::empty(MANY)),
@@ -129,7 +129,7 @@ fn make_set<'a>(
     })
 }
 
-/// What came in all sets so far.
+/// The kinds that came in all sets so far.
 #[derive(Default, Drop)]
 struct Came {
     ends: Ends,
@@ -138,7 +138,7 @@ struct Came {
 }
 
 impl Came {
-    /// Counts what came in a set.
+    /// Counts the kinds that came in a set.
     fn count(&mut self, run: &MemoryRun) {
         for outcome in &run.outcomes {
             self.ends.count(outcome);
@@ -162,7 +162,8 @@ impl Came {
     }
 }
 
-/// Works a set in both ways.
+/// Works a set in both ways. `rt` starts threads, and `alloc` allocates. `set` is worked, `number` is its number, and
+/// `came` counts the kinds that came.
 fn expect_set<T: Threads + Sync>(
     rt: &T,
     alloc: Global,

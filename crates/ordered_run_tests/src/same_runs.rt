@@ -1,13 +1,13 @@
-//! Files worked in both ways, and what is left of the one beside what is left of the other.
+//! Files worked in both ways, and what both leave compared.
 
 use crate::beginnings::Beginning;
 use byte_streams::{Room, Sink, Source};
 use cwr_desk::{Book, Job};
-use cwr_sheets::{same, same_bytes, same_lists};
-use desk_runs::{Input, MemoryRun, run_in_order, run_in_turn};
 use std::alloc::Global;
 use std::test::Fail;
 use std::thread::Threads;
+use test_files::{same, same_bytes, same_lists};
+use test_jobs::{Input, MemoryRun, run_in_order, run_in_turn};
 
 /// The writers of two runs must have taken the same bytes, and the same readers and writers must have failed.
 fn expect_same_jobs<R: Source>(
@@ -43,8 +43,8 @@ pub(crate) fn expect_same_books(
     same_bytes(what, &register, &wanted.write_register(alloc)?)
 }
 
-/// Works files in turn and in their order, each time with a book that begins so. Both must leave the same, which is
-/// answered.
+/// Works files in turn and in their order. Both must leave the same, which is returned. `rt` starts threads, and
+/// `alloc` allocates. `what` names the test, `beginning` gives each run its book, and `inputs` are worked.
 pub(crate) fn expect_as_in_turn<'a, T: Threads + Sync>(
     rt: &T,
     alloc: Global,

@@ -1,10 +1,10 @@
 //! The files that sets are made of.
 
-use cwr_sheets::{
-    OTHER_SENDER, SENDER, many_works, miscounted, one_work, plain_file, three_works, work_twice,
-};
 use std::alloc::Global;
 use std::test::Fail;
+use test_files::{
+    OTHER_SENDER, SENDER, many_works, miscounted, one_work, plain_file, three_works, work_twice,
+};
 
 /// The work that two submitters claim.
 const ISWC: &str = "T0345246801";
@@ -21,7 +21,7 @@ const HALF: [&str; 2] = ["05000", "05000"];
 /// More than half: two such claims to one work are a conflict.
 const MORE: [&str; 2] = ["06000", "04000"];
 
-/// Puts works of one submitter behind other files: each is new once and then a duplicate, or a new version where it is
+/// Puts works of one submitter behind other files: each is new once and then a duplicate, or a new version if it is
 /// revised.
 fn push_works(files: &mut Vec<Vec<u8>>, alloc: Global) -> Result<(), Fail> {
     for number in ["W1", "W2", "W3", "W4", "W5", "W6"] {
@@ -72,8 +72,8 @@ pub(crate) fn stock(alloc: Global) -> Result<Vec<Vec<u8>>, Fail> {
     Ok(files)
 }
 
-/// Puts four files behind other files: a claim to a work, the same number without an ISWC, three works of which it is one,
-/// and a refused file.
+/// Puts four files behind other files: a claim to a work, the same number without an ISWC, three works of which it is
+/// one, and a refused file.
 fn push_claim(files: &mut Vec<Vec<u8>>, alloc: Global) -> Result<(), Fail> {
     files.push(one_work(alloc, SENDER, "NWR", "W1", ISWC, MORE)?)?;
     files.push(plain_file(alloc)?)?;
@@ -99,7 +99,7 @@ fn push_again(files: &mut Vec<Vec<u8>>, alloc: Global) -> Result<(), Fail> {
     Ok(())
 }
 
-/// Ten files. What is decided on most of them depends on what became of the first one and of the fifth.
+/// Ten files. The decisions on most of them depend on those on the first one and on the fifth.
 pub(crate) fn ten_files(alloc: Global) -> Result<Vec<Vec<u8>>, Fail> {
     let mut files = Vec::new(alloc);
     push_claim(&mut files, alloc)?;

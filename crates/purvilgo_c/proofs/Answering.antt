@@ -5,10 +5,10 @@ use Rattle.std.specs.Io.KnownBytes.{Appends}
 use Rattle.cwr_record.specs.Stamp.{StampParts}
 use Rattle.work_registry.specs.BookValue.{BookValue}
 use Rattle.work_registry.specs.EntryValue.{EntryValue}
-use Rattle.work_registry.specs.Numbers.{most_entries}
+use Rattle.work_registry.specs.Numbers.{max_entries}
 use Rattle.work_registry.specs.Replay.{calls_of, replay}
 use Rattle.cwr_engine.specs.Account.{Ends, Account, Gives, IsAccount}
-use Rattle.cwr_engine.specs.Whole.{is_full}
+use Rattle.cwr_engine.specs.WholeRun.{is_full}
 use Rattle.cwr_engine.specs.declared.outcome.FileOutcome.{FileOutcome}
 use Rattle.purvilgo_c.specs.Outcomes.{numbers_of}
 use Rattle.purvilgo_c.specs.Files.{IsAnswered}
@@ -18,7 +18,7 @@ pub answered : (stamp : StampParts) (file : List ℕ) (numbers : Outcome) (outco
     (e : Ends) (before kept : BookValue) (made : List EntryValue)
     → numbers ≡ numbers_of outcome
     → e.left_before ≡ Some file → e.taken_before ≡ Some [] → e.taken_after ≡ Some text → e.full ≡ is_full kept → e.may_shut ≡ false
-    → made ≡ replay session before.history (calls_of made) → kept.history ≡ before.history ++ made → kept.limit ≡ before.limit → before.limit ≡ most_entries
+    → made ≡ replay session before.history (calls_of made) → kept.history ≡ before.history ++ made → kept.limit ≡ before.limit → before.limit ≡ max_entries
     → IsAccount e stamp outcome made → IsAnswered stamp file session before.history numbers text made
 answered stamp file numbers outcome text session e before kept made told left empty taken full gate replayed grown limit most a =
     let file_is : a.input ≡ file = subst (λ (l : Option (List ℕ)). Gives l a.input) left a.given in
@@ -29,7 +29,7 @@ answered stamp file numbers outcome text session e before kept made told left em
       told = told;
       replayed = replayed;
       ends = e;
-      full = full ∙ ap (λ (n : ℕ). nat_le n (length kept.history)) (limit ∙ most) ∙ ap (λ (h : List EntryValue). nat_le most_entries (length h)) grown;
+      full = full ∙ ap (λ (n : ℕ). nat_le n (length kept.history)) (limit ∙ most) ∙ ap (λ (h : List EntryValue). nat_le max_entries (length h)) grown;
       gate = gate;
       account = subst (λ (f : List ℕ). Account e stamp f outcome text made) file_is (subst (λ (w : List ℕ). Account e stamp a.input outcome w made) (sym text_is) a.account);
     }

@@ -24,5 +24,6 @@ abbrev pub owns_held : Ptr → Option RegistryValue → Fml
 owns_held at None = feq Ptr at null_ptr
 owns_held at (Some registry) = owns_boxed the_row at registry
 
+-- how a registry behind a pointer, or none, is encoded for the logic of ownership
 abbrev pub held_coded : Coded (Option RegistryValue)
 held_coded = coded_option the_row.coded

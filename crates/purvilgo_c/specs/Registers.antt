@@ -1,19 +1,20 @@
--- What is told of a register that is given as bytes.
+-- What is returned of a register that is given as bytes.
 use Rattle.std.specs.Prelude.{◌≡◌, ℕ, ◌≤◌, ◌⊎◌, List, length, IsTrue}
 use Rattle.std.specs.List.{AllByRecursion}
 use Rattle.work_registry.specs.EntryValue.{EntryValue}
 use Rattle.work_registry.specs.History.{IsHistory}
-use Rattle.work_registry.specs.Numbers.{most_entries}
+use Rattle.work_registry.specs.Numbers.{max_entries}
 use Rattle.work_registry.specs.Register.{register_text, IsWholeEntry}
 use Rattle.work_registry.specs.RegisterFaults.{IsLeastFault}
 use Rattle.work_registry.specs.Replay.{is_opening}
 use Rattle.purvilgo_c.specs.Answers.{done, no_memory, faulty}
 use Rattle.purvilgo_c.specs.declared.registers.RegisterFault.{RegisterFault}
 
--- the text has this fault, and none comes before it
+-- the first fault of the text as a register of at most `limit` entries
 abbrev pub IsFirstFault : ℕ → List ℕ → RegisterFault → Type 0
 IsFirstFault limit text fault = IsLeastFault limit text fault.line fault.number
 
+-- a status that an audit can return
 abbrev pub IsAuditStatus : ℕ → Type 0
 IsAuditStatus status = (status ≡ done) ⊎ ((status ≡ faulty) ⊎ (status ≡ no_memory))
 
@@ -23,4 +24,4 @@ pub record IsRegisterOf (text : List ℕ) (history : List EntryValue) : Type 0 w
   pub lawful : IsHistory history
   pub opening : IsTrue (is_opening history)
   pub whole : AllByRecursion IsWholeEntry history
-  pub few : length history ≤ most_entries
+  pub few : length history ≤ max_entries

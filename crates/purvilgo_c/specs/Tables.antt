@@ -11,18 +11,18 @@ use Rattle.purvilgo_c.specs.Registers.{IsRegisterOf}
 use Rattle.purvilgo_c.specs.declared.tables.Table.{Table}
 use Rattle.purvilgo_c.specs.declared.tables.Table.TheVariants.{Claims, Works, History, Summary}
 
--- all that there is
+-- every entry is wanted
 abbrev pub all_wanted : Wanted
 all_wanted = record { work = None; submitter = None; number = None; status = None }
 
--- a table of a history
+-- the text of this table of a history, in the exact form
 abbrev pub table_text : Table → List EntryValue → List ℕ
 table_text Claims history = claims_text Exact all_wanted history
 table_text Works history = works_text Exact all_wanted history
 table_text History history = history_text Exact all_wanted history
 table_text Summary history = summary_text history
 
--- the text is that table of the register's history
+-- the text is this table of the register's history
 pub record IsTableOf (table : Table) (register text : List ℕ) : Type 0 where
   pub history : List EntryValue
   pub is_register : IsRegisterOf register history

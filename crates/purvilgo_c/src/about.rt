@@ -10,12 +10,12 @@ use crate::status::{
     UNVERIFIED,
 };
 
-/// The version of the library, which is that of the program. `CHANGELOG.md` tells what each version changed.
-const VERSION: &[u8] = b"0.1.0";
+/// The version of the library, which is that of the program. `CHANGELOG.md` lists what each version changed.
+const VERSION: &[u8] = b"0.2.0";
 
-/// The version of the library, at the front of `out`, as `0.1.0`.
+/// The version of the library, at the front of `out`, as `0.2.0`.
 ///
-/// `NO_ROOM` where it does not fit: then `length` is told, and `out` stays as it was.
+/// `NO_ROOM` if it does not fit: then `length` is set, and `out` stays as it was.
 #[unsafe(no_mangle)]
 pub extern "C" fn purvilgo_version(out: &mut [u8], length: &mut usize) -> u32
     ensures { IsGiven version_text out.old out.new length.new result }
@@ -23,9 +23,9 @@ pub extern "C" fn purvilgo_version(out: &mut [u8], length: &mut usize) -> u32
     hand_out(VERSION, out, length)
 }
 
-/// What a status means, in a few words, at the front of `out`; of a number that no call answers that it is none.
+/// What a status means, in a few words, at the front of `out`. For a number that no call returns the text says so.
 ///
-/// `NO_ROOM` where it does not fit: then `length` is told, and `out` stays as it was.
+/// `NO_ROOM` if it does not fit: then `length` is set, and `out` stays as it was.
 #[unsafe(no_mangle)]
 pub extern "C" fn purvilgo_status_text(status: u32, out: &mut [u8], length: &mut usize) -> u32
     ensures { IsGiven (status_text status) out.old out.new length.new result }
@@ -44,7 +44,7 @@ fn text_of(status: u32) -> &'static [u8]
         BAD_STAMP => b"not a stamp",
         FAULTY => b"not a register of one registry",
         NO_OUTCOME => b"not an outcome",
-        SHUT => b"the registry is shut",
+        SHUT => b"the registry is closed",
         ALREADY_OPEN => b"the registry is open already",
         NO_RULE => b"the word names no rule and no answer",
         UNVERIFIED => b"the files and the register do not fit",

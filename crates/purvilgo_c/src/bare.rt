@@ -4,9 +4,9 @@ ghost use Rattle.purvilgo_c.specs.Ownership.{owns_boxed};
 use std::alloc::Global;
 use std::marker::Model;
 
-/// A box as its pointer alone, with all that it owns. Who makes a box of it again brings the allocator.
+/// A box as its pointer alone, with all that it owns. Making a box of it again needs the allocator.
 ///
-/// It cannot be dropped, so the check sees to it that it is made a box or put into a handle.
+/// It cannot be dropped, so the check ensures that it is made a box or put into a handle.
 pub(crate) struct Bare<T> {
     pub(crate) at: *mut T,
     pub(crate) ghost value: { T },

@@ -10,10 +10,11 @@ use cwr_check::{Checked, check_text};
 use cwr_remarks::{remarked_json, remarked_long};
 use std::alloc::Global;
 
-/// Checks a file: the text of the check goes to the front of `out`, and `clean` tells whether the file has no fault.
+/// Checks a file: the text of the check goes to the front of `out`, and `clean` says whether the file has no fault.
 ///
-/// `NO_ROOM` where the text does not fit: then `length` and `clean` are told, and `out` stays as it was. `NO_MEMORY`
-/// leaves all three as they were.
+/// `alloc` allocates, and `file` is checked. `length` is set to the length of the text, in bytes. `NO_ROOM` if the text
+/// does not fit: then `length` and `clean` are set, and `out` stays as it was. `NO_MEMORY` leaves all three as they
+/// were.
 #[unsafe(no_mangle)]
 pub extern "C" fn purvilgo_check(
     alloc: Global,
@@ -26,16 +27,17 @@ pub extern "C" fn purvilgo_check(
     ensures same { result ≡ no_memory → (out.new ≡ out.old) × (length.new ≡ length.old) × (clean.new ≡ clean.old) }
 {
     match check_text(alloc, file) {
-        Ok(checked) => tell_checked(&checked, out, length, clean),
+        Ok(checked) => write_checked(&checked, out, length, clean),
         Err(_) => NO_MEMORY,
     }
 }
 
-/// Checks a file for a person: what is wrong, where, and what was expected, and then its remarks, at the front of `out`;
-/// `clean` tells whether the file has no fault.
+/// Checks a file for a person: what is wrong, where, and what was expected, and then its remarks, go to the front of
+/// `out`; `clean` says whether the file has no fault.
 ///
-/// `NO_ROOM` where the text does not fit: then `length` and `clean` are told, and `out` stays as it was. `NO_MEMORY`
-/// leaves all three as they were.
+/// `alloc` allocates, and `file` is checked. `length` is set to the length of the text, in bytes. `NO_ROOM` if the text
+/// does not fit: then `length` and `clean` are set, and `out` stays as it was. `NO_MEMORY` leaves all three as they
+/// were.
 #[unsafe(no_mangle)]
 pub extern "C" fn purvilgo_check_long(
     alloc: Global,
@@ -48,16 +50,17 @@ pub extern "C" fn purvilgo_check_long(
     ensures same { result ≡ no_memory → (out.new ≡ out.old) × (length.new ≡ length.old) × (clean.new ≡ clean.old) }
 {
     match remarked_long(alloc, file) {
-        Ok(checked) => tell_checked(&checked, out, length, clean),
+        Ok(checked) => write_checked(&checked, out, length, clean),
         Err(_) => NO_MEMORY,
     }
 }
 
-/// Checks a file for a program: its faults and remarks as one JSON object, on a line, at the front of `out`; `clean`
-/// tells whether the file has no fault.
+/// Checks a file for a program: its faults and remarks go to the front of `out`, as one JSON object on a line; `clean`
+/// says whether the file has no fault.
 ///
-/// `NO_ROOM` where the text does not fit: then `length` and `clean` are told, and `out` stays as it was. `NO_MEMORY`
-/// leaves all three as they were.
+/// `alloc` allocates, and `file` is checked. `length` is set to the length of the text, in bytes. `NO_ROOM` if the text
+/// does not fit: then `length` and `clean` are set, and `out` stays as it was. `NO_MEMORY` leaves all three as they
+/// were.
 #[unsafe(no_mangle)]
 pub extern "C" fn purvilgo_check_json(
     alloc: Global,
@@ -70,13 +73,13 @@ pub extern "C" fn purvilgo_check_json(
     ensures same { result ≡ no_memory → (out.new ≡ out.old) × (length.new ≡ length.old) × (clean.new ≡ clean.old) }
 {
     match remarked_json(alloc, file) {
-        Ok(checked) => tell_checked(&checked, out, length, clean),
+        Ok(checked) => write_checked(&checked, out, length, clean),
         Err(_) => NO_MEMORY,
     }
 }
 
-/// Hands out what was found in a file.
-fn tell_checked(checked: &Checked, out: &mut [u8], length: &mut usize, clean: &mut bool) -> u32
+/// Hands out the result of a check.
+fn write_checked(checked: &Checked, out: &mut [u8], length: &mut usize, clean: &mut bool) -> u32
     ensures clean { clean.new ≡ checked.now.clean }
     ensures text { IsGiven checked.now.text.items out.old out.new length.new result }
 {

@@ -8,11 +8,11 @@ use crate::status::{NO_MEMORY, NO_RULE};
 use rule_pages::{Page, every_page, page_named, texts_of_pages};
 use std::alloc::Global;
 
-/// Explains what a word names, a rule such as `F9` or an answer such as `CO`, or all of them for a word of no bytes: its page
-/// goes to the front of `out`.
+/// Explains what a word names, a rule such as `F9` or an answer such as `CO`, or all of them for a word of no bytes:
+/// its page goes to the front of `out`.
 ///
-/// `NO_RULE` for any other word, and `NO_MEMORY`, leave `out` and `length` as they were. `NO_ROOM` where the text does not
-/// fit: then `length` is told, and `out` stays as it was.
+/// `NO_RULE` for any other word, and `NO_MEMORY`, leave `out` and `length` as they were. `NO_ROOM` if the text does not
+/// fit: then `length` is set, and `out` stays as it was.
 #[unsafe(no_mangle)]
 pub extern "C" fn purvilgo_explain(
     alloc: Global,
@@ -25,16 +25,16 @@ pub extern "C" fn purvilgo_explain(
     ensures no_memory { result ≡ no_memory → (out.new ≡ out.old) × (length.new ≡ length.old) }
 {
     if word.is_empty() {
-        return tell_pages(alloc, every_page(), out, length);
+        return write_pages(alloc, every_page(), out, length);
     }
     match page_named(word) {
-        Some(page) => tell_pages(alloc, &[page], out, length),
+        Some(page) => write_pages(alloc, &[page], out, length),
         None => NO_RULE,
     }
 }
 
 /// Hands out pages.
-fn tell_pages(alloc: Global, pages: &[Page], out: &mut [u8], length: &mut usize) -> u32
+fn write_pages(alloc: Global, pages: &[Page], out: &mut [u8], length: &mut usize) -> u32
     ensures told { result ≢ no_memory → IsGiven (texts_of_pages pages.now) out.old out.new length.new result }
     ensures same { result ≡ no_memory → (out.new ≡ out.old) × (length.new ≡ length.old) }
 {

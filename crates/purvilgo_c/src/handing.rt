@@ -3,7 +3,7 @@ ghost use Rattle.purvilgo_c.specs.Answers.{IsGiven};
 
 use crate::status::{DONE, NO_ROOM};
 
-/// Hands a text out: it goes to the front of the room, where it fits.
+/// Hands a text out: it goes to the front of `out`, if it fits.
 pub(crate) fn hand_out(text: &[u8], out: &mut [u8], length: &mut usize) -> u32
     ensures { IsGiven text.now out.old out.new length.new result }
 {

@@ -9,9 +9,9 @@ use std::alloc::Global;
 use std::marker::Model;
 use std::{mem, ptr};
 
-/// What C holds of a registry: a pointer to it, or null where the handle is shut.
+/// What C holds of a registry: a pointer to it, or null if the handle is closed.
 ///
-/// A contract sees what it holds. It cannot be dropped, so the check sees to it that no call loses a registry.
+/// A contract sees what it holds. It cannot be dropped, so the check ensures that no call loses a registry.
 #[repr(C)]
 pub struct Handle {
     at: *mut u8,
@@ -23,7 +23,7 @@ impl Model for Handle {
 }
 
 impl Handle {
-    /// A shut handle.
+    /// A closed handle.
     fn shut() -> Handle
         ensures { result.held ≡ None }
     {
@@ -53,7 +53,7 @@ impl Handle {
         })
     }
 
-    /// Takes out what the handle holds, which leaves it shut.
+    /// Takes out what the handle holds, and leaves it closed.
     pub(crate) fn take(&mut self, alloc: Global) -> Option<Box<Registry>>
         ensures taken { option_map (λ b. b.value) result ≡ self.old.held }
         ensures shut { self.new.held ≡ None }
@@ -78,7 +78,7 @@ impl Handle {
         }
     }
 
-    /// Puts a registry into a shut handle.
+    /// Puts a registry into a closed handle.
     pub(crate) fn put(&mut self, registry: Box<Registry>)
         requires { self.old.held ≡ None }
         ensures { self.new.held ≡ Some registry.value }

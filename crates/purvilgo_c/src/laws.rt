@@ -5,7 +5,7 @@
 ghost use denote.Param.Send.{IsSend};
 ghost use Rattle.purvilgo_c.specs.contracts.handle.Handle.{the_row as handle_row};
 
-/// A handle may go to another thread, with all that it holds.
-pub fn handles_may_cross()
+/// A handle is `Send`: it may go to another thread, with all that it holds.
+pub fn handles_are_send()
     ensures { IsSend handle_row }
 {}

@@ -1,10 +1,10 @@
 //! Checks, acknowledgements, audits, tables and a registry for C, and for all that calls C: bytes in, bytes out.
 //!
-//! Each export calls the library below and states what that call does. `include/purvilgo.h` says to its callers what
-//! they have to keep. A call answers one of the [`status`] numbers, and writes its results through references. Where a
-//! text is longer than the room that is given for it, the call tells how long it is and writes none of it.
+//! Each export calls the library below and states what that call does. `include/purvilgo.h` says what its callers have
+//! to ensure. A call returns one of the [`status`] numbers, and writes its results through references. If a text is
+//! longer than the given buffer, the call gives its length and writes none of it.
 //!
-//! Nothing is kept from one call to the next, but a registry behind a [`Handle`](handle::Handle): a pointer, which a
+//! Nothing is kept from one call to the next, except a registry behind a [`Handle`](handle::Handle): a pointer, which a
 //! contract sees as what is behind it. A call takes the registry out, does its work, and puts it back.
 #![tactic(auto)]
 
@@ -20,9 +20,9 @@ mod opening;
 mod outcome;
 mod registers;
 mod registry;
+mod registry_contents;
 mod running;
 mod stamp;
 mod status;
 mod tables;
-mod telling;
 mod verifying;

@@ -8,14 +8,16 @@ use crate::outcome::{Outcome, numbers_of};
 use crate::stamp::{StampBytes, stamp_of};
 use crate::status::BAD_STAMP;
 use byte_streams::{Feed, Spool};
-use cwr_engine::{MOST_BYTES, acknowledge};
+use cwr_engine::{MAX_BYTES, acknowledge};
 use std::alloc::Global;
 
-/// Acknowledges one file into an empty registry: `outcome` tells what became of it, and its acknowledgement goes to the
+/// Acknowledges one file into an empty registry: `outcome` says how that ended, and the acknowledgement goes to the
 /// front of `out`.
 ///
-/// Want of memory for the work is an outcome, as it is of `acknowledge`. `NO_ROOM` where the acknowledgement does not
-/// fit: then `length` and `outcome` are told, and `out` stays as it was. `BAD_STAMP` leaves all three as they were.
+/// `alloc` allocates, `file` is acknowledged, and `stamp` is that of the acknowledgement. `length` is set to the length
+/// of the acknowledgement, in bytes. An allocation failure of the work is an outcome, as it is of `acknowledge`.
+/// `NO_ROOM` if the acknowledgement does not fit: then `length` and `outcome` are set, and `out` stays as it was.
+/// `BAD_STAMP` leaves all three as they were.
 #[unsafe(no_mangle)]
 pub extern "C" fn purvilgo_acknowledge(
     alloc: Global,
@@ -32,7 +34,7 @@ pub extern "C" fn purvilgo_acknowledge(
     let Some(stamp) = stamp_of(stamp) else {
         return BAD_STAMP;
     };
-    let mut reader = Feed::new(file, MOST_BYTES, None);
+    let mut reader = Feed::new(file, MAX_BYTES, None);
     let mut writer = Spool::new(alloc);
     let told = acknowledge(alloc, &mut reader, &mut writer, &stamp);
     *outcome = numbers_of(&told);

@@ -1,9 +1,11 @@
+//! How a job ended, as numbers for C.
+
 ghost use Rattle.std.specs.Prelude.{◌≡◌, ◌≢◌, ◌<◌, ◌^◌, Some, IfSome};
 ghost use Rattle.cwr_engine.specs.declared.outcome.FileOutcome.{FileOutcome};
 ghost use Rattle.cwr_engine.specs.declared.outcome.Why.{Why};
 ghost use Rattle.cwr_engine.specs.OutcomeText.{outcome_line};
 ghost use Rattle.purvilgo_c.specs.Answers.{no_memory, no_outcome, IsGiven};
-ghost use Rattle.purvilgo_c.specs.Outcomes.{numbers_of, cause_of, sent_of};
+ghost use Rattle.purvilgo_c.specs.Outcomes.{numbers_of, cause_of, bytes_sent};
 
 use crate::handing::hand_out;
 use crate::status::{NO_MEMORY, NO_OUTCOME};
@@ -16,7 +18,7 @@ const REFUSED: u32 = 1;
 
 const STOPPED: u32 = 2;
 
-/// How a job ended, as numbers. What a kind does not tell is 0.
+/// How a job ended, as numbers. A number that a kind does not have is 0.
 #[repr(C)]
 #[derive(Clone, Copy, PartialEq, Eq)]
 pub struct Outcome {
@@ -26,11 +28,11 @@ pub struct Outcome {
     pub fault: u32,
     /// Refused: the line that has it, from 1.
     pub line: u64,
-    /// Acknowledged: how many transactions the file has. Stopped: how many were decided.
+    /// Acknowledged: the number of transactions of the file. Stopped: the number of those that were decided.
     pub transactions: u32,
     /// Stopped: 1 memory, 2 full, 3 read, 4 too long, 5 gate, 6 write.
     pub cause: u32,
-    /// Stopped for a write: how many bytes of the acknowledgement were written.
+    /// Stopped for a write: the number of bytes of the acknowledgement that were written.
     pub sent: u64,
 }
 
@@ -61,12 +63,13 @@ pub(crate) fn numbers_of(outcome: &FileOutcome) -> Outcome
             kind: STOPPED,
             transactions: handed,
             cause: cause_of(why),
-            sent: sent_of(why),
+            sent: bytes_sent(why),
             ..none
         },
     }
 }
 
+/// The number of a cause, as `Outcome` lists them.
 fn cause_of(why: Why) -> u32
     ensures { result ≡ cause_of why }
 {
@@ -80,8 +83,9 @@ fn cause_of(why: Why) -> u32
     }
 }
 
-fn sent_of(why: Why) -> u64
-    ensures { result ≡ sent_of why }
+/// How many bytes of the acknowledgement were written, if a write failed; 0 for any other cause.
+fn bytes_sent(why: Why) -> u64
+    ensures { result ≡ bytes_sent why }
 {
     match why {
         Why::Write { sent } => sent,
@@ -89,9 +93,9 @@ fn sent_of(why: Why) -> u64
     }
 }
 
-/// The cause with this number.
+/// The cause with this number; `None` where no cause has it. `sent` is used only for a failed write.
 fn why_of(cause: u32, sent: u64) -> Option<Why>
-    ensures { (w : Why) → cause ≡ cause_of w → sent ≡ sent_of w → result ≡ Some w }
+    ensures { (w : Why) → cause ≡ cause_of w → sent ≡ bytes_sent w → result ≡ Some w }
 {
     match cause {
         1 => Some(Why::Memory),
@@ -104,7 +108,7 @@ fn why_of(cause: u32, sent: u64) -> Option<Why>
     }
 }
 
-/// An outcome that may have these numbers: where one has them, it is that.
+/// The only outcome that could have these numbers. Whether it has them, `outcome_of` tests.
 fn likely(numbers: &Outcome) -> Option<FileOutcome>
     ensures { (o : FileOutcome) → numbers.now ≡ numbers_of o → numbers.now.fault < 2 ^ 8 → result ≡ Some o }
 {
@@ -145,10 +149,11 @@ pub(crate) fn outcome_of(numbers: &Outcome) -> Option<FileOutcome>
     }
 }
 
-/// The line that tells an outcome: the file's name, a colon, the outcome and LF, at the front of `out`.
+/// The line of an outcome: the file's name, a colon, the outcome and LF, at the front of `out`.
 ///
-/// `NO_ROOM` where it does not fit, and tells `length`. `NO_MEMORY` and `NO_OUTCOME` (for numbers that no outcome has)
-/// leave both as they were.
+/// `alloc` allocates, `name` is the file's name, and `outcome` has the numbers of the outcome. `length` is set to the
+/// length of the line, in bytes. `NO_ROOM` if it does not fit, and sets `length`. `NO_MEMORY` and `NO_OUTCOME` (for
+/// numbers that no outcome has) leave both as they were.
 #[unsafe(no_mangle)]
 pub extern "C" fn purvilgo_outcome_line(
     alloc: Global,

@@ -1,5 +1,5 @@
 ghost use Rattle.std.specs.Prelude.{◌≡◌, ◌≢◌, ◌⊎◌, ℕ, List};
-ghost use Rattle.work_registry.specs.Numbers.{most_entries};
+ghost use Rattle.work_registry.specs.Numbers.{max_entries};
 ghost use Rattle.work_registry.specs.Register.{IsAudited};
 ghost use Rattle.work_registry.specs.RegisterFaults.{IsRefusal};
 ghost use Rattle.purvilgo_c.specs.Answers.{done, no_memory, faulty};
@@ -19,10 +19,10 @@ pub struct RegisterFault {
     pub line: u64,
 }
 
-/// Audits a register: hands each call in anew, and compares each reply.
+/// Audits a register: hands each call in again, and compares each reply.
 ///
-/// `DONE` tells in `entries` how many it has, and leaves `fault` as it was. `FAULTY` tells the first fault of a text that
-/// is no register of one registry, and leaves `entries` as it was. `NO_MEMORY` leaves both.
+/// `DONE` sets `entries` to the number of its entries, and leaves `fault` as it was. `FAULTY` sets `fault` to the first
+/// fault of a text that is no register of one registry, and leaves `entries` as it was. `NO_MEMORY` leaves both.
 #[unsafe(no_mangle)]
 pub extern "C" fn purvilgo_audit(
     alloc: Global,
@@ -31,7 +31,7 @@ pub extern "C" fn purvilgo_audit(
     fault: &mut RegisterFault,
 ) -> u32
     ensures entries { result ≡ done → IsAudited register.now entries.new × (fault.new ≡ fault.old) }
-    ensures fault { result ≡ faulty → IsFirstFault most_entries register.now fault.new × (entries.new ≡ entries.old) }
+    ensures fault { result ≡ faulty → IsFirstFault max_entries register.now fault.new × (entries.new ≡ entries.old) }
     ensures same { result ≡ no_memory → (entries.new ≡ entries.old) × (fault.new ≡ fault.old) }
     ensures status { IsAuditStatus result }
 {
@@ -40,13 +40,13 @@ pub extern "C" fn purvilgo_audit(
             *entries = count;
             DONE
         }
-        Err(refusal) => tell_refusal(refusal, fault),
+        Err(refusal) => fill_register_fault(refusal, fault),
     }
 }
 
-/// Tells why there is no book of a text, and which status that is.
-pub(crate) fn tell_refusal(refusal: RegisterRefusal, fault: &mut RegisterFault) -> u32
-    ensures fault { (text : List ℕ) → IsRefusal most_entries text refusal → result ≡ faulty → IsFirstFault most_entries text fault.new }
+/// Returns the status for a text that has no book, and sets `fault` to its fault, if it has one.
+pub(crate) fn fill_register_fault(refusal: RegisterRefusal, fault: &mut RegisterFault) -> u32
+    ensures fault { (text : List ℕ) → IsRefusal max_entries text refusal → result ≡ faulty → IsFirstFault max_entries text fault.new }
     ensures same { result ≢ faulty → fault.new ≡ fault.old }
     ensures status { (result ≡ faulty) ⊎ (result ≡ no_memory) }
 {

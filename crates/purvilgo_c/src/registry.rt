@@ -1,11 +1,11 @@
 ghost use Rattle.std.specs.Prelude.{◌≡◌, ◌≤◌, [], length, IfOk, OnOk};
-ghost use Rattle.work_registry.specs.Numbers.{most_entries};
+ghost use Rattle.work_registry.specs.Numbers.{max_entries};
 ghost use Rattle.work_registry.specs.Register.{register_text};
 ghost use Rattle.purvilgo_c.specs.Registries.{IsReadable, IsRun};
 
 use crate::outcome::{Outcome, numbers_of};
 use byte_streams::{Feed, Spool};
-use cwr_engine::{Job, MOST_BYTES, MOST_ENTRIES, work_alone};
+use cwr_engine::{Job, MAX_BYTES, MAX_ENTRIES, work_alone};
 use cwr_field::Memory;
 use cwr_record::Stamp;
 use std::alloc::Global;
@@ -13,7 +13,8 @@ use std::marker::Model;
 use std::mem;
 use work_registry::Book;
 
-/// What a handle holds: a book of as many entries as a book may have, and the acknowledgement of the last file.
+/// What a handle holds: a book for the greatest number of entries that a book may have, and the acknowledgement of the
+/// last file.
 ///
 /// Files are run as session 0, the opening: a book behind a handle is as if it had been read from its register.
 #[derive(Drop)]
@@ -24,20 +25,20 @@ pub struct Registry {
 
 impl Model for Registry {
     ghost use Rattle.std.specs.Prelude.{◌≡◌};
-    ghost use Rattle.work_registry.specs.Numbers.{most_entries};
+    ghost use Rattle.work_registry.specs.Numbers.{max_entries};
     ghost use Rattle.purvilgo_c.specs.RegistryValue.{RegistryValue};
 
     ghost Value = { RegistryValue };
 
     ghost view = { λ r. record { history = r.book.history; acknowledgement = r.acknowledgement.items } };
 
-    ghost invariant = { λ r. r.book.limit ≡ most_entries };
+    ghost invariant = { λ r. r.book.limit ≡ max_entries };
 }
 
 impl Registry {
     /// The registry of a book, into which no file was run.
     pub(crate) fn of(alloc: Global, book: Book) -> Registry
-        requires { book.limit ≡ most_entries }
+        requires { book.limit ≡ max_entries }
         ensures { result ≡ record { history = book.history; acknowledgement = [] } }
     {
         Registry {
@@ -50,9 +51,9 @@ impl Registry {
     pub(crate) fn run(&mut self, alloc: Global, file: &[u8], stamp: &Stamp) -> Outcome
         ensures { IsRun stamp.now file.now result self.old self.new }
     {
-        let book = mem::replace(&mut self.book, Book::new(alloc, MOST_ENTRIES));
+        let book = mem::replace(&mut self.book, Book::new(alloc, MAX_ENTRIES));
         let job = Job {
-            reader: Feed::new(file, MOST_BYTES, None),
+            reader: Feed::new(file, MAX_BYTES, None),
             writer: Spool::new(alloc),
         };
         let (book, job, outcome) = work_alone(alloc, book, 0, job, stamp);
@@ -69,7 +70,7 @@ impl Registry {
         &self.acknowledgement
     }
 
-    /// How many entries there are.
+    /// The number of entries.
     pub(crate) fn entries(&self) -> u64
         ensures { result ≡ length self.now.history }
     {
@@ -81,7 +82,7 @@ impl Registry {
         ensures text { IfOk result (λ text. text.items ≡ register_text self.now.history) }
         ensures readable { OnOk result (IsReadable self.now.history) }
     {
-        // Looking at the entries tells what holds in every book.
+        // Looking at the entries gives the proof what holds in every book.
         let _entries = self.book.history().len();
         self.book.write_register(alloc)
     }

@@ -10,10 +10,11 @@ use crate::stamp::{StampBytes, stamp_of};
 use crate::status::{BAD_STAMP, DONE, SHUT};
 use std::alloc::Global;
 
-/// Runs a file: decides its transactions in file order, after all that was decided before, and keeps its
-/// acknowledgement behind the handle, in the place of the one before.
+/// Runs a file: decides its transactions in file order, after all that was decided before. The file's acknowledgement
+/// is kept behind the handle, in place of the one before.
 ///
-/// `outcome` tells what became of the file, want of memory for the work too. `SHUT` and `BAD_STAMP` leave `outcome` as it
+/// `alloc` allocates, `handle` holds the registry, and `file` is run. `stamp` is that of the acknowledgement. `outcome`
+/// is set to how the file ended, also if an allocation of the work failed. `SHUT` and `BAD_STAMP` leave `outcome` as it
 /// was, and what the handle holds.
 #[unsafe(no_mangle)]
 pub extern "C" fn purvilgo_registry_run(
@@ -39,10 +40,10 @@ pub extern "C" fn purvilgo_registry_run(
     DONE
 }
 
-/// The acknowledgement of the file that was run last, at the front of `out`; it is empty where that file was refused or
+/// The acknowledgement of the file that was run last, at the front of `out`. It is empty if that file was refused or
 /// stopped, and before the first.
 ///
-/// `NO_ROOM` where it does not fit: then `length` is told, and `out` stays as it was. `SHUT` leaves both. What the handle
+/// `NO_ROOM` if it does not fit: then `length` is set, and `out` stays as it was. `SHUT` leaves both. What the handle
 /// holds stays.
 #[unsafe(no_mangle)]
 pub extern "C" fn purvilgo_registry_acknowledgement(

@@ -15,7 +15,7 @@ pub struct StampBytes {
     pub time: [u8; 6],
 }
 
-/// The stamp that the bytes tell.
+/// The stamp that the bytes name.
 pub(crate) fn stamp_of(bytes: &StampBytes) -> Option<Stamp>
     ensures { result ≡ stamp_in bytes.now }
 {

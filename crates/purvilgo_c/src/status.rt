@@ -1,24 +1,25 @@
-//! What an export answers.
+//! What an export returns.
 
-/// The call did what it is for.
+/// The call was successful.
 pub const DONE: u32 = 0;
 
-/// The text is longer than the room for it. Its length is told, and nothing else was written.
+/// The text is longer than the buffer for it. Its length is set, and nothing else was written.
 pub const NO_ROOM: u32 = 1;
 
-/// The system refused memory. Nothing was written.
+/// An allocation failed. Nothing was written.
 pub const NO_MEMORY: u32 = 2;
 
-/// The stamp is none: its society is above 999, its name has a byte below 32, or its date or its time is none.
+/// The stamp is not valid: its society is above 999, its name has a byte below 32, or its date or its time is not
+/// valid.
 pub const BAD_STAMP: u32 = 3;
 
-/// The text is no register; its first fault is told.
+/// The text is no register; its first fault is set.
 pub const FAULTY: u32 = 4;
 
-/// The numbers are those of no outcome.
+/// No outcome has these numbers.
 pub const NO_OUTCOME: u32 = 5;
 
-/// The handle is shut: there is no registry behind it.
+/// The handle is closed: there is no registry behind it.
 pub const SHUT: u32 = 6;
 
 /// The handle is open already: there is a registry behind it.
@@ -27,5 +28,5 @@ pub const ALREADY_OPEN: u32 = 7;
 /// The word names no rule and no answer.
 pub const NO_RULE: u32 = 8;
 
-/// The files and the register do not fit; what does not is told.
+/// The files and the register do not fit; what does not is set.
 pub const UNVERIFIED: u32 = 9;

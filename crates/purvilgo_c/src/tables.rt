@@ -1,19 +1,19 @@
 ghost use Rattle.std.specs.Prelude.{◌≡◌, ◌≢◌, IfOk, length};
-ghost use Rattle.work_registry.specs.Numbers.{most_entries};
+ghost use Rattle.work_registry.specs.Numbers.{max_entries};
 ghost use Rattle.purvilgo_c.specs.Answers.{no_memory, faulty, IsTold};
 ghost use Rattle.purvilgo_c.specs.Registers.{IsFirstFault};
 ghost use Rattle.purvilgo_c.specs.Tables.{table_text, IsTableOf};
 ghost use Rattle.purvilgo_c.specs.declared.tables.Table.TheVariants as table;
 
 use crate::handing::hand_out;
-use crate::registers::{RegisterFault, tell_refusal};
+use crate::registers::{RegisterFault, fill_register_fault};
 use crate::status::NO_MEMORY;
-use cwr_engine::MOST_ENTRIES;
-use register_tables::{Unwritten, Wanted, claims_text, history_text, summary_text, works_text};
+use cwr_engine::MAX_ENTRIES;
+use register_tables::{TableError, Wanted, claims_text, history_text, summary_text, works_text};
 use std::alloc::Global;
 use work_registry::{Book, read_register};
 
-/// What is told of a register.
+/// What a call gives of a register.
 #[derive(Clone, Copy)]
 pub(crate) enum Table {
     /// The current claims, in the order of their entries.
@@ -22,15 +22,16 @@ pub(crate) enum Table {
     Works,
     /// Every entry, in order.
     History,
-    /// How much of what there is.
+    /// A summary.
     Summary,
 }
 
 /// The current claims of a register as CSV, with a header line, at the front of `out`.
 ///
-/// `NO_ROOM` where the text does not fit: then `length` is told, and `out` stays as it was. `FAULTY` tells in `fault` the
-/// first fault of a text that is no register of one registry; every other answer leaves `fault` as it was. `FAULTY` and
-/// `NO_MEMORY` leave `out` and `length`.
+/// `alloc` allocates, `register` is read, and `length` is set to the length of the text, in bytes. `NO_ROOM` if the
+/// text does not fit: then `length` is set, and `out` stays as it was. `FAULTY` sets `fault` to the first fault of a
+/// text that is no register of one registry; every other status leaves `fault` as it was. `FAULTY` and `NO_MEMORY`
+/// leave `out` and `length`.
 #[unsafe(no_mangle)]
 pub extern "C" fn purvilgo_claims(
     alloc: Global,
@@ -40,16 +41,17 @@ pub extern "C" fn purvilgo_claims(
     fault: &mut RegisterFault,
 ) -> u32
     ensures told { result ≢ faulty → result ≢ no_memory → IsTold (IsTableOf table.Claims register.now) out.old out.new length.new result }
-    ensures faulty { result ≡ faulty → IsFirstFault most_entries register.now fault.new × (out.new ≡ out.old) × (length.new ≡ length.old) }
+    ensures faulty { result ≡ faulty → IsFirstFault max_entries register.now fault.new × (out.new ≡ out.old) × (length.new ≡ length.old) }
     ensures same { result ≡ no_memory → (out.new ≡ out.old) × (length.new ≡ length.old) }
     ensures untold { result ≢ faulty → fault.new ≡ fault.old }
 {
-    tell_table(alloc, register, Table::Claims, out, length, fault)
+    write_table(alloc, register, Table::Claims, out, length, fault)
 }
 
 /// The works of a register as CSV, with a header line, at the front of `out`.
 ///
-/// What each status leaves is as for [`purvilgo_claims`].
+/// `alloc` allocates, `register` is read, and `length` is set to the length of the text, in bytes. `fault` is set to
+/// the register's fault, if it has one. What each status leaves is as for [`purvilgo_claims`].
 #[unsafe(no_mangle)]
 pub extern "C" fn purvilgo_works(
     alloc: Global,
@@ -59,16 +61,17 @@ pub extern "C" fn purvilgo_works(
     fault: &mut RegisterFault,
 ) -> u32
     ensures told { result ≢ faulty → result ≢ no_memory → IsTold (IsTableOf table.Works register.now) out.old out.new length.new result }
-    ensures faulty { result ≡ faulty → IsFirstFault most_entries register.now fault.new × (out.new ≡ out.old) × (length.new ≡ length.old) }
+    ensures faulty { result ≡ faulty → IsFirstFault max_entries register.now fault.new × (out.new ≡ out.old) × (length.new ≡ length.old) }
     ensures same { result ≡ no_memory → (out.new ≡ out.old) × (length.new ≡ length.old) }
     ensures untold { result ≢ faulty → fault.new ≡ fault.old }
 {
-    tell_table(alloc, register, Table::Works, out, length, fault)
+    write_table(alloc, register, Table::Works, out, length, fault)
 }
 
 /// Every entry of a register as CSV, with a header line, at the front of `out`.
 ///
-/// What each status leaves is as for [`purvilgo_claims`].
+/// `alloc` allocates, `register` is read, and `length` is set to the length of the text, in bytes. `fault` is set to
+/// the register's fault, if it has one. What each status leaves is as for [`purvilgo_claims`].
 #[unsafe(no_mangle)]
 pub extern "C" fn purvilgo_history(
     alloc: Global,
@@ -78,16 +81,17 @@ pub extern "C" fn purvilgo_history(
     fault: &mut RegisterFault,
 ) -> u32
     ensures told { result ≢ faulty → result ≢ no_memory → IsTold (IsTableOf table.History register.now) out.old out.new length.new result }
-    ensures faulty { result ≡ faulty → IsFirstFault most_entries register.now fault.new × (out.new ≡ out.old) × (length.new ≡ length.old) }
+    ensures faulty { result ≡ faulty → IsFirstFault max_entries register.now fault.new × (out.new ≡ out.old) × (length.new ≡ length.old) }
     ensures same { result ≡ no_memory → (out.new ≡ out.old) × (length.new ≡ length.old) }
     ensures untold { result ≢ faulty → fault.new ≡ fault.old }
 {
-    tell_table(alloc, register, Table::History, out, length, fault)
+    write_table(alloc, register, Table::History, out, length, fault)
 }
 
-/// How much of what is in a register, as a page of lines, at the front of `out`.
+/// A summary of a register, as a page of lines, at the front of `out`.
 ///
-/// What each status leaves is as for [`purvilgo_claims`].
+/// `alloc` allocates, `register` is read, and `length` is set to the length of the text, in bytes. `fault` is set to
+/// the register's fault, if it has one. What each status leaves is as for [`purvilgo_claims`].
 #[unsafe(no_mangle)]
 pub extern "C" fn purvilgo_summary(
     alloc: Global,
@@ -97,15 +101,17 @@ pub extern "C" fn purvilgo_summary(
     fault: &mut RegisterFault,
 ) -> u32
     ensures told { result ≢ faulty → result ≢ no_memory → IsTold (IsTableOf table.Summary register.now) out.old out.new length.new result }
-    ensures faulty { result ≡ faulty → IsFirstFault most_entries register.now fault.new × (out.new ≡ out.old) × (length.new ≡ length.old) }
+    ensures faulty { result ≡ faulty → IsFirstFault max_entries register.now fault.new × (out.new ≡ out.old) × (length.new ≡ length.old) }
     ensures same { result ≡ no_memory → (out.new ≡ out.old) × (length.new ≡ length.old) }
     ensures untold { result ≢ faulty → fault.new ≡ fault.old }
 {
-    tell_table(alloc, register, Table::Summary, out, length, fault)
+    write_table(alloc, register, Table::Summary, out, length, fault)
 }
 
-/// Hands out a table of a register.
-fn tell_table(
+/// Hands out a table of a register. `alloc` allocates, `register` is read, and `table` names the table. Its text goes
+/// to `out`, and its length, in bytes, to `length`. `fault` is set to the register's fault, if it has one. What each
+/// status leaves is as for [`purvilgo_claims`].
+fn write_table(
     alloc: Global,
     register: &[u8],
     table: Table,
@@ -114,21 +120,21 @@ fn tell_table(
     fault: &mut RegisterFault,
 ) -> u32
     ensures told { result ≢ faulty → result ≢ no_memory → IsTold (IsTableOf table register.now) out.old out.new length.new result }
-    ensures faulty { result ≡ faulty → IsFirstFault most_entries register.now fault.new × (out.new ≡ out.old) × (length.new ≡ length.old) }
+    ensures faulty { result ≡ faulty → IsFirstFault max_entries register.now fault.new × (out.new ≡ out.old) × (length.new ≡ length.old) }
     ensures same { result ≡ no_memory → (out.new ≡ out.old) × (length.new ≡ length.old) }
     ensures untold { result ≢ faulty → fault.new ≡ fault.old }
 {
-    match read_register(alloc, register, MOST_ENTRIES) {
+    match read_register(alloc, register, MAX_ENTRIES) {
         Ok(book) => match text_of(alloc, &book, table) {
             Ok(text) => hand_out(&text, out, length),
             Err(_) => NO_MEMORY,
         },
-        Err(refusal) => tell_refusal(refusal, fault),
+        Err(refusal) => fill_register_fault(refusal, fault),
     }
 }
 
-/// A table of a book. A write into memory fails for want of memory alone.
-fn text_of(alloc: Global, book: &Book, table: Table) -> Result<Vec<u8>, Unwritten>
+/// A table of a book. A write into memory fails only if an allocation fails.
+fn text_of(alloc: Global, book: &Book, table: Table) -> Result<Vec<u8>, TableError>
     ensures { IfOk result (λ text. text.items ≡ table_text table book.now.history) }
 {
     let text = Vec::new(alloc);

@@ -1,13 +1,13 @@
 ghost use Rattle.std.specs.Prelude.{◌≡◌, ◌≢◌, IfOk, MatchOption, count_by, nat_lt};
-ghost use Rattle.work_registry.specs.Numbers.{most_entries};
+ghost use Rattle.work_registry.specs.Numbers.{max_entries};
 ghost use Rattle.purvilgo_c.specs.Answers.{done, no_memory, faulty, unverified};
 ghost use Rattle.purvilgo_c.specs.Registers.{IsFirstFault};
 ghost use Rattle.purvilgo_c.specs.Verified.{misfit_of, sent_in, IsMisfit, IsVerified, IsVerifyStatus};
 
-use crate::registers::{RegisterFault, tell_refusal};
+use crate::registers::{RegisterFault, fill_register_fault};
 use crate::status::{DONE, NO_MEMORY, UNVERIFIED};
-use cwr_engine::MOST_ENTRIES;
-use cwr_verify::{SentFile, Unverified, verify};
+use cwr_engine::MAX_ENTRIES;
+use cwr_verify::{SentFile, VerifyError, verify};
 use std::alloc::{AllocError, Global};
 use work_registry::read_register;
 
@@ -19,8 +19,8 @@ const TRANSACTION: u32 = 3;
 
 const ACKNOWLEDGEMENT: u32 = 4;
 
-/// A file that was sent, and the acknowledgement that is said to answer it: in C, two pointers, each with its length
-/// behind it.
+/// A file that was sent, and the acknowledgement that is to answer it: in C, two pointers, each with its length behind
+/// it.
 #[repr(C)]
 pub struct SentBytes<'a> {
     /// The bytes of the file.
@@ -29,18 +29,19 @@ pub struct SentBytes<'a> {
     pub acknowledgement: &'a [u8],
 }
 
-/// What of files and a register does not fit, as numbers. What a kind does not tell is 0.
+/// What does not fit between files and a register, as numbers. A number that a kind does not have is 0.
 #[repr(C)]
 #[derive(Clone, Copy, PartialEq, Eq)]
 pub struct Misfit {
-    /// 1: the file is too long. 2: the file is refused. 3: a transaction is not in the register, as its acknowledgement tells
-    /// it. 4: the acknowledgement has another line.
+    /// 1: the file is too long. 2: the file is refused. 3: a transaction is not in the register, as its acknowledgement
+    /// has it. 4: the acknowledgement has another line.
     pub kind: u32,
     /// Refused: the fault, 1 to 12 for F1 to F12.
     pub fault: u32,
     /// Which file, from 0.
     pub file: u64,
-    /// Refused: the line of the file that has it, from 1. Another line: the first such line of the acknowledgement, from 1.
+    /// Refused: the line of the file that has it, from 1. Another line: the first such line of the acknowledgement,
+    /// from 1.
     pub line: u64,
     /// A transaction: group id of its group, from 1.
     pub group: u32,
@@ -49,12 +50,13 @@ pub struct Misfit {
 }
 
 /// Checks a register against files that were sent, and against their acknowledgements: each transaction of each file is
-/// judged anew, and has an entry of its own, with the reply that its acknowledgement tells. Files are given in the order
-/// in which they were run.
+/// judged again. Each has an entry of its own, with the reply that its acknowledgement has. Files are given in the
+/// order in which they were run.
 ///
-/// `DONE` tells in `transactions` how many there are. `UNVERIFIED` tells in `misfit` the first file that does not fit, and
-/// `FAULTY` in `fault` the first fault of a text that is no register of one registry. Every other answer leaves these as
-/// they were, and `NO_MEMORY` all three.
+/// `alloc` allocates, `register` is read, and `files` has the files, each with its acknowledgement. `DONE` sets
+/// `transactions` to the number of transactions. `UNVERIFIED` sets `misfit` to the first file that does not fit, and
+/// `FAULTY` sets `fault` to the first fault of a text that is no register of one registry. Every other status leaves
+/// these as they were, and `NO_MEMORY` all three.
 #[unsafe(no_mangle)]
 pub extern "C" fn purvilgo_verify(
     alloc: Global,
@@ -66,15 +68,15 @@ pub extern "C" fn purvilgo_verify(
 ) -> u32
     ensures verified { result ≡ done → IsVerified register.now (sent_in files.now) transactions.new }
     ensures misfit { result ≡ unverified → IsMisfit (sent_in files.now) misfit.new }
-    ensures fault { result ≡ faulty → IsFirstFault most_entries register.now fault.new }
+    ensures fault { result ≡ faulty → IsFirstFault max_entries register.now fault.new }
     ensures status { IsVerifyStatus result }
     ensures uncounted { result ≢ done → transactions.new ≡ transactions.old }
     ensures fitting { result ≢ unverified → misfit.new ≡ misfit.old }
     ensures faultless { result ≢ faulty → fault.new ≡ fault.old }
 {
-    let book = match read_register(alloc, register, MOST_ENTRIES) {
+    let book = match read_register(alloc, register, MAX_ENTRIES) {
         Ok(book) => book,
-        Err(refusal) => return tell_refusal(refusal, fault),
+        Err(refusal) => return fill_register_fault(refusal, fault),
     };
     let Ok(sent) = sent_files(alloc, files) else {
         return NO_MEMORY;
@@ -84,7 +86,7 @@ pub extern "C" fn purvilgo_verify(
             *transactions = owned_count(&owners, sent.len());
             DONE
         }
-        Err(told) => tell_misfit(told, misfit),
+        Err(told) => fill_misfit(told, misfit),
     }
 }
 
@@ -102,7 +104,7 @@ fn sent_files<'a>(alloc: Global, files: &[SentBytes<'a>]) -> Result<Vec<SentFile
     Ok(sent)
 }
 
-/// How many of these owners are one of so many files.
+/// The number of these owners that are one of `files` files.
 fn owned_count(owners: &[usize], files: usize) -> u64
     ensures { result ≡ count_by (λ owner. nat_lt owner files) owners.now }
 {
@@ -115,8 +117,8 @@ fn owned_count(owners: &[usize], files: usize) -> u64
     count
 }
 
-/// Tells what does not fit, where that is told.
-fn tell_misfit(told: Unverified, misfit: &mut Misfit) -> u32
+/// Sets `misfit` to what does not fit, and returns the status. If an allocation failed, `misfit` stays as it was.
+fn fill_misfit(told: VerifyError, misfit: &mut Misfit) -> u32
     ensures { MatchOption (misfit_of told) ((result ≡ no_memory) × (misfit.new ≡ misfit.old)) (λ numbers. (result ≡ unverified) × (misfit.new ≡ numbers)) }
 {
     match misfit_of(told) {
@@ -128,8 +130,8 @@ fn tell_misfit(told: Unverified, misfit: &mut Misfit) -> u32
     }
 }
 
-/// The numbers of what does not fit; none where memory was refused.
-fn misfit_of(told: Unverified) -> Option<Misfit>
+/// The numbers of what does not fit; none if an allocation failed.
+fn misfit_of(told: VerifyError) -> Option<Misfit>
     ensures { result ≡ misfit_of told }
 {
     let none = Misfit {
@@ -141,20 +143,20 @@ fn misfit_of(told: Unverified) -> Option<Misfit>
         transaction: 0,
     };
     match told {
-        Unverified::Memory => None,
-        Unverified::TooLong { file } => Some(Misfit {
+        VerifyError::Memory => None,
+        VerifyError::TooLong { file } => Some(Misfit {
             kind: TOO_LONG,
             file: file as u64,
             ..none
         }),
-        Unverified::Refused { file, number, line } => Some(Misfit {
+        VerifyError::Refused { file, number, line } => Some(Misfit {
             kind: REFUSED,
             file: file as u64,
             fault: number as u32,
             line,
             ..none
         }),
-        Unverified::Transaction {
+        VerifyError::Transaction {
             file,
             group,
             sequence,
@@ -165,7 +167,7 @@ fn misfit_of(told: Unverified) -> Option<Misfit>
             transaction: sequence,
             ..none
         }),
-        Unverified::Acknowledgement { file, line } => Some(Misfit {
+        VerifyError::Acknowledgement { file, line } => Some(Misfit {
             kind: ACKNOWLEDGEMENT,
             file: file as u64,
             line: line as u64,

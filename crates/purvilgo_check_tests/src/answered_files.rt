@@ -1,21 +1,21 @@
-//! What `answer` makes again of a register and a file, and what it tells where it makes nothing.
+//! What `answer` makes again from a register and a file, and what it prints if it makes nothing.
 
-use cwr_sheets::{SENDER, work_twice};
-use program_runs::{Given, Step, Text, expect_play};
 use std::sync::Wait;
 use std::test::Fail;
 use std::thread::Threads;
+use test_files::{SENDER, work_twice};
+use test_program::{Given, Step, Text, expect_play};
 
 /// A register of one entry that has none.
 const MISPLACED: &[u8] = b"REG00000001\n";
 
-/// Words behind those of the stamp, the status, and what is printed and complained of.
+/// Words behind those of the stamp, the status, and what is printed on standard output and on standard error.
 type Case<'a> = (&'a [&'a str], u8, Text<'a>, &'a str);
 
 /// No text.
 const NOTHING: Text = Text::Bytes(b"");
 
-/// Each of these must end so.
+/// Each of these must end as it says.
 fn expect_cases<T: AllocGlobal + Threads + Wait + Sync>(
     rt: &T,
     given: &[(&str, Given)],
@@ -27,7 +27,7 @@ fn expect_cases<T: AllocGlobal + Threads + Wait + Sync>(
     Ok(())
 }
 
-/// This must end so.
+/// This must end as it says.
 fn expect_case<T: AllocGlobal + Threads + Wait + Sync>(
     rt: &T,
     given: &[(&str, Given)],
@@ -169,7 +169,7 @@ fn tells_what_cannot_be_read(rt: HostRuntime) -> Result<(), Fail> {
     )
 }
 
-/// The words of the stamp are those of a run, and what is wrong with them is told first.
+/// The options of the stamp are those of a run, and their fault is printed first.
 #[test]
 fn takes_the_stamp_of_a_run(rt: HostRuntime) -> Result<(), Fail> {
     let words = [

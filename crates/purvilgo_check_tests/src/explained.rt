@@ -1,13 +1,13 @@
-//! What `explain` tells of rules and answers.
+//! What `explain` prints of rules and answers.
 
-use cwr_sheets::{same, same_bytes};
-use program_runs::{Fake, expect_program};
 use purvilgo_command::run_program;
 use std::process::ExitCode;
 use std::str::Lines;
 use std::sync::Wait;
 use std::test::Fail;
 use std::thread::Threads;
+use test_files::{same, same_bytes};
+use test_program::{Fake, expect_program};
 
 /// The pages of a rule of each kind, in the order of the words.
 #[test]
@@ -18,21 +18,21 @@ fn tells_the_rules_that_are_named(rt: HostRuntime) -> Result<(), Fail> {
         fake,
         ExitCode::SUCCESS,
         b"G3 a decision is not that of the registry\n  \
-asks: status, work and version are the decision on the entry's transaction, after the entries before it\n  \
+requires: status, work and version are the decision on the entry's transaction, after the entries before it\n  \
 broken by: DU where the key has no row\n  \
-mended by: compare with an older copy: the entry, or one before it, was changed\n\
+fixed by: compare with an older copy: the entry, or one before it, was changed\n\
 J11 PR OWNERSHIP TOTAL IS NOT VALID\n  \
-asks: the PR ownership shares of SPU, OPU, SWR and OWR add up to 0, or from 99.94 to 100.06 per cent\n  \
+requires: the PR ownership shares of SPU, OPU, SWR and OWR add up to 0, or from 99.94 to 100.06 per cent\n  \
 broken by: 05007 and 05000: 100.07 per cent\n  \
-mended by: mend the shares, first those that J6 names: these count nothing\n\
+fixed by: correct the shares, first those that J6 names: these count as nothing\n\
 F9 the counts of GRT are not those of the group\n  \
-asks: GRT tells the transactions of its group, and its records, GRH and GRT included\n  \
+requires: GRT has the number of transactions of its group, and of its records, GRH and GRT included\n  \
 broken by: 2 records, where there are 4\n  \
-mended by: count GRH and GRT in\n\
+fixed by: count GRH and GRT in\n\
 J11 PR OWNERSHIP TOTAL IS NOT VALID\n  \
-asks: the PR ownership shares of SPU, OPU, SWR and OWR add up to 0, or from 99.94 to 100.06 per cent\n  \
+requires: the PR ownership shares of SPU, OPU, SWR and OWR add up to 0, or from 99.94 to 100.06 per cent\n  \
 broken by: 05007 and 05000: 100.07 per cent\n  \
-mended by: mend the shares, first those that J6 names: these count nothing\n",
+fixed by: correct the shares, first those that J6 names: these count as nothing\n",
         "",
     )
 }
@@ -49,7 +49,7 @@ fn tells_the_answers_that_are_named(rt: HostRuntime) -> Result<(), Fail> {
 means: nothing is registered: claims on a work meet that cannot stand beside one another, and the registry does not choose\n  \
 given for: shares that come to more than 100.06 per cent in a right, with those of the other claims on the work; \
 or an ISWC that is another than the work's, or that of another work\n  \
-then: ask the society which claims meet, by the work number of the ACK record (purvilgo history --work N REGISTER tells it); \
+then: ask the society which claims meet, by the work number of the ACK record (purvilgo history --work N REGISTER prints it); \
 settle it with the other submitter, and send it again\n\
 AS accepted\n  \
 means: the claim is registered, as the current one under its submitter and submitter work number\n  \
@@ -58,8 +58,8 @@ then: keep the work number of the ACK record; to change the claim, send REV unde
 RJ rejected\n  \
 means: nothing is registered: the transaction breaks rules\n  \
 given for: faults of J1 to J15, for each of which an MSG record stands behind the ACK record\n  \
-then: see what the numbers of the MSG records ask (purvilgo explain 011) and what stands in the file \
-(purvilgo check --long FILE); mend it, and send it again\n\
+then: see what the rules of the MSG records require (purvilgo explain 011) and what stands in the file \
+(purvilgo check --long FILE); correct it, and send it again\n\
 DU duplicate\n  \
 means: nothing is changed: what was registered before stands\n  \
 given for: an NWR under a submitter work number that this submitter has registered already\n  \
@@ -103,7 +103,7 @@ fn expect_heading<T: AllocGlobal + Threads + Wait + Sync>(
     same(heading, &text.lines().count(), &4)
 }
 
-/// A word that is no rule is told alone, also after rules.
+/// A word that is no rule is reported alone, also after rules.
 #[test]
 fn tells_what_is_no_rule(rt: HostRuntime) -> Result<(), Fail> {
     let cases = [
@@ -178,7 +178,7 @@ fn labels_of(heading: &str) -> [&'static str; 3] {
         "AS accepted" | "DU duplicate" | "CO conflict" | "RJ rejected" => {
             ["  means: ", "  given for: ", "  then: "]
         }
-        _ => ["  asks: ", "  broken by: ", "  mended by: "],
+        _ => ["  requires: ", "  broken by: ", "  fixed by: "],
     }
 }
 
@@ -205,7 +205,7 @@ fn expect_pages(ended: ExitCode, printed: &[u8], complained: &str) -> Result<(),
     same("a line more", &lines.next(), &None)
 }
 
-/// Without words all rules and then all answers are told.
+/// Without words all rules and then all answers are printed.
 #[test]
 fn tells_every_rule(rt: HostRuntime) -> Result<(), Fail> {
     let fake = Fake::new(&rt, &["purvilgo", "explain"], b"");

@@ -1,14 +1,14 @@
-//! What `check --json` tells: one object on one line, of files with faults and without.
+//! What `check --json` prints: one object on one line, of files with faults and without.
 
-use cwr_sheets::{file_of_lines, miscounted, plain_file, same, same_bytes};
-use program_runs::{Fake, expect_program};
 use purvilgo_command::run_program;
 use std::process::ExitCode;
 use std::sync::Wait;
 use std::test::Fail;
 use std::thread::Threads;
+use test_files::{file_of_lines, miscounted, plain_file, same, same_bytes};
+use test_program::{Fake, expect_program};
 
-/// What is told of this file, with this status.
+/// What is printed of this file, with this status.
 fn expect_json<T: AllocGlobal + Threads + Wait + Sync>(
     rt: &T,
     input: &[u8],
@@ -81,7 +81,7 @@ fn tells_each_byte_as_the_character_with_its_number(rt: HostRuntime) -> Result<(
     Ok(())
 }
 
-/// Nothing must be printed, and the word be told that is not taken.
+/// Nothing must be printed on standard output, and standard error must name the word that is not taken.
 fn expect_not_taken(ended: ExitCode, printed: &[u8], told: &str) -> Result<(), Fail> {
     same_bytes("its standard output", printed, b"")?;
     same("--json", &told.contains("--json"), &true)?;

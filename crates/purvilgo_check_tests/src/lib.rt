@@ -1,4 +1,5 @@
-//! Tests of what the program tells of a file that is checked, of the rules, and of a register, over a runtime of the tests' own.
+//! Tests of what the program prints of a file that is checked, of the rules, and of a register, over a runtime of the
+//! tests' own.
 #![tactic(auto)]
 
 #[cfg(test)]
@@ -12,13 +13,13 @@ mod long_checks;
 #[cfg(test)]
 mod long_faults;
 #[cfg(test)]
+mod printed_forms;
+#[cfg(test)]
+mod printed_tables;
+#[cfg(test)]
 mod remarks;
 #[cfg(test)]
 mod several_files;
-#[cfg(test)]
-mod told_forms;
-#[cfg(test)]
-mod told_tables;
 #[cfg(test)]
 mod verified_files;
 #[cfg(test)]

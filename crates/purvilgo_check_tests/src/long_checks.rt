@@ -1,10 +1,11 @@
-//! What `check --long` tells: of a file with twenty mistakes, which `examples/mistakes.v22` is too, and of files without.
+//! What `check --long` prints: of a file with twenty mistakes, which `examples/mistakes.v22` is too, and of files
+//! without.
 
-use cwr_sheets::plain_file;
-use program_runs::{Fake, FakeFile, expect_program};
 use std::alloc::Global;
 use std::process::ExitCode;
 use std::test::Fail;
+use test_files::plain_file;
+use test_program::{Fake, FakeFile, expect_program};
 
 /// A file with each of the rules J1 to J15 broken once, and five of them once more.
 const MISTAKES: [&str; 21] = [

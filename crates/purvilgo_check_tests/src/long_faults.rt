@@ -1,12 +1,12 @@
-//! What `check --long` tells of a file that is refused: of each file fault, as `examples/faults.long` has it of the files
-//! `examples/rules/F01.v22` to `F12.v22`, and of faults at other places.
+//! What `check --long` prints of a file that is refused: of each file fault, as `examples/faults.long` has it of the
+//! files `examples/rules/F01.v22` to `F12.v22`, and of faults at other places.
 
-use program_runs::{Fake, expect_program};
 use std::alloc::Global;
 use std::process::ExitCode;
 use std::sync::Wait;
 use std::test::Fail;
 use std::thread::Threads;
+use test_program::{Fake, expect_program};
 
 /// A well-formed file.
 const PLAIN: [&str; 6] = [
@@ -39,7 +39,7 @@ fn with_line(alloc: Global, number: usize, line: &str) -> Result<Vec<u8>, Fail> 
     Ok(text)
 }
 
-/// What is told of this file.
+/// What is printed of this file.
 fn expect_told<T: AllocGlobal + Threads + Wait + Sync>(
     rt: &T,
     input: &[u8],

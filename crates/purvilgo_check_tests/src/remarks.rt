@@ -1,13 +1,13 @@
-//! The remarks of `check --long` and `check --json`, which are no faults: of the file `examples/remarks.v22`, of records
-//! of each type, and of territories.
+//! The remarks of `check --long` and `check --json`, which are no faults: of the file `examples/remarks.v22`, of
+//! records of each type, and of territories.
 
-use cwr_sheets::file_of_lines;
-use program_runs::{Fake, expect_program};
 use std::alloc::Global;
 use std::process::ExitCode;
 use std::sync::Wait;
 use std::test::Fail;
 use std::thread::Threads;
+use test_files::file_of_lines;
+use test_program::{Fake, expect_program};
 
 /// A file without faults and with four remarks. The title of its first work has an accented letter and is filled up in
 /// letters.
@@ -28,7 +28,8 @@ const REMARKED: [&str; 14] = [
     "TRL000010000000200000015",
 ];
 
-/// What is told of this file, with this status.
+/// A check of a file. `rt` starts threads and waits, `words` is the command line, and `lines` are those of the file.
+/// `status` is the status that it must have, and `wanted` what it must print.
 fn expect_check<T: AllocGlobal + Threads + Wait + Sync>(
     rt: &T,
     words: &[&str],
@@ -41,7 +42,7 @@ fn expect_check<T: AllocGlobal + Threads + Wait + Sync>(
     expect_program(fake, status, wanted.as_bytes(), "")
 }
 
-/// What a long check tells of this file.
+/// What a long check prints of this file.
 fn expect_long<T: AllocGlobal + Threads + Wait + Sync>(
     rt: &T,
     lines: &[&str],
@@ -124,7 +125,7 @@ remark, line 5: SWX: CWR 2.2 has no record of this type; it is carried, and noth
     )
 }
 
-/// Of a file that is refused there are the remarks on the lines before the faulty one, whatever that one and those after it
+/// If a file is refused there are remarks on the lines before the faulty one, whatever that one and those after it
 /// have.
 #[test]
 fn tells_remarks_before_the_fault_of_a_file(rt: HostRuntime) -> Result<(), Fail> {
@@ -179,7 +180,7 @@ const LAYOUTS: [(&str, usize); 17] = [
     ("GRT000020000000100000004", 37),
 ];
 
-/// These records, each filled up with blanks to its layout and so many bytes more, and the trailer of the file.
+/// These records, each filled with blanks to its layout and `more` bytes beyond it, and the trailer of the file.
 fn filled(alloc: Global, more: usize) -> Result<Vec<u8>, Fail> {
     let mut text = Vec::new(alloc);
     for (line, layout) in LAYOUTS {
@@ -202,7 +203,7 @@ fn put_filled(text: &mut Vec<u8>, line: &str, length: usize) -> Result<(), Fail>
     Ok(())
 }
 
-/// What is told of records that are a blank longer than their layouts.
+/// What is printed of records that are a blank longer than their layouts.
 const LONGER: &str = "2 transactions, 0 with faults\n\
 remark, line 1: HDR: length 168, and the layout ends at 167; what stands after that is not read\n\
 remark, line 2: GRH: length 29, and the layout ends at 28; what stands after that is not read\n\

@@ -1,7 +1,7 @@
-//! What `check` tells of several files, and what of faults alone.
+//! What `check` prints of several files, and what of faults alone.
 
-use program_runs::{Given, Step, Text, expect_play};
 use std::test::Fail;
+use test_program::{Given, Step, Text, expect_play};
 
 /// A file of two works, of which the first has no title.
 const FAULTY: [&str; 7] = [
@@ -14,7 +14,7 @@ const FAULTY: [&str; 7] = [
     "TRL000010000000200000008",
 ];
 
-/// A file without faults, of which something is to be remarked.
+/// A file without faults, and with remarks.
 const REMARKED: [&str; 6] = [
     "GRHNWR0000102.200000000001",
     "NWR0000000000000000SONG ONE                                                      W1",
@@ -24,8 +24,8 @@ const REMARKED: [&str; 6] = [
     "TRL000010000000100000007",
 ];
 
-/// The files: one without faults, one with, one that is refused, one with a remark, and one that cannot be read. Any other
-/// name is that of no file.
+/// The files: one without faults, one with, one that is refused, one with a remark, and one that cannot be read. Any
+/// other name is that of no file.
 const FILES: [(&str, Given); 5] = [
     ("clean", Given::Holds(Text::Plain)),
     ("faulty", Given::Holds(Text::Lines(&FAULTY))),
@@ -34,7 +34,7 @@ const FILES: [(&str, Given); 5] = [
     ("broken", Given::Broken),
 ];
 
-/// Each line has the name of its file; what cannot be read is told with its name too, and stops no other.
+/// Each line has the name of its file. A file that cannot be read is reported with its name too, and stops no other.
 #[test]
 fn tells_several_files(rt: HostRuntime) -> Result<(), Fail> {
     expect_play(

@@ -1,7 +1,7 @@
-//! What `verify` tells of a register, files and their acknowledgements.
+//! What `verify` prints of a register, files and their acknowledgements.
 
-use program_runs::{Given, Step, Text, expect_play};
 use std::test::Fail;
+use test_program::{Given, Step, Text, expect_play};
 
 /// The register after the plain file alone.
 const REGISTER: &[u8] = b"REG00000001\n\
@@ -10,7 +10,7 @@ ENT00000001PB000000123NWRSONG ONE                                               
 /// A register of one entry that has none.
 const MISPLACED: &[u8] = b"REG00000001\n";
 
-/// An entry answers one file alone, so a file that is named twice wants two.
+/// An entry answers one file alone, so a file that is named twice needs two.
 #[test]
 fn tells_which_file_does_not_fit(rt: HostRuntime) -> Result<(), Fail> {
     expect_play(
@@ -32,7 +32,7 @@ fn tells_which_file_does_not_fit(rt: HostRuntime) -> Result<(), Fail> {
         &[
             Step::of(&["verify", "register", "a"]).prints("1 transactions of 1 files\n"),
             Step::of(&["verify", "register", "b"]).ends(1).prints(
-                "b: group 1, transaction 0: not in the register as b.ack tells it\n",
+                "b: group 1, transaction 0: not in the register as b.ack has it\n",
             ),
             Step::of(&["verify", "register", "c"])
                 .ends(1)
@@ -53,13 +53,13 @@ fn tells_which_file_does_not_fit(rt: HostRuntime) -> Result<(), Fail> {
                 .ends(1)
                 .complains("stopped: read\n"),
             Step::of(&["verify", "register", "a", "a"]).ends(1).prints(
-                "a: group 1, transaction 0: not in the register as a.ack tells it\n",
+                "a: group 1, transaction 0: not in the register as a.ack has it\n",
             ),
         ],
     )
 }
 
-/// A draft is verified in place of the acknowledgement, and is told by its own name.
+/// A draft is verified in place of the acknowledgement, and is reported by its own name.
 #[test]
 fn takes_another_acknowledgement(rt: HostRuntime) -> Result<(), Fail> {
     expect_play(
@@ -79,7 +79,7 @@ fn takes_another_acknowledgement(rt: HostRuntime) -> Result<(), Fail> {
             ),
             Step::of(&["verify", "register", "a", "--ack", "cut"])
                 .ends(1)
-                .prints("a: group 1, transaction 0: not in the register as cut tells it\n"),
+                .prints("a: group 1, transaction 0: not in the register as cut has it\n"),
             Step::of(&["verify", "--ack", "empty", "register", "a"])
                 .ends(1)
                 .prints("empty: line 1 is another in the register\n"),

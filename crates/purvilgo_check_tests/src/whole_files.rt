@@ -1,18 +1,19 @@
-//! The remarks of `check --long` and `check --json` on a file as a whole: what it begins with, that a second one begins
-//! behind it, and what its HDR says that it is.
+//! The remarks of `check --long` and `check --json` on the file itself: what it begins with, that a second one follows
+//! it, and values in its HDR.
 
-use program_runs::{Fake, expect_program};
 use std::alloc::Global;
 use std::process::ExitCode;
 use std::sync::Wait;
 use std::test::Fail;
 use std::thread::Threads;
+use test_program::{Fake, expect_program};
 
 /// A file without groups.
 const EMPTY: &[u8] =
     b"HDRPB000000123PUBLISHER A                                  01.102024050112000020240501\r\nTRL000000000000000000002\r\n";
 
-/// What is told of this file in this form, with this status.
+/// A check of a file. `rt` starts threads and waits, `form` is the option for the form, and `input` is the file.
+/// `status` is the status that it must have, and `wanted` what it must print.
 fn expect_check<T: AllocGlobal + Threads + Wait + Sync>(
     rt: &T,
     form: &str,
@@ -25,7 +26,7 @@ fn expect_check<T: AllocGlobal + Threads + Wait + Sync>(
     expect_program(fake, status, wanted.as_bytes(), "")
 }
 
-/// Files that begin otherwise than a text of CWR: the three bytes there as they are shown, and the remark.
+/// Files that do not begin as a text of CWR: the three bytes there as they are shown, and the remark.
 const BEGINNINGS: [(&[u8], &str, &str); 5] = [
     (
         b"\xef\xbb\xbf",
@@ -86,7 +87,7 @@ fn tells_that_a_second_file_begins(rt: HostRuntime) -> Result<(), Fail> {
     )
 }
 
-/// The first line of a file, and what is told of it before the other remarks of that line.
+/// The first line of a file, and what is printed of it before the other remarks on that line.
 const HEADERS: [(&[u8], &str); 5] = [
     (
         b"HDR01987654321PUBLISHER A                                  01.102024050112000020240501               2.2001",
@@ -123,7 +124,7 @@ fn tells_what_a_header_says(rt: HostRuntime) -> Result<(), Fail> {
     Ok(())
 }
 
-/// The remarks on HDR are told where that line is the faulty one, too.
+/// The remarks on HDR are printed also if that line is the faulty one.
 #[test]
 fn tells_what_a_faulty_header_says_as_json(rt: HostRuntime) -> Result<(), Fail> {
     expect_check(
@@ -147,7 +148,7 @@ fn tells_a_second_file_as_json(rt: HostRuntime) -> Result<(), Fail> {
     )
 }
 
-/// The bytes of a party number that a rule asks for are shown as those that stand there.
+/// The bytes of a party number that a rule requires are shown as those that stand there.
 #[test]
 fn shows_what_was_expected(rt: HostRuntime) -> Result<(), Fail> {
     expect_check(

@@ -10,10 +10,10 @@ use crate::status::{bad_words, no_memory};
 use crate::wanted_rows::number_given;
 use byte_streams::{ReadRefused, Through, read_file};
 use clap::ArgMatches;
-use cwr_desk::MOST_BYTES;
+use cwr_desk::MAX_BYTES;
 use cwr_record::Stamp;
 use cwr_verify::{NoAnswer, answer};
-use kept_register::NoBook;
+use register_store::ReadBookError;
 use std::io;
 use std::process::ExitCode;
 use std::rt::Files;
@@ -47,14 +47,14 @@ struct Asked<'a> {
     file: &'a str,
     /// The stamp of the run that took it.
     stamp: Stamp,
-    /// The entry of its first transaction, from 1, where one is named.
+    /// The entry of its first transaction, from 1, if one is named.
     entry: Option<u32>,
-    /// Whether steps, and the system's reasons, are told.
+    /// Whether steps, and the system's reasons, are printed.
     verbose: bool,
 }
 
-/// Makes the acknowledgement of a file again on standard output, from a register, which is that of standard input for `-`.
-/// Why there is none is told on standard error.
+/// Makes the acknowledgement of a file again from a register, on standard output. The register `-` is standard input.
+/// If there is no acknowledgement, the reason is printed on standard error.
 pub(crate) fn answer_file<R: AllocGlobal + Input + Print + Eprint + Files>(
     rt: &R,
     register: &str,
@@ -69,7 +69,7 @@ pub(crate) fn answer_file<R: AllocGlobal + Input + Print + Eprint + Files>(
     }
 }
 
-/// What the words ask for, or what is wrong with them: of several, the first in this order.
+/// What the options ask for, or what is wrong with them: of several faults, the first in this order.
 fn asked_of<'a>(given: &ArgMatches<'a>) -> Result<Asked<'a>, &'static str> {
     let words = StampWords::given(given).ok_or("the command line is not taken")?;
     if let Some(fault) = words.fault() {
@@ -85,7 +85,8 @@ fn asked_of<'a>(given: &ArgMatches<'a>) -> Result<Asked<'a>, &'static str> {
     })
 }
 
-/// The same of a register and a file. Why there is no acknowledgement is told, and its status answered.
+/// The same for a register and options that are right. If there is no acknowledgement, the reason is printed, and its
+/// status returned.
 fn answer_asked<R: AllocGlobal + Input + Print + Eprint + Files>(
     rt: &R,
     register: &str,
@@ -103,11 +104,11 @@ fn answer_asked<R: AllocGlobal + Input + Print + Eprint + Files>(
         &mut out,
     ) {
         Ok(()) => Ok(()),
-        Err(why) => Err(tell_why(rt, asked, why)),
+        Err(why) => Err(print_why(rt, asked, why)),
     }
 }
 
-/// The book of a register. Why there is none is told on standard error.
+/// The book of a register. If there is none, the reason is printed on standard error.
 fn book_in<R: AllocGlobal + Input + Eprint + Files>(
     rt: &R,
     register: &str,
@@ -115,7 +116,7 @@ fn book_in<R: AllocGlobal + Input + Eprint + Files>(
 ) -> Result<Book, ExitCode> {
     match named_book(rt, register, verbose) {
         Ok(book) => Ok(book),
-        Err(NoBook::Memory) => Err(no_memory(rt)),
+        Err(ReadBookError::Memory) => Err(no_memory(rt)),
         Err(why) => {
             let _ = eprintln!(rt; "register: {why}");
             Err(ExitCode::FAILURE)
@@ -123,13 +124,13 @@ fn book_in<R: AllocGlobal + Input + Eprint + Files>(
     }
 }
 
-/// The bytes of the file. Why they cannot be read is told on standard error.
+/// The bytes of the file. If they cannot be read, the reason is printed on standard error.
 fn text_of<R: AllocGlobal + Eprint + Files>(rt: &R, asked: &Asked) -> Result<Vec<u8>, ExitCode> {
     let mut file = InputFile::new(rt, asked.file, asked.verbose);
-    match read_file(rt.alloc(), &mut file, MOST_BYTES) {
+    match read_file(rt.alloc(), &mut file, MAX_BYTES) {
         Ok(bytes) => Ok(bytes),
         Err(ReadRefused::Memory) => Err(no_memory(rt)),
-        Err(ReadRefused::TooLong) => Err(tell_why(rt, asked, NoAnswer::TooLong)),
+        Err(ReadRefused::TooLong) => Err(print_why(rt, asked, NoAnswer::TooLong)),
         Err(unread) => {
             let _ = eprintln!(rt; "{}: stopped: {unread}", asked.file);
             Err(ExitCode::FAILURE)
@@ -137,8 +138,8 @@ fn text_of<R: AllocGlobal + Eprint + Files>(rt: &R, asked: &Asked) -> Result<Vec
     }
 }
 
-/// Tells why a file is not acknowledged again. That standard output failed it has told itself.
-fn tell_why<R: Eprint>(rt: &R, asked: &Asked, why: NoAnswer) -> ExitCode {
+/// Prints why a file is not acknowledged again. A failure of standard output has been reported before.
+fn print_why<R: Eprint>(rt: &R, asked: &Asked, why: NoAnswer) -> ExitCode {
     let name = asked.file;
     let _told = match why {
         NoAnswer::Memory => return no_memory(rt),
@@ -146,15 +147,15 @@ fn tell_why<R: Eprint>(rt: &R, asked: &Asked, why: NoAnswer) -> ExitCode {
         NoAnswer::Refused { number, line } => {
             eprintln!(rt; "{name}: refused F{number} at line {line}")
         }
-        NoAnswer::OtherEntry => tell_other_entry(rt, asked),
-        NoAnswer::Transaction { group, sequence } => tell_missing(rt, asked, group, sequence),
+        NoAnswer::OtherEntry => print_other_entry(rt, asked),
+        NoAnswer::Transaction { group, sequence } => print_missing(rt, asked, group, sequence),
         NoAnswer::Write { sent: _ } => Ok(()),
     };
     ExitCode::FAILURE
 }
 
-/// Tells that the entry that is named is another.
-fn tell_other_entry<R: Eprint>(rt: &R, asked: &Asked) -> io::Result<()> {
+/// Prints that the given entry is not that of the file.
+fn print_other_entry<R: Eprint>(rt: &R, asked: &Asked) -> io::Result<()> {
     match asked.entry {
         Some(entry) => {
             eprintln!(rt;
@@ -166,8 +167,8 @@ fn tell_other_entry<R: Eprint>(rt: &R, asked: &Asked) -> io::Result<()> {
     }
 }
 
-/// Tells which transaction has no entry.
-fn tell_missing<R: Eprint>(rt: &R, asked: &Asked, group: u32, sequence: u32) -> io::Result<()> {
+/// Prints which transaction has no entry.
+fn print_missing<R: Eprint>(rt: &R, asked: &Asked, group: u32, sequence: u32) -> io::Result<()> {
     let name = asked.file;
     match asked.entry {
         Some(entry) => eprintln!(rt;

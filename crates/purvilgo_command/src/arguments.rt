@@ -1,30 +1,30 @@
-//! What commands take, as lists of which their command lines are made.
+//! The arguments of commands, as lists from which their command lines are made.
 
 use clap::{Arg, ArgAction, Command};
 use std::alloc::{AllocError, Global};
 
-/// An argument of a command: its name, and last its help.
+/// An argument of a command: its name first, and its help last.
 #[derive(Clone, Copy)]
 pub(crate) enum Argument {
-    /// A word that has to be given.
+    /// A required word.
     Word(&'static str, &'static str),
     /// One word or more.
     Words(&'static str, &'static str),
-    /// Any number of words.
+    /// Zero or more words.
     AnyWords(&'static str, &'static str),
     /// An option with one value, of this name, which is given at most once.
     Value(&'static str, &'static str, &'static str),
-    /// Such an option that has to be given.
+    /// Such an option that is required.
     NeededValue(&'static str, &'static str, &'static str),
     /// An option without a value.
     Flag(&'static str, &'static str),
-    /// Such an option that excludes another one, which stands before its help.
+    /// Such an option that excludes another one, whose name stands before its help.
     FlagAgainst(&'static str, &'static str, &'static str),
     /// `--verbose`, as each command takes it.
     Verbose,
 }
 
-/// A command: its name, what it does, its arguments in their order, and what its long help tells beside that.
+/// A command: its name, what it does, its arguments in their order, and what its long help prints in addition.
 #[derive(Clone, Copy)]
 pub(crate) struct CommandWords {
     pub(crate) name: &'static str,
@@ -115,7 +115,7 @@ fn verbose_flag<'a>(alloc: Global) -> Arg<'a> {
     flag(
         alloc,
         "verbose",
-        "tell steps and the system's reasons on standard error",
+        "print steps and the system's reasons on standard error",
     )
     .short('v')
 }

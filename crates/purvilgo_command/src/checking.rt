@@ -8,7 +8,7 @@ use crate::status::{bad_words, status_of};
 use byte_streams::{ReadRefused, Source};
 use clap::ArgMatches;
 use cwr_check::{Checked, check_source};
-use cwr_desk::MOST_BYTES;
+use cwr_desk::MAX_BYTES;
 use cwr_field::Memory;
 use cwr_remarks::{
     check_faults, put_fault_lines, put_named_lines, remarked_json, remarked_json_of_file,
@@ -22,29 +22,29 @@ use std::rt::Files;
 /// `check [--long | --json] [--quiet] [--verbose] FILE..`, where `--quiet` is not taken with `--json`.
 pub(crate) const CHECK: CommandWords = CommandWords {
     name: "check",
-    about: "Tells which rules a CWR 2.2 file breaks, before it is sent; nothing is registered",
+    about: "Prints which rules a CWR 2.2 file breaks, before it is sent; nothing is registered",
     arguments: &[
         Argument::Words("FILE", "a CWR 2.2 file, or - for standard input"),
         Argument::Flag(
             "long",
-            "tell of each fault its line, its field, what stands there and what was expected",
+            "print for each fault its line, its field, what stands there and what was expected",
         ),
         Argument::FlagAgainst(
             "json",
             "long",
-            "tell the same as one JSON object, on one line",
+            "print the same as one JSON object, on one line",
         ),
         Argument::FlagAgainst(
             "quiet",
             "json",
-            "tell faults alone, and nothing of a file without",
+            "print faults alone, and nothing for a file without",
         ),
         Argument::Verbose,
     ],
     more: CHECK_HELP,
 };
 
-/// How a check tells what it found.
+/// How a check prints what it found.
 #[derive(Clone, Copy)]
 enum CheckForm {
     /// A line for each transaction.
@@ -55,13 +55,13 @@ enum CheckForm {
     Json,
 }
 
-/// How files are checked, and what is told of them.
+/// How files are checked, and what is printed of them.
 #[derive(Clone, Copy)]
 struct Manner {
     form: CheckForm,
-    /// Whether faults alone are told.
+    /// Whether faults alone are printed.
     quiet: bool,
-    /// Whether each line is told with the name of its file, as that is one of several.
+    /// Whether each line begins with the name of its file, as that is one of several.
     named: bool,
     verbose: bool,
 }
@@ -69,18 +69,18 @@ struct Manner {
 /// How the check of a file ended.
 #[derive(Clone, Copy, PartialEq, Eq)]
 enum Ended {
-    /// It has no fault, and that was told.
+    /// It has no fault, and that was printed.
     Clean,
-    /// It has faults, or was not checked to its end, and that was told.
+    /// It has faults, or was not checked to its end, and that was printed.
     Faulty,
     /// Standard output failed.
-    Untold,
+    Unprinted,
 }
 
-/// Checks the files that the words name, one after another, and tells on standard output what was found, in the form that
-/// is asked for. Of several files each line begins with the file's name, and one that is not checked stops no other.
+/// Checks the given files, one after another, and prints what was found on standard output, in the form that is asked
+/// for. If there are several files each line begins with the file's name. A file that is not checked stops no other.
 ///
-/// The status is 0 where all of them are clean and told. Where standard output fails no more files are read.
+/// The status is 0 if all of them are clean and that was printed. If standard output fails no more files are read.
 pub(crate) fn check_files<R: AllocGlobal + Input + Print + Eprint + Files>(
     rt: &R,
     given: &ArgMatches,
@@ -98,7 +98,7 @@ pub(crate) fn check_files<R: AllocGlobal + Input + Print + Eprint + Files>(
     status_of(are_clean(rt, names, manner))
 }
 
-/// The form that the words ask for.
+/// The form that the options ask for.
 fn form_of(given: &ArgMatches) -> CheckForm {
     if given.get_flag("json") {
         CheckForm::Json
@@ -109,7 +109,7 @@ fn form_of(given: &ArgMatches) -> CheckForm {
     }
 }
 
-/// Checks files, and answers whether all of them are clean, and told.
+/// Checks files, and returns whether all of them are clean, and that was printed.
 fn are_clean<R: AllocGlobal + Input + Print + Eprint + Files>(
     rt: &R,
     names: &[&str],
@@ -121,7 +121,7 @@ fn are_clean<R: AllocGlobal + Input + Print + Eprint + Files>(
         match check_file(rt, &mut out, name, manner) {
             Ended::Clean => {}
             Ended::Faulty => clean = false,
-            Ended::Untold => return false,
+            Ended::Unprinted => return false,
         }
     }
     clean
@@ -135,16 +135,16 @@ fn check_file<R: AllocGlobal + Input + Print + Eprint + Files>(
     manner: Manner,
 ) -> Ended {
     match checked_file(rt, name, manner) {
-        Ok(checked) => tell_check(out, &checked),
+        Ok(checked) => print_check(out, &checked),
         Err(unread) => {
-            tell_unread(rt, name, manner, unread);
+            print_unread(rt, name, manner, unread);
             Ended::Faulty
         }
     }
 }
 
-/// Tells why a file was not checked, with its name where it is one of several.
-fn tell_unread<R: Eprint>(rt: &R, name: &str, manner: Manner, unread: ReadRefused) {
+/// Prints why a file was not checked, with its name if it is one of several.
+fn print_unread<R: Eprint>(rt: &R, name: &str, manner: Manner, unread: ReadRefused) {
     let _told = if manner.named {
         eprintln!(rt; "{name}: stopped: {unread}")
     } else {
@@ -152,8 +152,8 @@ fn tell_unread<R: Eprint>(rt: &R, name: &str, manner: Manner, unread: ReadRefuse
     };
 }
 
-/// What is told of a file. For the short form it goes through a window, for the others it is in memory whole, until it is
-/// checked.
+/// The text that is printed of a file. For the short form the file goes through a window. For the others all of it is
+/// in memory until it is checked.
 fn checked_file<R: AllocGlobal + Input + Eprint + Files>(
     rt: &R,
     name: &str,
@@ -164,16 +164,16 @@ fn checked_file<R: AllocGlobal + Input + Eprint + Files>(
     match manner.form {
         CheckForm::Short => {
             let checked = read_named(rt, name, verbose, ShortCheck { alloc })?;
-            told_in(alloc, name, checked, manner)
+            printed_lines(alloc, name, checked, manner)
         }
         CheckForm::Long => {
-            let checked = long_check(alloc, &bytes_of(rt, name, MOST_BYTES, verbose)?, manner)?;
-            told_in(alloc, name, checked, manner)
+            let checked = long_check(alloc, &bytes_of(rt, name, MAX_BYTES, verbose)?, manner)?;
+            printed_lines(alloc, name, checked, manner)
         }
         CheckForm::Json => json_check(
             alloc,
             name,
-            &bytes_of(rt, name, MOST_BYTES, verbose)?,
+            &bytes_of(rt, name, MAX_BYTES, verbose)?,
             manner,
         ),
     }
@@ -189,11 +189,11 @@ impl Reading for ShortCheck {
     type Made = Result<Checked, ReadRefused>;
 
     fn read<S: Source>(self, reader: &mut S) -> Result<Checked, ReadRefused> {
-        check_source(self.alloc, reader, MOST_BYTES, WINDOW)
+        check_source(self.alloc, reader, MAX_BYTES, WINDOW)
     }
 }
 
-/// What is told of a file with these bytes to a person.
+/// The long report on a file with these bytes.
 fn long_check(alloc: Global, bytes: &[u8], manner: Manner) -> Result<Checked, ReadRefused> {
     let told = if manner.quiet {
         check_faults(alloc, bytes)
@@ -203,7 +203,7 @@ fn long_check(alloc: Global, bytes: &[u8], manner: Manner) -> Result<Checked, Re
     given_memory(told)
 }
 
-/// What is told of a file with these bytes as JSON.
+/// The report on a file with these bytes as JSON.
 fn json_check(
     alloc: Global,
     name: &str,
@@ -218,7 +218,7 @@ fn json_check(
     given_memory(told)
 }
 
-/// What was made, unless memory was refused.
+/// The result, or the refusal for an allocation that failed.
 fn given_memory<T>(made: Result<T, Memory>) -> Result<T, ReadRefused> {
     match made {
         Ok(made) => Ok(made),
@@ -226,9 +226,9 @@ fn given_memory<T>(made: Result<T, Memory>) -> Result<T, ReadRefused> {
     }
 }
 
-/// The lines that are told of a file: those of faults alone where that is asked for, and behind its name where it is one of
-/// several.
-fn told_in(
+/// The lines that are printed of a file: those of faults alone if that is asked for, each behind the file's name if it
+/// is one of several.
+fn printed_lines(
     alloc: Global,
     name: &str,
     checked: Checked,
@@ -258,10 +258,10 @@ fn named(alloc: Global, name: &str, text: &[u8]) -> Result<Vec<u8>, Memory> {
     Ok(lines)
 }
 
-/// Tells what was found in a file.
-fn tell_check<R: Print + Eprint>(out: &mut StandardOutput<'_, R>, checked: &Checked) -> Ended {
+/// Prints what was found in a file.
+fn print_check<R: Print + Eprint>(out: &mut StandardOutput<'_, R>, checked: &Checked) -> Ended {
     if !out.put(&checked.text) {
-        Ended::Untold
+        Ended::Unprinted
     } else if checked.clean {
         Ended::Clean
     } else {

@@ -13,16 +13,16 @@ use crate::version::{VERSION, VERSION_WORD};
 use clap::Command;
 use std::alloc::{AllocError, Global};
 
-// The commands, in the order in which help tells them. They are three lists, each with a function of its own: the words of all
-// of them in one function are more than a proof of it takes.
+// The commands, in the order in which help prints them. They are three lists, each with a function of its own: one
+// function with the texts of all commands is too large for its proof.
 
-/// What is done with files, and what the rules ask of them.
+/// Commands on files, and on the rules.
 const FILE_COMMANDS: [CommandWords; 3] = [RUN, CHECK, EXPLAIN];
 
-/// What is told of a register.
+/// Commands that print a register.
 const REGISTER_COMMANDS: [CommandWords; 5] = [AUDIT, CLAIMS, WORKS, HISTORY, SUMMARY];
 
-/// What is told of both together, and of the program.
+/// Commands on a register and files, and on the program.
 const OTHER_COMMANDS: [CommandWords; 3] = [VERIFY, ANSWER, VERSION_WORD];
 
 /// The program's name, what it does without words, and its commands.

@@ -1,4 +1,4 @@
-//! What the rules ask, and what the answers mean.
+//! What the rules require, and what the answers mean.
 
 use crate::arguments::{Argument, CommandWords};
 use crate::help::EXPLAIN_HELP;
@@ -11,7 +11,7 @@ use std::process::ExitCode;
 /// `explain [RULE..]`.
 pub(crate) const EXPLAIN: CommandWords = CommandWords {
     name: "explain",
-    about: "Tells what rules ask and what answers mean, and what to do then",
+    about: "Prints what rules require and what answers mean, and what to do then",
     arguments: &[Argument::AnyWords(
         "RULE",
         "a rule, such as F9 or 011, or an answer, such as CO; else all of them",
@@ -19,8 +19,8 @@ pub(crate) const EXPLAIN: CommandWords = CommandWords {
     more: EXPLAIN_HELP,
 };
 
-/// Tells on standard output the pages that the words name, or all pages where there are no words. A word that names none is
-/// told on standard error, and then nothing else is told.
+/// Prints the pages that the words name on standard output, or all pages if there are no words. A word that names none
+/// is reported on standard error, and then nothing else is printed.
 pub(crate) fn explain_rules<R: AllocGlobal + Print + Eprint>(
     rt: &R,
     given: &ArgMatches,
@@ -36,13 +36,13 @@ pub(crate) fn explain_rules<R: AllocGlobal + Print + Eprint>(
         }
     }
     if pages.is_empty() {
-        tell_pages(rt, every_page())
+        print_pages(rt, every_page())
     } else {
-        tell_pages(rt, &pages)
+        print_pages(rt, &pages)
     }
 }
 
-fn tell_pages<R: AllocGlobal + Print + Eprint>(rt: &R, pages: &[Page]) -> ExitCode {
+fn print_pages<R: AllocGlobal + Print + Eprint>(rt: &R, pages: &[Page]) -> ExitCode {
     let Ok(text) = texts_of_pages(rt.alloc(), pages) else {
         return no_memory(rt);
     };

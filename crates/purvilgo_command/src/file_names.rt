@@ -1,12 +1,12 @@
-//! Words that are to name files, and the name of a file's acknowledgement.
+//! Words that name files, and the name of a file's acknowledgement.
 
 ghost use Rattle.std.specs.Prelude.{IfOk, IsTrue, string_bytes};
-ghost use Rattle.run_words.specs.RunFault.{is_acknowledgement};
+ghost use Rattle.run_options.specs.RunFault.{is_acknowledgement};
 
 use clap::ArgMatches;
 use std::alloc::AllocError;
 
-/// The words that name files, each with what is told of one that is empty.
+/// The arguments that name files, each with what is printed if it is empty.
 const NAMES: [(&str, &str); 5] = [
     ("from", "bad --from"),
     ("to", "bad --to"),
@@ -15,8 +15,8 @@ const NAMES: [(&str, &str); 5] = [
     ("FILE", "bad FILE"),
 ];
 
-/// What is told where a word that is to name a file is empty: of the option before REGISTER, and of this before FILE. `None`
-/// where none is.
+/// The text to print if a word that names a file is empty: that of an option first, then that of REGISTER, then that of
+/// FILE. `None` if no such word is empty.
 pub(crate) fn empty_name(given: &ArgMatches) -> Option<&'static str> {
     for (name, text) in NAMES {
         if has_empty(given.get_strs(name).unwrap_or(&[])) {

@@ -2,7 +2,7 @@
 
 ghost use Rattle.std.specs.Prelude.{◌≡◌, ◌≤◌, false, None, length, IfOk};
 
-use crate::telling::tell_reason;
+use crate::messages::print_reason;
 use byte_streams::{Failed, ReadCount, ReadRefused, Source, Through, read_file};
 use std::alloc::Global;
 use std::io::Read;
@@ -14,7 +14,7 @@ const STANDARD_INPUT: &str = "-";
 
 /// What is done with a file, or with standard input, as it is read.
 pub(crate) trait Reading {
-    /// What comes of it, or why nothing does.
+    /// The result, or why there is none.
     type Made;
 
     /// Reads the file from its source.
@@ -55,7 +55,7 @@ pub(crate) fn bytes_of<R: AllocGlobal + Input + Eprint + Files>(
     read_named(rt, name, verbose, whole)
 }
 
-/// A file's bytes are kept, all of them.
+/// All bytes of a file are kept.
 #[derive(Clone, Copy)]
 struct Whole {
     alloc: Global,
@@ -70,7 +70,7 @@ impl Reading for Whole {
     }
 }
 
-/// Standard input. Why it cannot be read is told on standard error, where that is asked for.
+/// Standard input. If it cannot be read, the reason is printed on standard error, if that is asked for.
 #[derive(Drop)]
 struct StandardInput<'a, R: Input> {
     rt: &'a R,
@@ -79,27 +79,27 @@ struct StandardInput<'a, R: Input> {
 }
 
 impl<R: AllocGlobal + Input + Eprint> Read for StandardInput<'_, R> {
-    fn read(&mut self, room: &mut [u8]) -> io::Result<usize> {
-        let read = self.reader.read(room);
+    fn read(&mut self, buffer: &mut [u8]) -> io::Result<usize> {
+        let read = self.reader.read(buffer);
         if let Err(error) = &read {
             if self.verbose {
-                tell_reason(self.rt, STANDARD_INPUT, error);
+                print_reason(self.rt, STANDARD_INPUT, error);
             }
         }
         read
     }
 }
 
-/// A file that is opened at its first read, and closed once it was read to its end. It tells no bytes.
+/// A file that is opened at its first read, and closed once it was read to its end. A contract does not see its bytes.
 ///
 /// A file that cannot be opened counts as a failed read.
 #[derive(Drop)]
 pub(crate) struct InputFile<'a, R: Files> {
     rt: &'a R,
     path: &'a str,
-    /// Whether its end, or why it failed, is told on standard error.
+    /// Whether its end, or why it failed, is printed on standard error.
     verbose: bool,
-    /// How many bytes were read.
+    /// The number of bytes that were read.
     bytes: usize,
     file: Option<R::File>,
     /// Whether it was read to its end.
@@ -126,7 +126,7 @@ impl<'a, R: AllocGlobal + Eprint + Files> InputFile<'a, R> {
     }
 
     /// Opens the file, unless it is open.
-    fn open(&mut self) -> Result<(), Failed>
+    fn ensure_open(&mut self) -> Result<(), Failed>
         ensures reads { self.new.reads ≡ self.old.reads }
         ensures failed { self.new.failed ≡ self.old.failed }
     {
@@ -139,24 +139,24 @@ impl<'a, R: AllocGlobal + Eprint + Files> InputFile<'a, R> {
         Ok(())
     }
 
-    /// Reads once from the file, which it opens where it is not open. Behind the end there are no bytes.
-    fn read(&mut self, room: &mut [u8]) -> Result<usize, Failed>
-        ensures bound { IfOk result (λ n. n ≤ length room.new) }
+    /// Reads once from the file, and opens it first if it is not open. Behind the end there are no bytes.
+    fn read(&mut self, buffer: &mut [u8]) -> Result<usize, Failed>
+        ensures bound { IfOk result (λ n. n ≤ length buffer.new) }
         ensures reads { self.new.reads ≡ self.old.reads }
         ensures failed { self.new.failed ≡ self.old.failed }
     {
         if self.ended {
             return Ok(0);
         }
-        self.open()?;
+        self.ensure_open()?;
         let read = match &mut self.file {
-            Some(file) => file.read(room),
+            Some(file) => file.read(buffer),
             None => return Err(Failed),
         };
         match read {
             Ok(n) => {
                 self.count(n);
-                if n == 0 && !room.is_empty() {
+                if n == 0 && !buffer.is_empty() {
                     self.close();
                 }
                 Ok(n)
@@ -165,7 +165,7 @@ impl<'a, R: AllocGlobal + Eprint + Files> InputFile<'a, R> {
         }
     }
 
-    /// Counts the bytes that were read, and tells the end, which is where there are none.
+    /// Counts the bytes that were read, and reports the end of the file, which is where there are none.
     fn count(&mut self, n: usize)
         ensures reads { self.new.reads ≡ self.old.reads }
         ensures failed { self.new.failed ≡ self.old.failed }
@@ -176,7 +176,7 @@ impl<'a, R: AllocGlobal + Eprint + Files> InputFile<'a, R> {
         }
     }
 
-    /// Closes the file at its end: a run keeps its files until all of its workers have ended, and a table of open files
+    /// Closes the file at its end. A run keeps its files until all of its workers have ended, and a table of open files
     /// that grows while there are threads holds all of them up.
     fn close(&mut self)
         ensures reads { self.new.reads ≡ self.old.reads }
@@ -186,10 +186,10 @@ impl<'a, R: AllocGlobal + Eprint + Files> InputFile<'a, R> {
         self.ended = true;
     }
 
-    /// Tells why it failed.
+    /// Reports why it failed.
     fn fail(&self, error: &io::Error) -> Failed {
         if self.verbose {
-            tell_reason(self.rt, self.path, error);
+            print_reason(self.rt, self.path, error);
         }
         Failed
     }
@@ -206,9 +206,9 @@ impl<R: AllocGlobal + Eprint + Files> Source for InputFile<'_, R> {
         self.failed
     }
 
-    fn read_some(&mut self, room: &mut [u8]) -> Result<usize, Failed> {
+    fn read_some(&mut self, buffer: &mut [u8]) -> Result<usize, Failed> {
         self.reads.count();
-        let read = self.read(room);
+        let read = self.read(buffer);
         self.failed = read.is_err();
         read
     }

@@ -8,15 +8,15 @@ use std::rt::Env;
 use std::{env, io, str};
 
 /// No word of a command line has more bytes than this: Linux takes none that is longer.
-const MOST_WORD_BYTES: usize = 131_072;
+const MAX_WORD_BYTES: usize = 131_072;
 
-/// The words of the command line, the program's name first. Where one of them is not text, that and which one it is are told
-/// on standard error, and where there is no memory, that; then the status of it is answered.
+/// The words of the command line, the program's name first. If one of them is not text, a message that names it is
+/// printed on standard error, and its status returned. An allocation failure is reported likewise.
 pub(crate) fn given_words<R: Env + AllocGlobal + Eprint>(rt: &R) -> Result<Vec<String>, ExitCode> {
     let words = match env::args(rt) {
         Ok(words) => words,
         Err(error) if error.kind() == io::ErrorKind::OutOfMemory => return Err(no_memory(rt)),
-        Err(_) => return Err(tell_no_text(rt)),
+        Err(_) => return Err(print_no_text(rt)),
     };
     match words.collect(rt.alloc()) {
         Ok(words) => Ok(words),
@@ -24,25 +24,25 @@ pub(crate) fn given_words<R: Env + AllocGlobal + Eprint>(rt: &R) -> Result<Vec<S
     }
 }
 
-/// Tells that a word is not text, and which.
-fn tell_no_text<R: Env + AllocGlobal + Eprint>(rt: &R) -> ExitCode {
+/// Prints that a word is not text, and which.
+fn print_no_text<R: Env + AllocGlobal + Eprint>(rt: &R) -> ExitCode {
     let status = bad_words(rt, "a word of the command line is not text");
-    tell_first(rt);
+    print_first_word_without_text(rt);
     status
 }
 
-/// Tells the first word that is not text: how many words stand before it, the program's name among them, and its bytes. Where
-/// there is no memory for it, nothing.
-fn tell_first<R: Env + AllocGlobal + Eprint>(rt: &R) {
-    let Ok(mut room) = vec![in rt.alloc(); 0u8; MOST_WORD_BYTES] else {
+/// Prints the first word that is not text: its bytes, and the number of words before it, the program's name among them.
+/// If an allocation fails, nothing is printed.
+fn print_first_word_without_text<R: Env + AllocGlobal + Eprint>(rt: &R) {
+    let Ok(mut buffer) = vec![in rt.alloc(); 0u8; MAX_WORD_BYTES] else {
         return;
     };
     for number in 0..usize::MAX {
-        match rt.arg(number, &mut room) {
+        match rt.arg(number, &mut buffer) {
             Ok(length) => {
-                let word = &room[..length];
+                let word = &buffer[..length];
                 if str::from_utf8(word).is_err() {
-                    tell_word(rt, number, word);
+                    print_word(rt, number, word);
                     return;
                 }
             }
@@ -52,8 +52,9 @@ fn tell_first<R: Env + AllocGlobal + Eprint>(rt: &R) {
     }
 }
 
-/// Tells the bytes of the word with this number, as those of a file are shown. Where there is no memory for it, nothing.
-fn tell_word<R: AllocGlobal + Eprint>(rt: &R, number: usize, word: &[u8]) {
+/// Prints the bytes of the word with this number, shown as those of a file are. If an allocation fails, nothing is
+/// printed.
+fn print_word<R: AllocGlobal + Eprint>(rt: &R, number: usize, word: &[u8]) {
     let mut shown = Vec::new(rt.alloc());
     if put_shown(&mut shown, word).is_err() {
         return;

@@ -1,11 +1,11 @@
-//! What the long help of a command, `purvilgo help COMMAND` or `--help`, tells beside its options: what it reads and writes,
-//! its statuses, and an example. The manual page `docs/purvilgo.1` has the same words.
+//! The texts that the long help of a command, `purvilgo help COMMAND` or `--help`, prints beside its options: what it
+//! reads and writes, its statuses, and an example. The manual page `docs/purvilgo.1` has the same words.
 
 /// Of `purvilgo`.
 pub(crate) const PROGRAM_HELP: &str = "\
 Reads: standard input.
 Writes: the acknowledgement on standard output; on standard error why there is none.
-Status: 0 acknowledged; 1 refused or stopped; 2 the words are not taken, or help.
+Status: 0 acknowledged; 1 refused or stopped; 2 the arguments are not taken, or help.
 
 Example:
   purvilgo < in/a.v22 > in/a.v22.ack";
@@ -26,7 +26,7 @@ Drafts: FILE.ack.new and REGISTER.new take their names when they are whole, firs
 register, then the acknowledgements. Where the register cannot be kept, there are no
 new acknowledgements: make the run again. While a run leaves a register, it has
 REGISTER.lock locked, and a second one at that register ends at once.
-Status: 0 all files acknowledged, and the register kept; 2 the words are not taken, or
+Status: 0 all files acknowledged, and the register kept; 2 the arguments are not taken, or
 help; 1 else.
 
 Example:
@@ -40,12 +40,12 @@ Writes: on standard output a line for each transaction, or the file's first faul
 --long some lines for each fault, and none for a transaction without; with --json one
 object a file. Of several files each line begins with the file's name, or its object has
 the member file; one that cannot be read stops no other.
-Remarks: --long and --json tell them too. They are no faults, and leave the status as it
+Remarks: --long and --json print them too. They are no faults, and leave the status as it
 is: a file that begins with a byte order mark, is UTF-16 or gzip, or has a second one
 behind it; a CWR version that is not 2.2, another sender type; bytes above 126, a line
 past its layout, a record type that CWR 2.2 does not have, territories that are only
 excluded.
-Status: 0 no fault in any FILE; 2 the words are not taken, or help; 1 else.
+Status: 0 no fault in any FILE; 2 the arguments are not taken, or help; 1 else.
 
 Example:
   purvilgo check --long in/a.v22";
@@ -55,7 +55,7 @@ pub(crate) const AUDIT_HELP: &str = "\
 Reads: REGISTER, or standard input where REGISTER is -.
 Writes: on standard output the number of entries, or the first fault; with --json one
 object, with entries and fault, of which one is null.
-Status: 0 no fault; 2 the words are not taken, or help; 1 else.
+Status: 0 no fault; 2 the arguments are not taken, or help; 1 else.
 
 Example:
   purvilgo audit 0042.register";
@@ -64,9 +64,10 @@ Example:
 pub(crate) const EXPLAIN_HELP: &str = "\
 Rules: F1 to F12 of a file, J1 to J15 of a transaction, G1 to G4 of a register; j8 and J08
 are J8, and 011, the number of an MSG record, is J11.
-Answers of an acknowledgement: AS, DU, CO, RJ. Without words all rules and answers are told.
-Writes: on standard output some lines for each, in the order of the words.
-Status: 0 told; 2 the words are not taken (a word that is neither, as F13), or help; 1
+Answers of an acknowledgement: AS, DU, CO, RJ. Without arguments all rules and answers
+are printed.
+Writes: on standard output some lines for each, in the order of the arguments.
+Status: 0 printed; 2 the arguments are not taken (one that is neither, as F13), or help; 1
 else.
 
 Example:
@@ -84,7 +85,7 @@ Plain: texts without the blanks behind them, and with an apostrophe before what 
 taken for a formula; control in per cent, as 50.07, in columns named performing_control and
 the like.
 Where no claim matches --work, --submitter and --number, standard error says so.
-Status: 0 told; 2 the words are not taken, or help; 1 else.
+Status: 0 printed; 2 the arguments are not taken, or help; 1 else.
 
 Example:
   purvilgo claims --work 1 0042.register";
@@ -99,7 +100,7 @@ claims on the work have together, in hundredths of one per cent; claims is how m
 current ones there are. With --plain control is in per cent, as 50.07, in columns named
 performing_control and the like.
 Where no work matches --work, standard error says so.
-Status: 0 told; 2 the words are not taken, or help; 1 else.
+Status: 0 printed; 2 the arguments are not taken, or help; 1 else.
 
 Example:
   purvilgo works 0042.register";
@@ -119,7 +120,7 @@ the like.
 JSON: an object a line, without a header, and the first fault as that of audit --json.
 --plain and --json are not taken together.
 Where no entry matches the options, standard error says so.
-Status: 0 told; 2 the words are not taken, or help; 1 else.
+Status: 0 printed; 2 the arguments are not taken, or help; 1 else.
 
 Example:
   purvilgo history --status RJ 0042.register";
@@ -133,9 +134,9 @@ left of it; and the ten works with the most conflicts. Or the register's first f
 Left: what the claims on a work leave of 100 per cent: none, up to 25, up to 50, more than
 that, and all.
 Conflicts: the most first, and of as many the lower number of the work first. A work
-without any is not told.
+without any is not printed.
 JSON: the same as one object, and the first fault as that of audit --json.
-Status: 0 told; 2 the words are not taken, or help; 1 else.
+Status: 0 printed; 2 the arguments are not taken, or help; 1 else.
 
 Example:
   purvilgo summary 0042.register";
@@ -148,7 +149,7 @@ were run.
 Writes: on standard output how many transactions of how many files are verified; or the
 register's first fault, or the first FILE that does not fit, with the group and the
 transaction, or the line of its acknowledgement.
-Status: 0 verified; 2 the words are not taken, or help; 1 else.
+Status: 0 verified; 2 the arguments are not taken, or help; 1 else.
 
 Example:
   purvilgo verify 0042.register in/a.v22 in/b.v22";
@@ -165,7 +166,7 @@ Reads: REGISTER, or standard input where REGISTER is -; FILE.
 Writes: on standard output the acknowledgement, byte for byte what the run wrote that made
 these entries with this society, name, date and time; on standard error why there is none,
 as the first transaction that no entry answers.
-Status: 0 acknowledged; 2 the words are not taken, or help; 1 else.
+Status: 0 acknowledged; 2 the arguments are not taken, or help; 1 else.
 
 Example:
   purvilgo answer --society 007 --name 'MY SOCIETY' --date 20240601 --time 090000 \\

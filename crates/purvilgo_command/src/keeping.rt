@@ -1,18 +1,18 @@
 //! What a run leaves: the register, and then the acknowledgements.
 
 ghost use Rattle.std.specs.Prelude.{◌≡◌, false, IfSome};
-ghost use Rattle.kept_file.specs.Looking.{Only};
+ghost use Rattle.atomic_file.specs.Looking.{Only};
 
+use crate::messages::print_reason;
 use crate::output::{LeftDraft, OutputFile};
 use crate::run_command::RunWords;
 use crate::targets::Targets;
-use crate::telling::tell_reason;
+use atomic_file::{
+    FileNames, Follower, Listener, Storage, SystemStorage, put_followers, remove_draft, sync_drafts,
+};
 use cwr_desk::Job;
 use cwr_field::Memory;
-use kept_file::{
-    FileNames, Follower, Listener, Place, SystemPlace, put_followers, remove_draft, sync_drafts,
-};
-use kept_register::{RegisterNotKept, keep_register};
+use register_store::{KeepRegisterError, keep_register};
 use std::alloc::Global;
 use std::io;
 use std::rt::Files;
@@ -22,7 +22,7 @@ use work_registry::Book;
 /// The acknowledgements that a run left as drafts.
 #[derive(Drop)]
 pub(crate) struct Waiting<'a> {
-    /// Those that are whole, and wait for their names.
+    /// Those that are complete, and wait for their names.
     names: Vec<&'a FileNames>,
     followers: Vec<Follower<'a>>,
     /// Those of which a write failed, which get no name.
@@ -30,7 +30,7 @@ pub(crate) struct Waiting<'a> {
 }
 
 impl<'a> Waiting<'a> {
-    /// Room for so many, of which there is none yet. No later call takes memory.
+    /// An empty list with capacity for `number` acknowledgements. No later call allocates.
     pub(crate) fn room_for(alloc: Global, number: usize) -> Result<Waiting<'a>, Memory> {
         Ok(Waiting {
             names: Vec::with_capacity(alloc, number)?,
@@ -39,7 +39,7 @@ impl<'a> Waiting<'a> {
         })
     }
 
-    /// One more, which takes the place of one that is there if it `replaces` one.
+    /// Adds an acknowledgement, which takes the place of an existing file if it `replaces` one.
     fn add(&mut self, names: &'a FileNames, replaces: bool) -> Result<(), Memory> {
         self.names.push(names)?;
         self.followers.push(Follower::new(names, replaces))?;
@@ -47,14 +47,14 @@ impl<'a> Waiting<'a> {
     }
 }
 
-/// Tells on standard error what is written, and why a call of the system failed, where that is asked for.
+/// Prints on standard error what is written, and why a call of the system failed, if that is asked for.
 #[derive(Drop)]
-struct Telling<'a, R> {
+struct ErrorPrinter<'a, R> {
     rt: &'a R,
     verbose: bool,
 }
 
-impl<R: AllocGlobal + Eprint> Listener for Telling<'_, R> {
+impl<R: AllocGlobal + Eprint> Listener for ErrorPrinter<'_, R> {
     fn wrote(&self, names: &FileNames, bytes: usize) {
         if self.verbose {
             let _ = eprintln!(self.rt; "{}: written, {bytes} bytes", names.word());
@@ -63,16 +63,19 @@ impl<R: AllocGlobal + Eprint> Listener for Telling<'_, R> {
 
     fn failed(&self, names: &FileNames, error: &io::Error) {
         if self.verbose {
-            tell_reason(self.rt, names.word(), error);
+            print_reason(self.rt, names.word(), error);
         }
     }
 }
 
-/// Keeps the register of a book, where one is asked for, and then gives the acknowledgements their names. Answers whether
-/// all of it is in place. What is not is told on standard error.
+/// Keeps the register of a book, if one is asked for, and then gives the acknowledgements their names. Returns whether
+/// all of it is in place. What is not is reported on standard error.
 ///
-/// Where the register cannot be kept, all drafts are taken away, those of acknowledgements that were cut too, and those of
-/// before are as they were. Else one that was cut stays in its draft, and gets no name.
+/// If the register cannot be kept, all drafts are removed, those of acknowledgements that were cut too, and earlier
+/// files are as they were. Else a cut acknowledgement stays in its draft, and gets no name.
+///
+/// `rt` is the runtime, and `book` has the entries. `jobs` have left drafts, and `waiting` is an empty list for their
+/// acknowledgements. `targets` has the names of the files that the run writes, and `words` its options.
 pub(crate) fn keep_run<'a, I: Drop, R: AllocGlobal + Eprint + Files + Threads + Sync>(
     rt: &'a R,
     book: &Book,
@@ -90,8 +93,8 @@ where
     placed && added
 }
 
-/// Adds the acknowledgements of these jobs, and answers whether there was memory for all. Of which there was none is told on
-/// standard error.
+/// Adds the acknowledgements of these jobs, and returns whether there was memory for all. Those for which there was
+/// none are reported on standard error.
 fn add_all<'a, I: Drop, R: AllocGlobal + Eprint + Files>(
     rt: &'a R,
     jobs: Vec<Job<I, OutputFile<'a, R>>>,
@@ -104,7 +107,7 @@ fn add_all<'a, I: Drop, R: AllocGlobal + Eprint + Files>(
         match writer.into_draft() {
             LeftDraft::Whole(names) => {
                 if waiting.add(names, replaces).is_err() {
-                    added = tell_out_of_place(rt, names);
+                    added = print_out_of_place(rt, names);
                 }
             }
             LeftDraft::Cut(names) => {
@@ -116,8 +119,11 @@ fn add_all<'a, I: Drop, R: AllocGlobal + Eprint + Files>(
     added
 }
 
-/// Puts the acknowledgements that wait on the disk, keeps the register, where one is asked for, and gives the
-/// acknowledgements their names. Answers whether all of it is in place.
+/// Puts the waiting acknowledgements on disk, keeps the register, if one is asked for, and gives the acknowledgements
+/// their names. Returns whether all of it is in place.
+///
+/// `rt` is the runtime, `book` has the entries, and `waiting` the acknowledgements. `targets` has the names of the
+/// files that the run writes. `verbose` says whether steps, and the system's reasons, are printed.
 fn place_all<'a, R: AllocGlobal + Eprint + Files + Threads + Sync>(
     rt: &'a R,
     book: &Book,
@@ -136,7 +142,7 @@ where
     } = waiting;
     let register = targets.register.as_ref();
     sync_drafts(rt, &mut followers);
-    let mut place = SystemPlace::new(rt, register, followers, Telling { rt, verbose });
+    let mut place = SystemStorage::new(rt, register, followers, ErrorPrinter { rt, verbose });
     if !targets.replaces_register {
         place.replace_none();
     }
@@ -149,9 +155,12 @@ where
     kept && are_in_place(rt, &place, &names)
 }
 
-/// Keeps the register of a book at its place, where one is asked for, and puts those that follow it in theirs. Answers
-/// whether the register is kept, or none is asked for.
-fn keep_at<R: AllocGlobal + Eprint, P: Place>(
+/// Keeps the register of a book, if one is asked for, and puts its followers in place. Returns whether the register is
+/// kept, or none is asked for.
+///
+/// `rt` is the runtime, `place` the storage that is written, and `book` has the entries. `register` has the names of
+/// the register's file, if there is one. `verbose` says whether steps are printed.
+fn keep_at<R: AllocGlobal + Eprint, P: Storage>(
     rt: &R,
     place: &mut P,
     book: &Book,
@@ -164,7 +173,7 @@ fn keep_at<R: AllocGlobal + Eprint, P: Place>(
     match register {
         Some(register) => {
             let kept = keep_register(place, rt.alloc(), book);
-            tell_kept(rt, kept, register, book.len(), verbose)
+            print_kept(rt, kept, register, book.len(), verbose)
         }
         None => {
             put_followers(place);
@@ -173,21 +182,24 @@ fn keep_at<R: AllocGlobal + Eprint, P: Place>(
     }
 }
 
-/// Whether the followers of these names are in place. Which are not is told on standard error.
-fn are_in_place<R: Eprint, P: Place>(rt: &R, place: &P, names: &[&FileNames]) -> bool {
+/// Whether the followers of these names are in place. Those that are not are reported on standard error.
+fn are_in_place<R: Eprint, P: Storage>(rt: &R, place: &P, names: &[&FileNames]) -> bool {
     let mut placed = true;
     for (at, names) in names.iter().enumerate() {
         if place.is_refused(at) {
-            placed = tell_out_of_place(rt, names);
+            placed = print_out_of_place(rt, names);
         }
     }
     placed
 }
 
-/// Tells on standard error whether a register of so many entries was kept, and answers it.
-fn tell_kept<R: Eprint>(
+/// Prints on standard error whether a register was kept, and returns that.
+///
+/// `rt` is the runtime, and `kept` says whether it was kept, or why not. `register` has the names of its file, and
+/// `entries` is the number of its entries. `verbose` says whether success is printed too.
+fn print_kept<R: Eprint>(
     rt: &R,
-    kept: Result<(), RegisterNotKept>,
+    kept: Result<(), KeepRegisterError>,
     register: &FileNames,
     entries: usize,
     verbose: bool,
@@ -206,8 +218,8 @@ fn tell_kept<R: Eprint>(
     }
 }
 
-/// Tells on standard error that an acknowledgement is not in place, and answers that.
-fn tell_out_of_place<R: Eprint>(rt: &R, names: &FileNames) -> bool {
+/// Prints on standard error that an acknowledgement is not in place, and returns `false`.
+fn print_out_of_place<R: Eprint>(rt: &R, names: &FileNames) -> bool {
     let _ = eprintln!(rt; "{}: not in place", names.word());
     false
 }

@@ -1,5 +1,5 @@
-//! The commands of the program `purvilgo`: [`run_program`] takes its words, reads and writes its files, and answers its
-//! exit status. What it does with their bytes stands in the libraries below.
+//! The commands of the program `purvilgo`: [`run_program`] takes its words, reads and writes its files, and returns its
+//! exit status. What it does with their bytes is in the libraries below.
 #![tactic(auto)]
 
 mod answered_file;
@@ -12,6 +12,7 @@ mod files;
 mod given_words;
 mod help;
 mod keeping;
+mod messages;
 mod output;
 mod printing;
 mod program;
@@ -22,10 +23,9 @@ mod same_files;
 mod status;
 mod tables;
 mod targets;
-mod telling;
 mod verified_files;
 mod version;
 mod wanted_rows;
 
 pub use program::run_program;
-pub use registers::MOST_REGISTER_BYTES;
+pub use registers::MAX_REGISTER_BYTES;

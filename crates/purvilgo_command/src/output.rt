@@ -2,15 +2,15 @@
 
 ghost use Rattle.std.specs.Prelude.{◌≡◌, ◌≤◌, false, None, length, IfOk};
 
-use crate::telling::tell_reason;
+use crate::messages::print_reason;
+use atomic_file::{FileNames, open_draft, remove_draft, takes_draft};
 use byte_streams::{Failed, Sink};
-use kept_file::{FileNames, open_draft, remove_draft, takes_draft};
 use std::fs::File;
 use std::io::Write;
 use std::rt::Files;
 use std::{fs, io};
 
-/// The number by which the system tells that a file is there.
+/// The number of the system's error that a file exists.
 const FILE_EXISTS: i32 = 17;
 
 /// A piece of an acknowledgement that is not its last one has more bytes than this.
@@ -21,26 +21,26 @@ const LAST_PIECE: usize = 65_000;
 pub(crate) enum LeftDraft<'a> {
     /// No byte was written, or what was written was no draft.
     None,
-    /// The first bytes of an acknowledgement, of which a write failed. It is not to have its name.
+    /// The first bytes of an acknowledgement, of which a write failed. It must not get its name.
     Cut(&'a FileNames),
     /// An acknowledgement, which waits for its name.
     Whole(&'a FileNames),
 }
 
-/// The draft of a file, which is opened at its first write, and then begins empty. It tells no bytes.
+/// The draft of a file, which is opened at its first write, and then begins empty. A contract does not see its bytes.
 ///
-/// It is closed behind what looks like the last piece, and opened again where another one comes. A run keeps its drafts
-/// until all of its workers have ended, and a table of open files that grows while there are threads holds all of them up.
+/// It is closed behind what looks like the last piece, and opened again for a further one. A run keeps its drafts until
+/// all of its workers have ended, and a table of open files that grows while there are threads holds all of them up.
 ///
-/// What is neither a regular file nor a folder, as a device or a pipe, has no draft: it is written itself. A file or a draft that cannot be
-/// opened counts as a failed write.
+/// What is neither a regular file nor a folder, as a device or a pipe, has no draft: it is written itself. A file or a
+/// draft that cannot be opened counts as a failed write.
 #[derive(Drop)]
 pub(crate) struct OutputFile<'a, R: Files> {
     rt: &'a R,
     names: &'a FileNames,
-    /// Whether the draft may be that of a file that is there already.
+    /// Whether the draft may be that of an existing file.
     replaces: bool,
-    /// Whether each write, or why it failed, is told on standard error.
+    /// Whether each write, or why it failed, is printed on standard error.
     verbose: bool,
     file: Option<R::File>,
     /// Whether a draft was made, and not the file itself opened.
@@ -53,8 +53,10 @@ pub(crate) struct OutputFile<'a, R: Files> {
 }
 
 impl<'a, R: AllocGlobal + Eprint + Files> OutputFile<'a, R> {
-    /// The draft of this file, which is not opened yet. Where it `replaces` none, it cannot be opened if the file is there
-    /// then.
+    /// A writer to the draft of the file with these names. Nothing is opened yet.
+    ///
+    /// Without `replaces`, its first write fails if the file exists by then. With `verbose`, each write, or why it
+    /// failed, is printed on standard error.
     pub(crate) fn new(
         rt: &'a R,
         names: &'a FileNames,
@@ -76,7 +78,7 @@ impl<'a, R: AllocGlobal + Eprint + Files> OutputFile<'a, R> {
         }
     }
 
-    /// What becomes of the draft, where there is one. A draft without a byte is taken away.
+    /// What the job left of the draft, if there is one. A draft without a byte is removed.
     pub(crate) fn into_draft(self) -> LeftDraft<'a> {
         let OutputFile {
             rt,
@@ -98,11 +100,11 @@ impl<'a, R: AllocGlobal + Eprint + Files> OutputFile<'a, R> {
     }
 
     /// Opens the draft, unless it is open.
-    fn open(&mut self) -> Result<(), Failed>
+    fn ensure_open(&mut self) -> Result<(), Failed>
         ensures { self.new.failed ≡ self.old.failed }
     {
         if self.file.is_none() {
-            match self.opened() {
+            match self.open_file() {
                 Ok(file) => self.file = Some(file),
                 Err(error) => return Err(self.fail(&error)),
             }
@@ -110,8 +112,8 @@ impl<'a, R: AllocGlobal + Eprint + Files> OutputFile<'a, R> {
         Ok(())
     }
 
-    /// The draft, made anew, or at its end where it was closed.
-    fn opened(&mut self) -> io::Result<R::File>
+    /// The draft: made again as an empty one, or opened at its end if it was closed.
+    fn open_file(&mut self) -> io::Result<R::File>
         ensures { self.new.failed ≡ self.old.failed }
     {
         let names = self.names;
@@ -125,12 +127,12 @@ impl<'a, R: AllocGlobal + Eprint + Files> OutputFile<'a, R> {
         open_draft(self.rt, names)
     }
 
-    /// Writes once to the draft, which it opens where it is not open.
+    /// Writes once to the draft, and opens it first if it is not open.
     fn write(&mut self, bytes: &[u8]) -> Result<usize, Failed>
         ensures bound { IfOk result (λ n. n ≤ length bytes.now) }
         ensures failed { self.new.failed ≡ self.old.failed }
     {
-        self.open()?;
+        self.ensure_open()?;
         let written = match &mut self.file {
             Some(file) => file.write(bytes),
             None => return Err(Failed),
@@ -144,7 +146,7 @@ impl<'a, R: AllocGlobal + Eprint + Files> OutputFile<'a, R> {
         }
     }
 
-    /// Closes the draft where it took what looks like the last piece, the whole of it, and tells how many bytes it took.
+    /// Closes the draft if it took all of what looks like the last piece, and reports the number of bytes that it took.
     fn took(&mut self, n: usize, whole: bool)
         ensures { self.new.failed ≡ self.old.failed }
     {
@@ -167,10 +169,10 @@ impl<'a, R: AllocGlobal + Eprint + Files> OutputFile<'a, R> {
         }
     }
 
-    /// Tells why it failed.
+    /// Prints why the opening or a write failed, if it is verbose.
     fn fail(&self, error: &io::Error) -> Failed {
         if self.verbose {
-            tell_reason(self.rt, self.names.word(), error);
+            print_reason(self.rt, self.names.word(), error);
         }
         Failed
     }

@@ -1,13 +1,13 @@
-//! Standard output, which tells where it fails.
+//! Standard output, which reports its failure.
 
 use std::io::{self, ErrorKind, Write};
 
-/// Standard output. The first write that fails, or takes nothing, is told on standard error, with how many bytes were written
-/// before it. Behind it nothing more is written.
+/// Standard output. The first write that fails, or takes nothing, is reported on standard error, with the number of
+/// bytes that were written before it. Nothing more is written after it.
 #[derive(Drop)]
 pub(crate) struct StandardOutput<'a, R> {
     rt: &'a R,
-    /// How many bytes were written.
+    /// The number of bytes that were written.
     sent: u64,
     failed: bool,
 }
@@ -22,12 +22,12 @@ impl<'a, R: Print + Eprint> StandardOutput<'a, R> {
         }
     }
 
-    /// Writes all the bytes, and answers whether they went out.
+    /// Writes all the bytes, and returns whether they went out.
     pub(crate) fn put(&mut self, bytes: &[u8]) -> bool {
         self.write_all(bytes).is_ok()
     }
 
-    /// Tells that a write failed.
+    /// Reports that a write failed.
     fn fail(&mut self) {
         self.failed = true;
         let _ = eprintln!(self.rt; "standard output: stopped: write after {} bytes", self.sent);
@@ -54,7 +54,7 @@ impl<R: Print + Eprint> Write for StandardOutput<'_, R> {
     }
 }
 
-/// Writes bytes to standard output, and answers whether they went out.
+/// Writes bytes to standard output, and returns whether they went out.
 pub(crate) fn is_printed<R: Print + Eprint>(rt: &R, bytes: &[u8]) -> bool {
     StandardOutput::of(rt).put(bytes)
 }

@@ -1,20 +1,20 @@
 //! Registers that lie in files.
 
 ghost use Rattle.std.specs.Prelude.{◌≡◌, true, IfSome};
-ghost use Rattle.work_registry.specs.Numbers.{most_entries};
+ghost use Rattle.work_registry.specs.Numbers.{max_entries};
 ghost use Rattle.work_registry.specs.Replay.{is_opening};
 
 use crate::arguments::{Argument, CommandWords};
 use crate::files::{InputFile, Reading, read_named};
 use crate::help::AUDIT_HELP;
+use crate::messages::print_reason;
 use crate::printing::{StandardOutput, is_printed};
 use crate::status::{no_memory, status_of};
-use crate::telling::tell_reason;
+use atomic_file::{CallFailed, Exclusive, FileNames, lock, takes_draft};
 use byte_streams::Source;
 use clap::ArgMatches;
-use kept_file::{CallFailed, Exclusive, FileNames, lock, takes_draft};
-pub use kept_register::MOST_REGISTER_BYTES;
-use kept_register::{NoBook, REGISTER_WINDOW, audit_source, new_book, read_book};
+pub use register_store::MAX_REGISTER_BYTES;
+use register_store::{REGISTER_WINDOW, ReadBookError, audit_source, new_book, read_book};
 use register_tables::{Audited, audit_json};
 use std::alloc::Global;
 use std::fs::File;
@@ -26,29 +26,30 @@ use work_registry::{Book, RegisterRefusal};
 /// `audit [--json] [--verbose] REGISTER`.
 pub(crate) const AUDIT: CommandWords = CommandWords {
     name: "audit",
-    about: "Decides on every entry of a register anew, and compares",
+    about: "Decides on every entry of a register again, and compares",
     arguments: &[
         REGISTER,
-        Argument::Flag("json", "tell the same as one JSON object, on one line"),
+        Argument::Flag("json", "print the same as one JSON object, on one line"),
         Argument::Verbose,
     ],
     more: AUDIT_HELP,
 };
 
-/// The register that a command tells of.
+/// The register that a command reads.
 pub(crate) const REGISTER: Argument = Argument::Word(
     "REGISTER",
     "a register, or - for standard input",
 );
 
-/// The book that a run begins with: an empty one, or that of a register. A refused register is told on standard error.
+/// The book that a run begins with: an empty one, or that of a register. A refused register is reported on standard
+/// error.
 pub(crate) fn opening_book<R: AllocGlobal + Eprint + Files>(
     rt: &R,
     from: Option<&str>,
     verbose: bool,
 ) -> Option<Book>
     ensures opening { IfSome result (λ book. is_opening book.history ≡ true) }
-    ensures limit { IfSome result (λ book. book.limit ≡ most_entries) }
+    ensures limit { IfSome result (λ book. book.limit ≡ max_entries) }
 {
     match from {
         None => Some(new_book(rt.alloc())),
@@ -56,14 +57,14 @@ pub(crate) fn opening_book<R: AllocGlobal + Eprint + Files>(
     }
 }
 
-/// The book of a register. One that is refused is told on standard error.
+/// The book of a register. A refused register is reported on standard error.
 fn book_in<R: AllocGlobal + Eprint + Files>(rt: &R, path: &str, verbose: bool) -> Option<Book>
     ensures opening { IfSome result (λ book. is_opening book.history ≡ true) }
-    ensures limit { IfSome result (λ book. book.limit ≡ most_entries) }
+    ensures limit { IfSome result (λ book. book.limit ≡ max_entries) }
 {
     match read_book(rt.alloc(), &mut InputFile::new(rt, path, verbose)) {
         Ok(book) => {
-            tell_read(rt, path, &book, verbose);
+            print_read(rt, path, &book, verbose);
             Some(book)
         }
         Err(refusal) => {
@@ -73,21 +74,22 @@ fn book_in<R: AllocGlobal + Eprint + Files>(rt: &R, path: &str, verbose: bool) -
     }
 }
 
-/// Tells on standard error how many entries a register has that was read, where that is asked for.
-fn tell_read<R: Eprint>(rt: &R, path: &str, book: &Book, verbose: bool) {
+/// Prints on standard error the number of entries of a register that was read, if that is asked for.
+fn print_read<R: Eprint>(rt: &R, path: &str, book: &Book, verbose: bool) {
     if verbose {
         let _ = eprintln!(rt; "{path}: register read, {} entries", book.len());
     }
 }
 
-/// What keeps other runs from a register: a locked file beside it, where the register is replaced whole.
+/// A lock that keeps other runs from a register: a locked file beside it, since the register itself is replaced by
+/// another file.
 #[derive(Drop)]
 pub(crate) struct RegisterLock<F: Drop> {
     file: Option<F>,
 }
 
-/// Locks the register that a run is to leave, if any, until the lock is dropped or the run is ended from outside. Where
-/// another run has it, or it cannot be locked, that is told on standard error.
+/// Locks the register that a run is to write, if any, until the lock is dropped or the run is killed. If another run
+/// has it, or it cannot be locked, that is reported on standard error.
 pub(crate) fn locked_register<R: AllocGlobal + Eprint + Files>(
     rt: &R,
     to: Option<&FileNames>,
@@ -108,7 +110,7 @@ where
         }
         Err(CallFailed) => {
             if verbose {
-                tell_unlocked(rt, names.lock());
+                print_lock_error(rt, names.lock());
             }
             let _ = eprintln!(rt; "register: stopped: write after 0 bytes");
             None
@@ -116,14 +118,16 @@ where
     }
 }
 
-/// Tells on standard error why the system does not open a lock. It is asked once more; where it opens it then, nothing is told.
-fn tell_unlocked<R: AllocGlobal + Eprint + Files>(rt: &R, name: &str) {
+/// Prints on standard error why the system does not open a lock. It tries once more; if the lock opens then, nothing is
+/// printed.
+fn print_lock_error<R: AllocGlobal + Eprint + Files>(rt: &R, name: &str) {
     if let Err(error) = File::options().write(true).create(true).open(rt, name) {
-        tell_reason(rt, name, &error);
+        print_reason(rt, name, &error);
     }
 }
 
-/// Tells on standard output how many entries a register has, or its first fault. It is that of standard input for `-`.
+/// Prints on standard output the number of entries of a register, or its first fault. The register `-` is standard
+/// input.
 pub(crate) fn audit_file<R: AllocGlobal + Input + Print + Eprint + Files>(
     rt: &R,
     path: &str,
@@ -132,20 +136,21 @@ pub(crate) fn audit_file<R: AllocGlobal + Input + Print + Eprint + Files>(
     let as_json = given.get_flag("json");
     let audit = Audit { alloc: rt.alloc() };
     match read_named(rt, path, given.get_flag("verbose"), audit) {
-        Ok(entries) => tell_entries(rt, entries, as_json),
-        Err(why) => tell_no_book(rt, why, as_json),
+        Ok(entries) => print_entries(rt, entries, as_json),
+        Err(why) => print_no_book(rt, why, as_json),
     }
 }
 
-/// Tells how many entries a register has. The status is that of a register without a fault only where that was told.
-fn tell_entries<R: AllocGlobal + Print + Eprint>(rt: &R, entries: u64, as_json: bool) -> ExitCode {
+/// Prints the number of entries of a register. The status is that of a register without a fault only if that was
+/// printed.
+fn print_entries<R: AllocGlobal + Print + Eprint>(rt: &R, entries: u64, as_json: bool) -> ExitCode {
     if as_json {
         return print_audited(rt, Audited::Entries(entries), ExitCode::SUCCESS);
     }
     status_of(write!(StandardOutput::of(rt), "{entries} entries\n").is_ok())
 }
 
-/// The book of a register, which is that of standard input for `-`. Why there is none is told as an audit tells it.
+/// The book of a register; `-` is standard input. If there is none, the reason is printed as an audit prints it.
 pub(crate) fn audited_book<R: AllocGlobal + Input + Print + Eprint + Files>(
     rt: &R,
     path: &str,
@@ -154,39 +159,43 @@ pub(crate) fn audited_book<R: AllocGlobal + Input + Print + Eprint + Files>(
 ) -> Result<Book, ExitCode> {
     match named_book(rt, path, verbose) {
         Ok(book) => Ok(book),
-        Err(why) => Err(tell_no_book(rt, why, as_json)),
+        Err(why) => Err(print_no_book(rt, why, as_json)),
     }
 }
 
-/// The book of a register, which is that of standard input for `-`.
+/// The book of a register; `-` is standard input.
 pub(crate) fn named_book<R: AllocGlobal + Input + Eprint + Files>(
     rt: &R,
     path: &str,
     verbose: bool,
-) -> Result<Book, NoBook> {
+) -> Result<Book, ReadBookError> {
     read_named(rt, path, verbose, Opening { alloc: rt.alloc() })
 }
 
-/// Tells why a register has no book: on standard output its first fault, as JSON where that is asked for, and on standard
+/// Prints why a register has no book: on standard output its first fault, as JSON if that is asked for, and on standard
 /// error all else.
-fn tell_no_book<R: AllocGlobal + Print + Eprint>(rt: &R, why: NoBook, as_json: bool) -> ExitCode {
+fn print_no_book<R: AllocGlobal + Print + Eprint>(
+    rt: &R,
+    why: ReadBookError,
+    as_json: bool,
+) -> ExitCode {
     match why {
-        NoBook::Memory | NoBook::Refused(RegisterRefusal::Memory) => no_memory(rt),
-        NoBook::Refused(RegisterRefusal::Fault { number, line }) if as_json => {
+        ReadBookError::Memory | ReadBookError::Refused(RegisterRefusal::Memory) => no_memory(rt),
+        ReadBookError::Refused(RegisterRefusal::Fault { number, line }) if as_json => {
             print_audited(rt, Audited::Fault { number, line }, ExitCode::FAILURE)
         }
-        NoBook::Refused(refusal) => {
+        ReadBookError::Refused(refusal) => {
             let _ = write!(StandardOutput::of(rt), "{refusal}\n");
             ExitCode::FAILURE
         }
-        NoBook::Read | NoBook::TooLong => {
+        ReadBookError::Read | ReadBookError::TooLong => {
             let _ = eprintln!(rt; "{why}");
             ExitCode::FAILURE
         }
     }
 }
 
-/// Prints what an audit found as an object of JSON, and answers this status where that was told.
+/// Prints what an audit found as a JSON object, and returns this status if that was printed.
 fn print_audited<R: AllocGlobal + Print + Eprint>(
     rt: &R,
     audited: Audited,
@@ -199,17 +208,17 @@ fn print_audited<R: AllocGlobal + Print + Eprint>(
     }
 }
 
-/// A register is audited as it is read, and how many entries it has is kept.
+/// A register is audited as it is read, and the number of its entries is kept.
 #[derive(Clone, Copy)]
 struct Audit {
     alloc: Global,
 }
 
 impl Reading for Audit {
-    type Made = Result<u64, NoBook>;
+    type Made = Result<u64, ReadBookError>;
 
-    fn read<S: Source>(self, reader: &mut S) -> Result<u64, NoBook> {
-        audit_source(self.alloc, reader, MOST_REGISTER_BYTES, REGISTER_WINDOW)
+    fn read<S: Source>(self, reader: &mut S) -> Result<u64, ReadBookError> {
+        audit_source(self.alloc, reader, MAX_REGISTER_BYTES, REGISTER_WINDOW)
     }
 }
 
@@ -220,9 +229,9 @@ struct Opening {
 }
 
 impl Reading for Opening {
-    type Made = Result<Book, NoBook>;
+    type Made = Result<Book, ReadBookError>;
 
-    fn read<S: Source>(self, reader: &mut S) -> Result<Book, NoBook> {
+    fn read<S: Source>(self, reader: &mut S) -> Result<Book, ReadBookError> {
         read_book(self.alloc, reader)
     }
 }

@@ -1,7 +1,7 @@
-//! The words of a run.
+//! The options of a run.
 
 ghost use Rattle.std.specs.Prelude.{◌≡◌, ◌<◌, [], None, map, option_map, length, IfOk};
-ghost use Rattle.run_words.specs.RunFault.{run_fault, words_fault, run_stamp};
+ghost use Rattle.run_options.specs.RunFault.{run_fault, words_fault, run_stamp};
 
 use crate::arguments::{Argument, CommandWords};
 use crate::file_names::empty_name;
@@ -10,7 +10,7 @@ use crate::status::bad_words;
 use clap::ArgMatches;
 use cwr_field::{cut, date, digits, time};
 use cwr_record::Stamp;
-use run_words::{RunFault, run_fault, words_fault};
+use run_options::{RunFault, run_fault, words_fault};
 use std::process::ExitCode;
 
 /// `run --society NNN --name TEXT --date YYYYMMDD --time HHMMSS [--from REGISTER] [--to REGISTER]
@@ -35,7 +35,7 @@ pub(crate) const RUN: CommandWords = CommandWords {
         ),
         Argument::Flag(
             "in-order",
-            "files are read on threads and decided in the order of the words",
+            "files are read on threads and decided in the order of the arguments",
         ),
         Argument::FlagAgainst(
             "in-turn",
@@ -66,7 +66,7 @@ pub(crate) const DATE: Argument = Argument::NeededValue("date", "YYYYMMDD", "dat
 
 pub(crate) const TIME: Argument = Argument::NeededValue("time", "HHMMSS", "time of the run");
 
-/// The words of the stamp of acknowledgements, as they were given.
+/// The values of the options that name the stamp, as they were given.
 #[derive(Clone, Copy, Debug)]
 pub(crate) struct StampWords<'a> {
     society: &'a str,
@@ -76,7 +76,7 @@ pub(crate) struct StampWords<'a> {
 }
 
 impl<'a> StampWords<'a> {
-    /// Those that a command line was given which has to have them.
+    /// Those of a command line that has to have them.
     pub(crate) fn given(matches: &ArgMatches<'a>) -> Option<StampWords<'a>> {
         Some(StampWords {
             society: matches.get_str("society")?,
@@ -93,7 +93,7 @@ impl<'a> StampWords<'a> {
         run_fault(self.society, self.name, self.date, self.time, &[])
     }
 
-    /// The stamp that they name. There is one where nothing is wrong with them.
+    /// The stamp that they name. There is one if nothing is wrong with them.
     pub(crate) fn stamp(&self) -> Option<Stamp>
         ensures { result ≡ run_stamp self.now.society.now self.now.name.now self.now.date.now self.now.time.now }
     {
@@ -107,16 +107,16 @@ impl<'a> StampWords<'a> {
 /// How the files of a run are worked.
 #[derive(Clone, Copy, Debug, PartialEq, Eq)]
 pub(crate) enum Way {
-    /// All at once, each on a thread of its own. What comes first is open.
+    /// All at once, each on a thread of its own. The order of the decisions is open.
     AtOnce,
-    /// Read and answered on threads, and decided one after another, in the order of the words.
+    /// Read and answered on threads, and decided one after another, in the order of the command line.
     InOrder,
-    /// One after another, in the order of the words, on one thread.
+    /// One after another, in the order of the command line, on one thread.
     InTurn,
 }
 
 impl Way {
-    /// The way that a command line of [`RUN`] asks for, which takes one of the two options at most.
+    /// The way that a command line of [`RUN`] asks for, which has at most one of the two options.
     fn given(matches: &ArgMatches) -> Way {
         if matches.get_flag("in-order") {
             Way::InOrder
@@ -128,27 +128,27 @@ impl Way {
     }
 }
 
-/// The words of a run, as they were given.
+/// The options of a run, as they were given.
 #[derive(Debug, Drop)]
 pub(crate) struct RunWords<'m, 'a> {
     /// The stamp of the acknowledgements.
     who: StampWords<'a>,
-    /// The register of the book that the run begins with, where it is not an empty one.
+    /// The register of the book that the run begins with, if that is not an empty one.
     pub(crate) from: Option<&'a str>,
     /// The file that gets the register of the book after the run, if any does.
     pub(crate) to: Option<&'a str>,
     /// How the files are worked.
     pub(crate) way: Way,
-    /// Whether acknowledgements that are there stay.
+    /// Whether existing acknowledgements stay.
     pub(crate) no_clobber: bool,
-    /// Whether steps, and the system's reasons, are told.
+    /// Whether steps, and the system's reasons, are printed.
     pub(crate) verbose: bool,
     /// The files to acknowledge.
     pub(crate) files: &'m [&'a str],
 }
 
 impl<'m, 'a> RunWords<'m, 'a> {
-    /// The words that a command line of [`RUN`] was given.
+    /// The options that a command line of [`RUN`] was given.
     fn given(matches: &'m ArgMatches<'a>) -> Option<RunWords<'m, 'a>> {
         Some(RunWords {
             who: StampWords::given(matches)?,
@@ -176,7 +176,7 @@ impl<'m, 'a> RunWords<'m, 'a> {
         words_fault(society, name, date, time, self.files, self.from, self.to)
     }
 
-    /// The stamp of the acknowledgements. There is one where nothing is wrong with the words.
+    /// The stamp of the acknowledgements. There is one if nothing is wrong with the options.
     pub(crate) fn stamp(&self) -> Option<Stamp>
         ensures { result ≡ run_stamp self.now.who.society.now self.now.who.name.now self.now.who.date.now self.now.who.time.now }
     {
@@ -184,7 +184,8 @@ impl<'m, 'a> RunWords<'m, 'a> {
     }
 }
 
-/// The words of a run with which nothing is wrong. What is wrong is told on standard error, and its status answered.
+/// The options of a run, if nothing is wrong with them. Else the fault is printed on standard error, and its status
+/// returned.
 pub(crate) fn right_words<'m, 'a, R: Eprint>(
     rt: &R,
     matches: &'m ArgMatches<'a>,

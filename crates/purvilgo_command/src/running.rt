@@ -5,6 +5,7 @@ ghost use Rattle.work_registry.specs.Replay.{is_opening};
 
 use crate::files::InputFile;
 use crate::keeping::{Waiting, keep_run};
+use crate::messages::print_outcome;
 use crate::output::OutputFile;
 use crate::printing::StandardOutput;
 use crate::registers::{locked_register, opening_book};
@@ -12,7 +13,7 @@ use crate::run_command::{RunWords, Way, right_words};
 use crate::same_files::is_one_file_twice;
 use crate::status::{bad_words, no_memory, status_of};
 use crate::targets::Targets;
-use crate::telling::tell_outcome;
+use atomic_file::{Exclusive, FileNames};
 use clap::ArgMatches;
 use cwr_desk::{
     Book, FileOutcome, Job, OpenGate, Run, Sink, Source, outcome_line, serve, serve_in_order,
@@ -20,8 +21,7 @@ use cwr_desk::{
 };
 use cwr_field::Memory;
 use cwr_record::Stamp;
-use kept_file::{Exclusive, FileNames};
-use run_words::RunFault;
+use run_options::RunFault;
 use std::alloc::Global;
 use std::fs;
 use std::process::ExitCode;
@@ -29,16 +29,16 @@ use std::rt::Files;
 use std::sync::Wait;
 use std::thread::Threads;
 
-/// Acknowledges the files that the words name, all at one book: each by a worker on a thread of its own, or, where the
-/// words ask for it, in their order, with threads or without.
+/// Acknowledges the given files, all at one book: each by a worker on a thread of its own, or, if the options ask for
+/// it, in their order, with threads or without.
 ///
-/// The acknowledgements are drafts until all workers have ended and the register, where one is asked for, is on the disk
-/// under its name; where it cannot be kept, they are taken away. A run that leaves a register holds its lock.
+/// The acknowledgements are drafts until all workers have ended and the register, if one is asked for, is on disk under
+/// its name. If the register cannot be kept, they are removed. A run that writes a register holds its lock.
 ///
-/// How each job ended is told on standard output. The status is 0 where all files were acknowledged, and all of it was
-/// told and kept.
+/// How each job ended is printed on standard output. The status is 0 if all files were acknowledged, and all of it was
+/// printed and kept.
 ///
-/// A worker on another thread may call what the runtime does with files only where both its types may go there:
+/// A worker on another thread may call what the runtime does with files only if both its types may go there:
 /// directories too, though none is opened.
 pub(crate) fn run_files<R: AllocGlobal + Print + Eprint + Files + Threads + Wait + Sync>(
     rt: &R,
@@ -54,8 +54,8 @@ where
     }
 }
 
-/// Acknowledges the files of words with which nothing is wrong, and leaves the register, unless files are in the way, or
-/// another run has the register.
+/// Acknowledges the files of a run whose options are right, and writes the register. Nothing is done if files are in
+/// the way, or another run has the register.
 fn run_words<R: AllocGlobal + Print + Eprint + Files + Threads + Wait + Sync>(
     rt: &R,
     words: &RunWords,
@@ -83,8 +83,8 @@ where
     }
 }
 
-/// How a run ends that may not be begun, since it would write over what it reads, twice over one file, or over what is to
-/// stay. Which of these it is is told on standard error.
+/// The status of a run that may not be begun, since it would write over what it reads, twice over one file, or over
+/// what is to stay. The reason is printed on standard error.
 fn refusal_of<R: AllocGlobal + Eprint + Files>(
     rt: &R,
     words: &RunWords,
@@ -92,13 +92,16 @@ fn refusal_of<R: AllocGlobal + Eprint + Files>(
 ) -> Option<ExitCode> {
     match is_one_file_twice(rt, words.files, words.from, targets) {
         Ok(true) => Some(bad_words(rt, RunFault::Twice.text())),
-        Ok(false) if words.no_clobber && tell_taken(rt, targets) => Some(ExitCode::FAILURE),
+        Ok(false) if words.no_clobber && print_taken(rt, targets) => Some(ExitCode::FAILURE),
         Ok(false) => None,
         Err(_) => Some(no_memory(rt)),
     }
 }
 
-/// Acknowledges them to these targets at a book, all of whose entries are of the opening.
+/// Acknowledges the files of a run at a book, all of whose entries are of the opening.
+///
+/// `rt` is the runtime, and `words` has the options. `stamp` is that of the acknowledgements, which go to `targets`,
+/// and `book` is the one that the run begins with.
 fn run_at<R: AllocGlobal + Print + Eprint + Files + Threads + Wait + Sync>(
     rt: &R,
     words: &RunWords,
@@ -124,7 +127,10 @@ where
     }
 }
 
-/// Works jobs at a book, in one of the three ways. Where there is no memory, none is worked.
+/// Works jobs at a book, in one of the three ways. If there is no memory, none is worked.
+///
+/// `rt` starts threads and waits, and `alloc` allocates. `way` is one of the three ways, in which `jobs` are worked
+/// into `book`, and `stamp` is that of the acknowledgements.
 fn serve_jobs<T: Threads + Wait + Sync, I: Source + Send + Drop, O: Sink + Send + Drop>(
     rt: &T,
     alloc: Global,
@@ -148,7 +154,10 @@ fn serve_jobs<T: Threads + Wait + Sync, I: Source + Send + Drop, O: Sink + Send 
     }
 }
 
-/// Tells how the jobs of a run ended, and keeps what they left.
+/// Prints how the jobs of a run ended, and keeps what they left.
+///
+/// `rt` is the runtime, and `words` has the options. `targets` has the names of the files that the run writes, `run` is
+/// what the jobs left, and `waiting` an empty list for their acknowledgements.
 fn end_run<'a, I: Drop, R: AllocGlobal + Print + Eprint + Files + Threads + Sync>(
     rt: &'a R,
     words: &RunWords,
@@ -165,26 +174,26 @@ where
         outcomes,
         jobs,
     } = run;
-    let told = tell_run(rt, words, &outcomes);
+    let told = print_run(rt, words, &outcomes);
     let kept = keep_run(rt, &book, jobs, waiting, targets, words);
     status_of(told && kept)
 }
 
-/// Tells how each job ended, and answers whether all are acknowledged and told.
-fn tell_run<R: AllocGlobal + Print + Eprint>(
+/// Prints how each job ended, and returns whether all are acknowledged and printed.
+fn print_run<R: AllocGlobal + Print + Eprint>(
     rt: &R,
     words: &RunWords,
     outcomes: &[FileOutcome],
 ) -> bool {
     if words.verbose {
-        tell_ends(rt, words.files, outcomes);
+        print_unacknowledged(rt, words.files, outcomes);
     }
-    tell_outcomes(rt, words.files, outcomes)
+    print_outcomes(rt, words.files, outcomes)
 }
 
-/// Tells on standard error which acknowledgements are there already, and whether the register is, where it may take the
-/// place of none. Answers whether any is.
-fn tell_taken<R: Eprint + Files>(rt: &R, targets: &Targets) -> bool {
+/// Prints on standard error which acknowledgements exist, and whether the register does, if it may replace no file.
+/// Returns whether any of them exists.
+fn print_taken<R: Eprint + Files>(rt: &R, targets: &Targets) -> bool {
     let mut taken = false;
     for answer in &targets.answers {
         taken = is_taken(rt, answer) || taken;
@@ -195,7 +204,7 @@ fn tell_taken<R: Eprint + Files>(rt: &R, targets: &Targets) -> bool {
     }
 }
 
-/// Whether something lies under a name already, which is told on standard error.
+/// Whether something has a name already, which is reported on standard error.
 fn is_taken<R: Eprint + Files>(rt: &R, names: &FileNames) -> bool {
     let taken = fs::symlink_metadata(rt, names.word()).is_ok();
     if taken {
@@ -204,7 +213,8 @@ fn is_taken<R: Eprint + Files>(rt: &R, names: &FileNames) -> bool {
     taken
 }
 
-/// A job for each file and its acknowledgement. Nothing is opened yet.
+/// A job for each file. `answers` has the names of the acknowledgements, one for each of `files` and in their order, and
+/// `words` has the options. Nothing is opened yet.
 fn jobs_of<'a, R: AllocGlobal + Eprint + Files>(
     rt: &'a R,
     files: &'a [&'a str],
@@ -236,21 +246,22 @@ fn job_of<'a, R: AllocGlobal + Eprint + Files>(
     }
 }
 
-/// Tells on standard error how each job ended whose file is not acknowledged. Where there is no memory, nothing.
-fn tell_ends<R: AllocGlobal + Eprint>(rt: &R, files: &[&str], outcomes: &[FileOutcome]) {
+/// Prints on standard error how each job ended whose file is not acknowledged. If an allocation fails, nothing is
+/// printed.
+fn print_unacknowledged<R: AllocGlobal + Eprint>(rt: &R, files: &[&str], outcomes: &[FileOutcome]) {
     for (file, outcome) in files.iter().zip(outcomes) {
         if !is_acknowledged(outcome) {
             if let Ok(name) = format!(in rt.alloc(); "{file}: ended") {
-                tell_outcome(rt, &name, outcome);
+                print_outcome(rt, &name, outcome);
             }
         }
     }
 }
 
-/// Tells on standard output how each job ended, and answers whether all are acknowledged and told.
+/// Prints on standard output how each job ended, and returns whether all are acknowledged and printed.
 ///
 /// A line for which there is no memory is left out.
-fn tell_outcomes<R: AllocGlobal + Print + Eprint>(
+fn print_outcomes<R: AllocGlobal + Print + Eprint>(
     rt: &R,
     files: &[&str],
     outcomes: &[FileOutcome],
@@ -258,14 +269,14 @@ fn tell_outcomes<R: AllocGlobal + Print + Eprint>(
     let mut out = StandardOutput::of(rt);
     let mut all = true;
     for (file, outcome) in files.iter().zip(outcomes) {
-        let told = is_told(rt.alloc(), &mut out, file, outcome);
+        let told = put_outcome(rt.alloc(), &mut out, file, outcome);
         all = all && told && is_acknowledged(outcome);
     }
     all
 }
 
-/// Tells how a job ended, and answers whether it is told.
-fn is_told<R: Print + Eprint>(
+/// Prints how a job ended, and returns whether that was printed.
+fn put_outcome<R: Print + Eprint>(
     alloc: Global,
     out: &mut StandardOutput<R>,
     file: &str,

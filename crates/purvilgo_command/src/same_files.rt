@@ -1,8 +1,8 @@
 //! Whether files that the words of a run name are one file of the system.
 
 use crate::targets::Targets;
+use atomic_file::FileNames;
 use cwr_field::Memory;
-use kept_file::FileNames;
 use std::alloc::Global;
 use std::fs::{self, Metadata};
 use std::io::ErrorKind;
@@ -13,7 +13,7 @@ use std::rt::Files;
 /// What a directory without a name is called.
 const HERE: &str = ".";
 
-/// A file or a directory that is there: its device, and its number on it.
+/// An existing file or directory: its device, and its number on it.
 #[derive(Clone, Copy, Debug, PartialEq, Eq)]
 struct Node {
     device: u64,
@@ -22,21 +22,21 @@ struct Node {
 
 /// Where a name leads.
 #[derive(Debug, PartialEq, Eq, Drop)]
-enum Place {
-    /// To a file that is there.
+enum FileIdentity {
+    /// To an existing file.
     Taken(Node),
     /// To none: a file that is made gets this name in this directory.
     Free(Node, String),
-    /// The system does not tell.
-    Untold,
+    /// The system does not say.
+    Unprinted,
 }
 
-impl Place {
+impl FileIdentity {
     /// Whether both lead to one file.
-    fn is_one_with(&self, other: &Place) -> bool {
+    fn is_one_with(&self, other: &FileIdentity) -> bool {
         match self {
-            Place::Untold => false,
-            Place::Taken(_) | Place::Free(_, _) => self == other,
+            FileIdentity::Unprinted => false,
+            FileIdentity::Taken(_) | FileIdentity::Free(_, _) => self == other,
         }
     }
 }
@@ -45,9 +45,9 @@ impl Place {
 #[derive(Drop)]
 struct Written {
     /// The files themselves.
-    files: Vec<Place>,
+    files: Vec<FileIdentity>,
     /// Their drafts, in the same order.
-    drafts: Vec<Place>,
+    drafts: Vec<FileIdentity>,
 }
 
 impl Written {
@@ -82,7 +82,7 @@ impl Written {
     }
 
     /// Whether one of them, or one of their drafts, is a place.
-    fn has(&self, place: &Place) -> bool {
+    fn has(&self, place: &FileIdentity) -> bool {
         is_among(place, &self.files) || is_among(place, &self.drafts)
     }
 
@@ -104,20 +104,20 @@ impl Written {
     }
 }
 
-/// Whether a run on these files would write over what it reads, or twice over one file: whether two of the files, their
-/// acknowledgements and the register `to` are one file of the system, or the register `from` is one with an
-/// acknowledgement; and the same of their drafts and of the register's lock, of which `from` may be none either.
+/// Whether a run on these files would write over what it reads, or twice over one file. It would if two of the files,
+/// their acknowledgements and the register `to` are one file of the system, or the register `from` is one with an
+/// acknowledgement. The same holds of their drafts and of the register's lock, which `from` may not be one with either.
 ///
-/// Files are one where they have one device and number, so by any path and by any link. A name that leads to no file
-/// counts as the name of its directory where the file would be made. What the system tells nothing of is one with
-/// nothing. A draft may be one with the file that it is to replace: it is made anew before it is written.
+/// Files are one if they have one device and number, so by any path and by any link. A name that leads to no file
+/// counts as the name of its directory in which the file would be made. A name of which the system says nothing is one
+/// with no other. A draft may be one with the file that it is to replace: it is made again before it is written.
 pub(crate) fn is_one_file_twice<'a, R: AllocGlobal + Files>(
     rt: &'a R,
     files: &'a [&'a str],
     from: Option<&'a str>,
     targets: &'a Targets,
 ) -> Result<bool, Memory> {
-    let places = Places::of(rt, files, from, targets)?;
+    let places = FileIdentities::of(rt, files, from, targets)?;
     Ok(places.has_one_twice())
 }
 
@@ -133,33 +133,33 @@ pub(crate) fn is_one_file<R: Files>(rt: &R, one: Option<&str>, other: Option<&st
 
 /// The places of all files of a run.
 #[derive(Drop)]
-struct Places {
+struct FileIdentities {
     /// The files that it acknowledges.
-    read: Vec<Place>,
-    /// The register that it begins with, where there is one.
-    begun: Place,
+    read: Vec<FileIdentity>,
+    /// The register that it begins with, if there is one.
+    begun: FileIdentity,
     /// The files that it writes.
     written: Written,
-    /// How many of these are acknowledgements.
+    /// The number of these that are acknowledgements.
     answers: usize,
-    /// The lock of the register that it leaves, where it leaves one.
-    lock: Place,
+    /// The lock of the register that it writes, if it writes one.
+    lock: FileIdentity,
 }
 
-impl Places {
+impl FileIdentities {
     /// The places of these files.
     fn of<'a, R: AllocGlobal + Files>(
         rt: &'a R,
         files: &'a [&'a str],
         from: Option<&'a str>,
         targets: &'a Targets,
-    ) -> Result<Places, Memory> {
+    ) -> Result<FileIdentities, Memory> {
         let mut finder = Finder::new(rt);
         let written = Written::of(&mut finder, targets)?;
         let read = finder.places_of(files)?;
         let begun = finder.place_if(from)?;
         let lock = finder.place_if(targets.lock())?;
-        Ok(Places {
+        Ok(FileIdentities {
             read,
             begun,
             written,
@@ -194,7 +194,7 @@ impl Places {
 }
 
 /// Whether two of the places, at different positions, are one.
-fn is_twice(places: &[Place]) -> bool {
+fn is_twice(places: &[FileIdentity]) -> bool {
     for (index, place) in places.iter().enumerate() {
         if is_among(place, &places[index + 1..]) {
             return true;
@@ -203,8 +203,8 @@ fn is_twice(places: &[Place]) -> bool {
     false
 }
 
-/// Whether a place is one of some, and of others too.
-fn are_crossed(places: &[Place], others: &[Place]) -> bool {
+/// Whether a place is both one of some and one of others.
+fn are_crossed(places: &[FileIdentity], others: &[FileIdentity]) -> bool {
     for place in places {
         if is_among(place, others) {
             return true;
@@ -214,7 +214,7 @@ fn are_crossed(places: &[Place], others: &[Place]) -> bool {
 }
 
 /// Whether a place is one of some others.
-fn is_among(place: &Place, others: &[Place]) -> bool {
+fn is_among(place: &FileIdentity, others: &[FileIdentity]) -> bool {
     for other in others {
         if place.is_one_with(other) {
             return true;
@@ -223,7 +223,8 @@ fn is_among(place: &Place, others: &[Place]) -> bool {
     false
 }
 
-/// Finds where names lead. Of names that follow one another in one directory, the system is asked for that once.
+/// Finds where names lead. For names that follow one another in one directory, the system is asked for that directory
+/// once.
 #[derive(Drop)]
 struct Finder<'a, R> {
     rt: &'a R,
@@ -232,7 +233,7 @@ struct Finder<'a, R> {
 }
 
 impl<'a, R: AllocGlobal + Files> Finder<'a, R> {
-    /// It was asked for no directory.
+    /// A finder that has asked for no directory.
     fn new(rt: &'a R) -> Finder<'a, R> {
         Finder {
             rt,
@@ -241,7 +242,7 @@ impl<'a, R: AllocGlobal + Files> Finder<'a, R> {
     }
 
     /// The places of files of these names.
-    fn places_of(&mut self, names: &'a [&'a str]) -> Result<Vec<Place>, Memory> {
+    fn places_of(&mut self, names: &'a [&'a str]) -> Result<Vec<FileIdentity>, Memory> {
         let mut places = Vec::with_capacity(self.rt.alloc(), names.len())?;
         for name in names {
             places.push(self.place_of(name)?)?;
@@ -249,20 +250,20 @@ impl<'a, R: AllocGlobal + Files> Finder<'a, R> {
         Ok(places)
     }
 
-    /// Where a name leads, where there is one.
-    fn place_if(&mut self, name: Option<&'a str>) -> Result<Place, Memory> {
+    /// Where a name leads, if there is one.
+    fn place_if(&mut self, name: Option<&'a str>) -> Result<FileIdentity, Memory> {
         match name {
             Some(name) => self.place_of(name),
-            None => Ok(Place::Untold),
+            None => Ok(FileIdentity::Unprinted),
         }
     }
 
-    /// Where a name leads. Only a link to no file is followed, by the names in it: what is no link is where its name says.
-    fn place_of(&mut self, name: &'a str) -> Result<Place, Memory> {
+    /// Where a name leads. Only a link to no file is followed, by the names in it. Any other name is where it says.
+    fn place_of(&mut self, name: &'a str) -> Result<FileIdentity, Memory> {
         match fs::symlink_metadata(self.rt, name) {
             Ok(found) if found.is_symlink() => linked_place(self.rt, name),
             Ok(found) => match node_in(&found) {
-                Some(node) => Ok(Place::Taken(node)),
+                Some(node) => Ok(FileIdentity::Taken(node)),
                 None => self.free_place(name),
             },
             Err(error) if error.kind() == ErrorKind::OutOfMemory => Err(Memory),
@@ -271,7 +272,7 @@ impl<'a, R: AllocGlobal + Files> Finder<'a, R> {
     }
 
     /// The place of a file that would be made under this name.
-    fn free_place(&mut self, name: &'a str) -> Result<Place, Memory> {
+    fn free_place(&mut self, name: &'a str) -> Result<FileIdentity, Memory> {
         let directory = self.node_of(directory_of(Path::new(name)));
         free_place(self.rt.alloc(), name, directory)
     }
@@ -291,19 +292,19 @@ impl<'a, R: AllocGlobal + Files> Finder<'a, R> {
 }
 
 /// Where a link leads.
-fn linked_place<R: AllocGlobal + Files>(rt: &R, name: &str) -> Result<Place, Memory> {
+fn linked_place<R: AllocGlobal + Files>(rt: &R, name: &str) -> Result<FileIdentity, Memory> {
     if let Some(node) = node_of(rt, name) {
-        return Ok(Place::Taken(node));
+        return Ok(FileIdentity::Taken(node));
     }
     let names = FileNames::of_word(rt, name)?;
     free_place(rt.alloc(), names.name(), node_of(rt, names.directory()))
 }
 
 /// The place of a file that would be made under this name in this directory.
-fn free_place(alloc: Global, name: &str, directory: Option<Node>) -> Result<Place, Memory> {
+fn free_place(alloc: Global, name: &str, directory: Option<Node>) -> Result<FileIdentity, Memory> {
     match (Path::new(name).file_name(), directory) {
-        (Some(file), Some(node)) => Ok(Place::Free(node, String::from_str(alloc, file)?)),
-        _ => Ok(Place::Untold),
+        (Some(file), Some(node)) => Ok(FileIdentity::Free(node, String::from_str(alloc, file)?)),
+        _ => Ok(FileIdentity::Unprinted),
     }
 }
 
@@ -320,7 +321,7 @@ fn node_of<R: Files>(rt: &R, name: &str) -> Option<Node> {
     node_in(&fs::metadata(rt, name).ok()?)
 }
 
-/// The numbers of a file or a directory. A runtime of one's own gives it none: each is 0.
+/// The numbers of a file or a directory. A runtime other than the system's gives none: each number is 0.
 fn node_in(found: &Metadata) -> Option<Node> {
     let node = Node {
         device: found.dev(),

@@ -5,7 +5,7 @@ use std::process::ExitCode;
 /// The status of words that are not taken.
 pub(crate) const BAD_WORDS: u8 = 2;
 
-/// The status of a command of which all is done and told, or not.
+/// The status of a command, by whether all of it is done and printed.
 pub(crate) fn status_of(done: bool) -> ExitCode {
     if done {
         ExitCode::SUCCESS
@@ -14,13 +14,13 @@ pub(crate) fn status_of(done: bool) -> ExitCode {
     }
 }
 
-/// Tells what is wrong with the words of the command line.
+/// Prints what is wrong with the words of the command line.
 pub(crate) fn bad_words<R: Eprint>(rt: &R, text: &str) -> ExitCode {
     let _ = eprintln!(rt; "{text}");
     ExitCode::from(BAD_WORDS)
 }
 
-/// Tells that memory was refused.
+/// Prints that an allocation failed.
 pub(crate) fn no_memory<R: Eprint>(rt: &R) -> ExitCode {
     let _ = eprintln!(rt; "stopped: memory");
     ExitCode::FAILURE

@@ -8,8 +8,8 @@ use crate::status::{bad_words, no_memory};
 use crate::wanted_rows::wanted_in;
 use clap::ArgMatches;
 use register_tables::{
-    Form, Told, Unwritten, Wanted, claims_table, history_json, history_table, summary_json,
-    summary_text, works_table,
+    Form, TableError, Wanted, WrittenTable, claims_table, history_json, history_table,
+    summary_json, summary_text, works_table,
 };
 use std::process::ExitCode;
 use std::rt::Files;
@@ -29,7 +29,7 @@ pub(crate) enum Table {
 /// `claims [--work N] [--submitter S] [--number W] [--plain] [--verbose] REGISTER`.
 pub(crate) const CLAIMS: CommandWords = CommandWords {
     name: "claims",
-    about: "Tells the current claims of a register, in CSV",
+    about: "Prints the current claims of a register, in CSV",
     arguments: &[REGISTER, WORK, SUBMITTER, NUMBER, PLAIN, Argument::Verbose],
     more: CLAIMS_HELP,
 };
@@ -37,7 +37,7 @@ pub(crate) const CLAIMS: CommandWords = CommandWords {
 /// `works [--work N] [--plain] [--verbose] REGISTER`.
 pub(crate) const WORKS: CommandWords = CommandWords {
     name: "works",
-    about: "Tells the works of a register, in CSV",
+    about: "Prints the works of a register, in CSV",
     arguments: &[REGISTER, WORK, PLAIN, Argument::Verbose],
     more: WORKS_HELP,
 };
@@ -45,7 +45,7 @@ pub(crate) const WORKS: CommandWords = CommandWords {
 /// `history [--work N] [--submitter S] [--number W] [--status AS|DU|CO|RJ] [--plain | --json] [--verbose] REGISTER`.
 pub(crate) const HISTORY: CommandWords = CommandWords {
     name: "history",
-    about: "Tells every entry of a register, in CSV",
+    about: "Prints every entry of a register, in CSV",
     arguments: &[
         REGISTER,
         WORK,
@@ -56,7 +56,7 @@ pub(crate) const HISTORY: CommandWords = CommandWords {
         Argument::FlagAgainst(
             "json",
             "plain",
-            "tell each entry as a JSON object, on a line of its own",
+            "print each entry as a JSON object, on a line of its own",
         ),
         Argument::Verbose,
     ],
@@ -66,10 +66,10 @@ pub(crate) const HISTORY: CommandWords = CommandWords {
 /// `summary [--json] [--verbose] REGISTER`.
 pub(crate) const SUMMARY: CommandWords = CommandWords {
     name: "summary",
-    about: "Tells how much of what is in a register, as a page to read",
+    about: "Prints how much of what is in a register, as a page to read",
     arguments: &[
         REGISTER,
-        Argument::Flag("json", "tell the same as one JSON object, on one line"),
+        Argument::Flag("json", "print the same as one JSON object, on one line"),
         Argument::Verbose,
     ],
     more: SUMMARY_HELP,
@@ -98,29 +98,28 @@ const PLAIN: Argument = Argument::Flag(
     "for spreadsheets: no blanks behind texts, shares in per cent, no formulas",
 );
 
-/// What is told of a register.
+/// What a command prints of a register.
 #[derive(Clone, Copy)]
 enum Wish {
-    /// What is wanted of a table, in this form.
+    /// The rows of a table that are wanted, in this form.
     Rows(Table, Form, Wanted),
-    /// The entries that are wanted, as objects of JSON.
+    /// The entries that are wanted, as JSON objects.
     Objects(Wanted),
     /// A summary.
     Summary,
-    /// A summary as an object of JSON.
+    /// A summary as a JSON object.
     SummaryObject,
 }
 
 impl Wish {
-    /// Whether it is told as JSON.
+    /// Whether it is printed as JSON.
     fn is_json(&self) -> bool {
         matches!(self, Wish::Objects(_) | Wish::SummaryObject)
     }
 }
 
-/// Tells a table of a register on standard output, or the register's first fault. The register is that of standard input
-/// for `-`.
-pub(crate) fn tell_table<R: AllocGlobal + Input + Print + Eprint + Files>(
+/// Prints a table of a register on standard output, or the register's first fault. The register `-` is standard input.
+pub(crate) fn print_table<R: AllocGlobal + Input + Print + Eprint + Files>(
     rt: &R,
     table: Table,
     path: &str,
@@ -129,13 +128,13 @@ pub(crate) fn tell_table<R: AllocGlobal + Input + Print + Eprint + Files>(
     match wanted_in(given) {
         Ok(wanted) => {
             let wish = wish_of(table, wanted, given);
-            tell_register(rt, path, given.get_flag("verbose"), wish)
+            print_register(rt, path, given.get_flag("verbose"), wish)
         }
         Err(text) => bad_words(rt, text),
     }
 }
 
-/// What is told of the rows of a table that are wanted. The history alone is told as JSON.
+/// What a command prints for the rows of a table that are wanted. Only the history is printed as JSON.
 fn wish_of(table: Table, wanted: Wanted, given: &ArgMatches) -> Wish {
     match table {
         Table::History if given.get_flag("json") => Wish::Objects(wanted),
@@ -144,9 +143,9 @@ fn wish_of(table: Table, wanted: Wanted, given: &ArgMatches) -> Wish {
     }
 }
 
-/// Tells a summary of a register on standard output, or the register's first fault. The register is that of standard input
-/// for `-`.
-pub(crate) fn tell_summary<R: AllocGlobal + Input + Print + Eprint + Files>(
+/// Prints a summary of a register on standard output, or the register's first fault. The register `-` is standard
+/// input.
+pub(crate) fn print_summary<R: AllocGlobal + Input + Print + Eprint + Files>(
     rt: &R,
     path: &str,
     given: &ArgMatches,
@@ -156,38 +155,39 @@ pub(crate) fn tell_summary<R: AllocGlobal + Input + Print + Eprint + Files>(
     } else {
         Wish::Summary
     };
-    tell_register(rt, path, given.get_flag("verbose"), wish)
+    print_register(rt, path, given.get_flag("verbose"), wish)
 }
 
-/// Reads a register, and tells this of it.
-fn tell_register<R: AllocGlobal + Input + Print + Eprint + Files>(
+/// Reads a register, and prints what `wish` names of it.
+fn print_register<R: AllocGlobal + Input + Print + Eprint + Files>(
     rt: &R,
     path: &str,
     verbose: bool,
     wish: Wish,
 ) -> ExitCode {
     match audited_book(rt, path, verbose, wish.is_json()) {
-        Ok(book) => tell_book(rt, &book, wish),
+        Ok(book) => print_book(rt, &book, wish),
         Err(status) => status,
     }
 }
 
-/// Tells this of a book.
-fn tell_book<R: AllocGlobal + Print + Eprint>(rt: &R, book: &Book, wish: Wish) -> ExitCode {
+/// Prints what `wish` names of a book.
+fn print_book<R: AllocGlobal + Print + Eprint>(rt: &R, book: &Book, wish: Wish) -> ExitCode {
     let (alloc, to) = (rt.alloc(), StandardOutput::of(rt));
     match wish {
-        Wish::Rows(table, form, wanted) => tell_rows(rt, book, table, form, &wanted),
+        Wish::Rows(table, form, wanted) => print_rows(rt, book, table, form, &wanted),
         Wish::Objects(wanted) => {
             let told = history_json(alloc, to, book, &wanted);
-            tell_rows_end(rt, Table::History, &wanted, told)
+            print_rows_end(rt, Table::History, &wanted, told)
         }
-        Wish::Summary => tell_end(rt, summary_text(alloc, to, book)),
-        Wish::SummaryObject => tell_end(rt, summary_json(alloc, to, book)),
+        Wish::Summary => print_end(rt, summary_text(alloc, to, book)),
+        Wish::SummaryObject => print_end(rt, summary_json(alloc, to, book)),
     }
 }
 
-/// Tells what is wanted of a table.
-fn tell_rows<R: AllocGlobal + Print + Eprint>(
+/// Prints the rows of a table that are wanted. `rt` is the runtime, and `book` has the entries. `table` names the
+/// table, `form` is that of its fields, and `wanted` selects among its rows.
+fn print_rows<R: AllocGlobal + Print + Eprint>(
     rt: &R,
     book: &Book,
     table: Table,
@@ -200,25 +200,25 @@ fn tell_rows<R: AllocGlobal + Print + Eprint>(
         Table::Works => works_table(alloc, to, book, wanted, form),
         Table::History => history_table(alloc, to, book, wanted, form),
     };
-    tell_rows_end(rt, table, wanted, told)
+    print_rows_end(rt, table, wanted, told)
 }
 
-/// Tells on standard error that a table was narrowed to no row, or why it was not written whole.
-fn tell_rows_end<R: Eprint, W: Drop>(
+/// Prints on standard error that no row of a table matched, or why the table was not written completely.
+fn print_rows_end<R: Eprint, W: Drop>(
     rt: &R,
     table: Table,
     wanted: &Wanted,
-    told: Result<Told<W>, Unwritten>,
+    told: Result<WrittenTable<W>, TableError>,
 ) -> ExitCode {
     if let Ok(told) = &told {
         if told.rows == 0 && *wanted != Wanted::all() {
             let _ = eprintln!(rt; "{}", unmatched_text(table));
         }
     }
-    tell_end(rt, told)
+    print_end(rt, told)
 }
 
-/// That no row of a table is what is wanted.
+/// The text that no row of a table is as wanted.
 fn unmatched_text(table: Table) -> &'static str {
     match table {
         Table::Claims => "no claim matches",
@@ -227,11 +227,11 @@ fn unmatched_text(table: Table) -> &'static str {
     }
 }
 
-/// Tells why something was not written whole, where it was not and that can be told.
-fn tell_end<R: Eprint, T: Drop>(rt: &R, written: Result<T, Unwritten>) -> ExitCode {
+/// Prints why something was not written completely, if it was not and that can be printed.
+fn print_end<R: Eprint, T: Drop>(rt: &R, written: Result<T, TableError>) -> ExitCode {
     match written {
         Ok(_) => ExitCode::SUCCESS,
-        Err(Unwritten::Memory) => no_memory(rt),
-        Err(Unwritten::Write) => ExitCode::FAILURE,
+        Err(TableError::Memory) => no_memory(rt),
+        Err(TableError::Write) => ExitCode::FAILURE,
     }
 }

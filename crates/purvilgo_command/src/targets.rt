@@ -3,8 +3,8 @@
 use crate::file_names::ack_name;
 use crate::run_command::RunWords;
 use crate::same_files::is_one_file;
+use atomic_file::FileNames;
 use cwr_field::Memory;
-use kept_file::FileNames;
 use std::rt::Files;
 
 /// The files that a run writes, and the names beside them.
@@ -12,10 +12,9 @@ use std::rt::Files;
 pub(crate) struct Targets {
     /// The acknowledgements, in the order of the files.
     pub(crate) answers: Vec<FileNames>,
-    /// The register, where one is to be left.
+    /// The register, if one is to be written.
     pub(crate) register: Option<FileNames>,
-    /// Whether the register may take the place of a file that is there: with `--no-clobber` only of the one that the run
-    /// goes on from.
+    /// Whether the register may replace an existing file: with `--no-clobber` only the one that the run goes on from.
     pub(crate) replaces_register: bool,
 }
 
@@ -50,7 +49,7 @@ fn answers_to<R: AllocGlobal + Files>(rt: &R, files: &[&str]) -> Result<Vec<File
     FileNames::of_words(rt, &words)
 }
 
-/// The names of the register that a word leads to, where there is one.
+/// The names of the register that a word leads to, if there is one.
 fn register_of<R: AllocGlobal + Files>(
     rt: &R,
     to: Option<&str>,

@@ -5,12 +5,12 @@ use crate::file_names::ack_name;
 use crate::files::InputFile;
 use crate::help::VERIFY_HELP;
 use crate::printing::StandardOutput;
-use crate::registers::{MOST_REGISTER_BYTES, REGISTER, audited_book};
+use crate::registers::{MAX_REGISTER_BYTES, REGISTER, audited_book};
 use crate::status::{bad_words, no_memory, status_of};
 use byte_streams::{ReadRefused, read_file};
 use clap::ArgMatches;
-use cwr_desk::MOST_BYTES;
-use cwr_verify::{ReadFile, ReadText, Unverified, read_text, verify_read};
+use cwr_desk::MAX_BYTES;
+use cwr_verify::{ReadFile, ReadText, VerifyError, read_text, verify_read};
 use std::io::{self, Write};
 use std::process::ExitCode;
 use std::rt::Files;
@@ -40,9 +40,11 @@ struct Answer {
     bytes: Vec<u8>,
 }
 
-/// Tells on standard output how many transactions of the files a register has as the acknowledgements tell them, or what
-/// does not fit. The register is that of standard input for `-`; one that is refused is told as an audit tells it. The
-/// acknowledgement of one file alone may have another name than its own.
+/// Checks files and their acknowledgements against a register, and prints the result on standard output. That is how
+/// many transactions of the files the register has as the acknowledgements say, or else what does not fit.
+///
+/// The register `-` is standard input. A refused register is reported as an audit reports it. The acknowledgement of a
+/// single file may have another name than its own.
 pub(crate) fn verify_files<R: AllocGlobal + Input + Print + Eprint + Files>(
     rt: &R,
     register: &str,
@@ -60,7 +62,11 @@ pub(crate) fn verify_files<R: AllocGlobal + Input + Print + Eprint + Files>(
     }
 }
 
-/// The same at a book. Each file is judged before the next is read, and of its text no byte is held.
+/// Checks files and their acknowledgements against a book, as `verify_files` does. Each file is judged before the next
+/// is read, and no byte of its text is held.
+///
+/// `rt` is the runtime, `book` has the entries, and `names` are those of the files. `ack` is the name of the
+/// acknowledgement, if it is given. `verbose` says whether steps, and the system's reasons, are printed.
 fn verify_at<R: AllocGlobal + Print + Eprint + Files>(
     rt: &R,
     book: &Book,
@@ -79,7 +85,7 @@ fn verify_at<R: AllocGlobal + Print + Eprint + Files>(
             Err(status) => return status,
         }
     }
-    tell_verified(rt, book, names, texts, &answers)
+    verify_and_print(rt, book, names, texts, &answers)
 }
 
 /// The file of this name, with its acknowledgement.
@@ -91,7 +97,7 @@ fn pair_of<R: AllocGlobal + Eprint + Files>(
 ) -> Result<(ReadText, Answer), ExitCode> {
     let answer = answer_to(rt, name, ack)?;
     let text = judged_file(rt, name, verbose)?;
-    let bytes = whole_file(rt, &answer, MOST_REGISTER_BYTES, verbose)?;
+    let bytes = whole_file(rt, &answer, MAX_REGISTER_BYTES, verbose)?;
     Ok((
         text,
         Answer {
@@ -101,20 +107,20 @@ fn pair_of<R: AllocGlobal + Eprint + Files>(
     ))
 }
 
-/// What the file of this name is judged to.
+/// The result of judging the file of this name.
 fn judged_file<R: AllocGlobal + Eprint + Files>(
     rt: &R,
     name: &str,
     verbose: bool,
 ) -> Result<ReadText, ExitCode> {
-    let text = whole_file(rt, name, MOST_BYTES, verbose)?;
+    let text = whole_file(rt, name, MAX_BYTES, verbose)?;
     match read_text(rt.alloc(), &text) {
         Ok(read) => Ok(read),
         Err(_) => Err(no_memory(rt)),
     }
 }
 
-/// The name of the acknowledgement of a file, which is the one that is given if any is.
+/// The name of the acknowledgement of a file: the given one, if any is given.
 fn answer_to<R: AllocGlobal + Eprint>(
     rt: &R,
     name: &str,
@@ -130,7 +136,7 @@ fn answer_to<R: AllocGlobal + Eprint>(
     }
 }
 
-/// The bytes of a file. Why it cannot be read is told on standard error.
+/// The bytes of a file. If it cannot be read, the reason is printed on standard error.
 fn whole_file<R: AllocGlobal + Eprint + Files>(
     rt: &R,
     name: &str,
@@ -147,16 +153,20 @@ fn whole_file<R: AllocGlobal + Eprint + Files>(
     }
 }
 
-/// Verifies files of these names at a book, and tells how that ended.
-fn tell_verified<R: AllocGlobal + Print + Eprint>(
+/// Compares judged files and their acknowledgements with a book, and prints the result on standard output. The status is
+/// 0 if everything fits and that was printed, and 1 if not.
+///
+/// `rt` is the runtime, and `book` has the entries. `names` has the name of each file, `judged` the result of judging
+/// it, and `answers` its acknowledgement, all in the same order.
+fn verify_and_print<R: AllocGlobal + Print + Eprint>(
     rt: &R,
     book: &Book,
     names: &[&str],
-    texts: Vec<ReadText>,
+    judged: Vec<ReadText>,
     answers: &[Answer],
 ) -> ExitCode {
     let mut files = Vec::new(rt.alloc());
-    for (text, answer) in texts.into_iter().zip(answers) {
+    for (text, answer) in judged.into_iter().zip(answers) {
         let acknowledgement = answer.bytes.as_slice();
         let file = ReadFile {
             text,
@@ -167,16 +177,16 @@ fn tell_verified<R: AllocGlobal + Print + Eprint>(
         }
     }
     match verify_read(rt.alloc(), book, &files) {
-        Ok(owners) => tell_count(rt, &owners, files.len()),
+        Ok(owners) => print_count(rt, &owners, files.len()),
         Err(unverified) => {
-            tell_unverified(rt, names, answers, unverified);
+            print_unverified(rt, names, answers, unverified);
             ExitCode::FAILURE
         }
     }
 }
 
-/// Tells how many entries answer one of so many files.
-fn tell_count<R: Print + Eprint>(rt: &R, owners: &[usize], files: usize) -> ExitCode {
+/// Prints the number of entries that answer one of `files` files.
+fn print_count<R: Print + Eprint>(rt: &R, owners: &[usize], files: usize) -> ExitCode {
     let mut transactions: usize = 0;
     for owner in owners {
         if *owner < files {
@@ -187,46 +197,46 @@ fn tell_count<R: Print + Eprint>(rt: &R, owners: &[usize], files: usize) -> Exit
     status_of(write!(out, "{transactions} transactions of {files} files\n").is_ok())
 }
 
-/// Tells what does not fit, by the names of the files and of their acknowledgements.
-fn tell_unverified<R: Print + Eprint>(
+/// Prints what does not fit, by the names of the files and of their acknowledgements.
+fn print_unverified<R: Print + Eprint>(
     rt: &R,
     names: &[&str],
     answers: &[Answer],
-    unverified: Unverified,
+    unverified: VerifyError,
 ) {
     let mut out = StandardOutput::of(rt);
     let _told = match unverified {
-        Unverified::Memory => eprintln!(rt; "stopped: memory"),
-        Unverified::TooLong { file } => write!(out, "{}: too long\n", name_of(names, file)),
-        Unverified::Refused { file, number, line } => {
-            tell_refused(&mut out, name_of(names, file), number, line)
+        VerifyError::Memory => eprintln!(rt; "stopped: memory"),
+        VerifyError::TooLong { file } => write!(out, "{}: too long\n", name_of(names, file)),
+        VerifyError::Refused { file, number, line } => {
+            print_refused(&mut out, name_of(names, file), number, line)
         }
-        Unverified::Transaction {
+        VerifyError::Transaction {
             file,
             group,
             sequence,
         } => {
             let place = (group, sequence);
-            tell_transaction(
+            print_transaction(
                 &mut out,
                 name_of(names, file),
                 place,
                 answer_of(answers, file),
             )
         }
-        Unverified::Acknowledgement { file, line } => {
-            tell_other_line(&mut out, answer_of(answers, file), line)
+        VerifyError::Acknowledgement { file, line } => {
+            print_other_line(&mut out, answer_of(answers, file), line)
         }
     };
 }
 
-/// Tells the first fault of a file.
-fn tell_refused<W: Write>(out: &mut W, name: &str, number: u8, line: u64) -> io::Result<()> {
+/// Prints the first fault of a file.
+fn print_refused<W: Write>(out: &mut W, name: &str, number: u8, line: u64) -> io::Result<()> {
     write!(out, "{name}: refused F{number} at line {line}\n")
 }
 
-/// Tells which transaction of a file, of this group and sequence, the register has not.
-fn tell_transaction<W: Write>(
+/// Prints which transaction of a file, of this group and sequence, the register does not have.
+fn print_transaction<W: Write>(
     out: &mut W,
     name: &str,
     (group, sequence): (u32, u32),
@@ -234,12 +244,12 @@ fn tell_transaction<W: Write>(
 ) -> io::Result<()> {
     write!(
         out,
-        "{name}: group {group}, transaction {sequence}: not in the register as {answer} tells it\n"
+        "{name}: group {group}, transaction {sequence}: not in the register as {answer} has it\n"
     )
 }
 
-/// Tells which line of an acknowledgement is another one.
-fn tell_other_line<W: Write>(out: &mut W, answer: &str, line: usize) -> io::Result<()> {
+/// Prints which line of an acknowledgement is another one.
+fn print_other_line<W: Write>(out: &mut W, answer: &str, line: usize) -> io::Result<()> {
     write!(out, "{answer}: line {line} is another in the register\n")
 }
 

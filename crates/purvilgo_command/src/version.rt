@@ -6,18 +6,18 @@ use crate::status::status_of;
 use std::io::Write;
 use std::process::ExitCode;
 
-/// CHANGELOG.md, at the top of the repository, tells where else it stands, and what each version changed.
-pub(crate) const VERSION: &str = "0.1.0";
+/// CHANGELOG.md, at the top of the repository, lists the other places that have it, and what each version changed.
+pub(crate) const VERSION: &str = "0.2.0";
 
 /// `version`, the same as `--version`.
 pub(crate) const VERSION_WORD: CommandWords = CommandWords {
     name: "version",
-    about: "Tells the version, as --version does",
+    about: "Prints the version, as --version does",
     arguments: &[],
     more: "",
 };
 
-/// Tells the version on standard output.
-pub(crate) fn tell_version<R: Print + Eprint>(rt: &R) -> ExitCode {
+/// Prints the version on standard output.
+pub(crate) fn print_version<R: Print + Eprint>(rt: &R) -> ExitCode {
     status_of(write!(StandardOutput::of(rt), "purvilgo {VERSION}\n").is_ok())
 }

@@ -1,11 +1,12 @@
-//! What the words want of a table.
+//! Which rows of a table the options ask for.
 
 use clap::ArgMatches;
 use cwr_field::{cut, digits, filled};
 use register_tables::Wanted;
 use work_registry::Status;
 
-/// What the words want of a table, or what is wrong with them: of several, the first in this order.
+/// The rows of a table that the options ask for, or what is wrong with them: of several faults, the first in this
+/// order.
 pub(crate) fn wanted_in(given: &ArgMatches) -> Result<Wanted, &'static str> {
     Ok(Wanted {
         work: number_given(given, "work", "bad --work")?,
@@ -15,7 +16,8 @@ pub(crate) fn wanted_in(given: &ArgMatches) -> Result<Wanted, &'static str> {
     })
 }
 
-/// The number of a work, or of an entry, that an option has where it is given, or the fault of one that is none.
+/// The number of a work, or of an entry, that is the value of an option, if it is given; a value that is no such number
+/// is a fault.
 pub(crate) fn number_given(
     given: &ArgMatches,
     option: &str,
@@ -27,7 +29,7 @@ pub(crate) fn number_given(
     }
 }
 
-/// The text of this width that an option has where it is given, or the fault of one that is none.
+/// The text of this width that is the value of an option, if it is given; a value that is no such text is a fault.
 fn text_given<const N: usize>(
     given: &ArgMatches,
     option: &str,

@@ -1,8 +1,8 @@
 //! The program's commands, over a runtime of the tests' own.
 
-use program_runs::{Fake, Given, Step, Text, expect_play, expect_program};
 use std::process::ExitCode;
 use std::test::Fail;
+use test_program::{Fake, Given, Step, Text, expect_play, expect_program};
 
 #[test]
 fn runs_on_standard_input(rt: HostRuntime) -> Result<(), Fail> {

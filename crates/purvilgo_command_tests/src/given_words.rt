@@ -1,12 +1,12 @@
-//! The words of a run, as a command line gives them.
+//! The options of a run, as a command line gives them.
 
-use cwr_sheets::{acknowledgement, file_of_lines, one_answer, plain_file};
-use program_runs::{Fake, FakeFile, KeptFile, expect, expect_held, expect_program, keeping};
 use std::alloc::Global;
 use std::process::ExitCode;
 use std::sync::Wait;
 use std::test::Fail;
 use std::thread::Threads;
+use test_files::{acknowledgement, file_of_lines, one_answer, plain_file};
+use test_program::{Fake, FakeFile, KeptFile, expect, expect_held, expect_program, keeping};
 
 /// An acknowledgement of society 000 as society 007 gives it.
 fn of_society_7(alloc: Global, text: &[u8]) -> Result<Vec<u8>, Fail> {
@@ -66,7 +66,8 @@ fn expect_answers(alloc: Global, kept: &[KeptFile; 2]) -> Result<(), Fail> {
     expect_of_society_7(alloc, &kept[1], &none)
 }
 
-/// The acknowledgements show each word of the stamp in its place, beside `CWR REGISTRY`, 1 June 2024 and 09:00:00.
+/// The acknowledgements have the value of each option of the stamp in its place, beside `CWR REGISTRY`, 1 June 2024 and
+/// 09:00:00.
 #[test]
 fn reads_the_words_of_a_run(rt: HostRuntime) -> Result<(), Fail> {
     let alloc = rt.alloc();

@@ -1,14 +1,14 @@
 //! Help, short and long.
 
-use cwr_sheets::{same, same_bytes};
-use program_runs::Fake;
 use purvilgo_command::run_program;
 use std::process::ExitCode;
 use std::sync::Wait;
 use std::test::Fail;
 use std::thread::Threads;
+use test_files::{same, same_bytes};
+use test_program::Fake;
 
-/// The page that these words ask for must name all of these, and stand on standard error, with status 2.
+/// The page for these words must name all of these, and be on standard error, with status 2.
 fn expect_page<T: AllocGlobal + Threads + Wait + Sync>(
     rt: &T,
     words: &[&str],
@@ -131,7 +131,7 @@ fn tells_each_command(rt: HostRuntime) -> Result<(), Fail> {
     Ok(())
 }
 
-/// Long help tells what a command reads and writes, its statuses, and an example.
+/// Long help says what a command reads and writes, and has its statuses and an example.
 #[test]
 fn tells_more_in_long_help(rt: HostRuntime) -> Result<(), Fail> {
     let parts = ["Writes: ", "Status: 0 ", "Example:\n"];
@@ -145,7 +145,7 @@ fn tells_more_in_long_help(rt: HostRuntime) -> Result<(), Fail> {
     expect_page(&rt, &["purvilgo", "help"], &parts)
 }
 
-/// Long help tells what a command reads, and where that may be standard input.
+/// Long help says what a command reads, and where that may be standard input.
 #[test]
 fn tells_what_is_read(rt: HostRuntime) -> Result<(), Fail> {
     let names = ["Reads: ", "standard input where REGISTER is -"];

@@ -1,4 +1,4 @@
-//! Tests of the program's commands, options and texts, over a runtime of the tests' own, and of the words of a run.
+//! Tests of the program's commands, options and texts, over a runtime of the tests' own, and of the options of a run.
 #![tactic(auto)]
 
 #[cfg(test)]
@@ -8,11 +8,11 @@ mod given_words;
 #[cfg(test)]
 mod help_pages;
 #[cfg(test)]
+mod option_runs;
+#[cfg(test)]
 mod other_words;
 #[cfg(test)]
 mod refused_words;
-#[cfg(test)]
-mod run_options;
 #[cfg(test)]
 mod same_files;
 #[cfg(test)]

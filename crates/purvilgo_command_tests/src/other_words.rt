@@ -1,20 +1,20 @@
 //! The version, and standard input by its name.
 
-use program_runs::{Fake, Given, Step, Text, expect_play, expect_program};
 use std::process::ExitCode;
 use std::test::Fail;
+use test_program::{Fake, Given, Step, Text, expect_play, expect_program};
 
 #[test]
 fn tells_its_version(rt: HostRuntime) -> Result<(), Fail> {
     for word in ["--version", "-V", "version"] {
         let words = ["purvilgo", word];
         let fake = Fake::new(&rt, &words, b"");
-        expect_program(fake, ExitCode::SUCCESS, b"purvilgo 0.1.0\n", "")?;
+        expect_program(fake, ExitCode::SUCCESS, b"purvilgo 0.2.0\n", "")?;
     }
     Ok(())
 }
 
-/// A file of the name `-` is there, and is not read.
+/// A file of the name `-` exists, and is not read.
 #[test]
 fn reads_standard_input_by_its_name(rt: HostRuntime) -> Result<(), Fail> {
     let faulty = Text::Writer("10001", "10000", "10000");

@@ -1,10 +1,10 @@
-//! Words that are not text, and empty ones where a file is to be named.
+//! Words that are not text, and empty ones for the name of a file.
 
-use program_runs::{Fake, Given, Step, Text, expect_play, expect_program};
 use std::process::ExitCode;
 use std::test::Fail;
+use test_program::{Fake, Given, Step, Text, expect_play, expect_program};
 
-/// The first such word is told by its number and its bytes.
+/// The first such word is printed by its number and its bytes.
 #[test]
 fn tells_which_word_is_not_text(rt: HostRuntime) -> Result<(), Fail> {
     let words = ["purvilgo", "check", "a", "b"];

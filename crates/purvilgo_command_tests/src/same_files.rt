@@ -1,7 +1,5 @@
 //! Runs whose words name one file twice, by its name, by another path or by a link.
 
-use cwr_sheets::plain_file;
-use program_runs::{Fake, FakeFile, KeptFile, expect_held, expect_program, keeping, run_with};
 use std::alloc::Global;
 use std::fs;
 use std::fs::Metadata;
@@ -10,6 +8,8 @@ use std::rt::Files;
 use std::sync::Wait;
 use std::test::Fail;
 use std::thread::Threads;
+use test_files::plain_file;
+use test_program::{Fake, FakeFile, KeptFile, expect_held, expect_program, keeping, run_with};
 
 const TWICE: &str = "file named twice\n";
 
@@ -37,7 +37,8 @@ fn expect_untouched(kept: &[KeptFile]) -> Result<(), Fail> {
     Ok(())
 }
 
-/// Runs with these words over these files where the system tells this of names: a file is named twice.
+/// Runs with names of which two are one file. `rt` starts threads and waits, and `more` are the words behind the
+/// stamp's. `kept` has the files that can be written. `nodes` and `links` are what the system says of names.
 fn expect_twice<T: AllocGlobal + Threads + Wait + Sync>(
     rt: &T,
     more: &[&str],
@@ -78,7 +79,7 @@ fn two_nodes<T: Files>(rt: &T) -> Result<(Metadata, Metadata), Fail> {
     Ok((fs::metadata(rt, "/")?, fs::metadata(rt, "/dev/null")?))
 }
 
-/// These names, each with what the system tells of it.
+/// These names, each with what the system says of it.
 fn nodes_of<'a>(
     alloc: Global,
     names: &[(&'a str, &Metadata)],
@@ -90,7 +91,9 @@ fn nodes_of<'a>(
     Ok(nodes)
 }
 
-/// Runs with these words over these files where the system tells that two names are one file, and another name is not.
+/// Runs where the system says that two names are one file, and another name is not. `rt` starts threads and waits, and
+/// `more` are the words behind the stamp's. `kept` has the files that can be written. `one` is the node of both
+/// `names`, and `other` another. `links` are the names that are links.
 fn expect_one_file<T: AllocGlobal + Threads + Wait + Sync>(
     rt: &T,
     more: &[&str],
@@ -105,7 +108,7 @@ fn expect_one_file<T: AllocGlobal + Threads + Wait + Sync>(
     expect_twice(rt, more, kept, &nodes, links)
 }
 
-/// Each run names a file that is there twice, as the system tells.
+/// Each run names an existing file twice, by what the system says.
 #[test]
 fn knows_a_file_by_another_name(rt: HostRuntime) -> Result<(), Fail> {
     let kept = all_keeping(rt.alloc(), &OLDER, b"older")?;
@@ -132,7 +135,7 @@ fn here_twice<'a, T: AllocGlobal + Files>(rt: &T) -> Result<Vec<(&'a str, Metada
     nodes_of(rt.alloc(), &[(".", &here), ("../here", &here)])
 }
 
-/// Each run would make one file twice, as the system tells of its directory.
+/// Each run would make one file twice, by what the system says of its directory.
 #[test]
 fn knows_a_file_that_is_not_there_yet(rt: HostRuntime) -> Result<(), Fail> {
     let kept = all_keeping(rt.alloc(), &OLDER, b"older")?;
@@ -150,7 +153,7 @@ fn knows_a_file_that_is_not_there_yet(rt: HostRuntime) -> Result<(), Fail> {
     expect_untouched(&kept)
 }
 
-/// Each run would write a draft or a lock over what it reads or writes, as the system tells of names and of links.
+/// Each run would write a draft or a lock over what it reads or writes, by what the system says of names and of links.
 #[test]
 fn knows_the_place_of_a_draft_and_of_a_lock(rt: HostRuntime) -> Result<(), Fail> {
     let kept = all_keeping(rt.alloc(), &OLDER, b"older")?;
@@ -173,7 +176,8 @@ fn knows_the_place_of_a_draft_and_of_a_lock(rt: HostRuntime) -> Result<(), Fail>
     expect_untouched(&kept)
 }
 
-/// Runs with these words over these files where the system tells this of names: the file `a` is acknowledged.
+/// Runs that acknowledge the file `a`. `rt` starts threads and waits, and `more` are the words behind the stamp's.
+/// `files` can only be read, and `kept` can be written. `nodes` are what the system says of names.
 fn expect_acknowledged<T: AllocGlobal + Threads + Wait + Sync>(
     rt: &T,
     more: &[&str],
@@ -194,7 +198,7 @@ fn own_draft<'a, T: AllocGlobal + Files>(rt: &T) -> Result<Vec<(&'a str, Metadat
     nodes_of(rt.alloc(), &[("a.ack", &node), ("a.ack.new", &node)])
 }
 
-/// A draft may be one with the file that it replaces: it is made anew.
+/// A draft may be one with the file that it replaces: it is made again.
 #[test]
 fn lets_a_draft_be_its_own_file(rt: HostRuntime) -> Result<(), Fail> {
     let input = plain_file(rt.alloc())?;

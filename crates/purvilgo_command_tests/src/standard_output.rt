@@ -1,12 +1,12 @@
-//! Standard output that fails: it is told on standard error, after how many bytes, and the status is 1.
+//! Standard output that fails: it is reported on standard error, with the number of bytes before, and the status is 1.
 
-use program_runs::{Given, Kept, Step, Text, expect_play};
 use std::test::Fail;
+use test_program::{Given, Kept, Step, Text, expect_play};
 
 /// A register without entries.
 const EMPTY: Text = Text::Bytes(b"REG00000000\n");
 
-/// A register whose first line is none.
+/// A register whose first line is not valid.
 const BROKEN: Text = Text::Bytes(b"REG\n");
 
 #[test]
@@ -84,7 +84,7 @@ fn tells_that_a_register_is_cut(rt: HostRuntime) -> Result<(), Fail> {
     )
 }
 
-/// The files of a run are acknowledged all the same; the second line is told as cut, and none after it.
+/// The files of a run are acknowledged all the same; the second line is reported as cut, and none after it.
 #[test]
 fn tells_that_a_run_is_cut(rt: HostRuntime) -> Result<(), Fail> {
     let writable = [

@@ -1,17 +1,17 @@
-//! Steps and reasons, which `--verbose` tells before the fixed texts.
+//! Steps and reasons, which `--verbose` prints before the fixed texts.
 
-use cwr_sheets::{file_of_lines, miscounted, one_answer, plain_file, same, same_text};
-use program_runs::{
-    Calls, Disk, Fake, Given, Kept, Step, Text, expect_play, expect_program, run_with,
-};
 use std::process::ExitCode;
 use std::sync::Wait;
 use std::test::Fail;
 use std::thread::Threads;
+use test_files::{file_of_lines, miscounted, one_answer, plain_file, same, same_text};
+use test_program::{
+    Calls, Disk, Fake, Given, Kept, Step, Text, expect_play, expect_program, run_with,
+};
 
 const NO_TRANSACTION: [&str; 1] = ["TRL000000000000000000002"];
 
-/// What is told of a name that is not there, before `stopped: read`.
+/// What is printed of a name that does not exist, before `stopped: read`.
 const ABSENT: &str = "absent: No such file or directory\nstopped: read\n";
 
 #[test]
@@ -133,7 +133,9 @@ fn tells_how_a_refused_file_ends(rt: HostRuntime) -> Result<(), Fail> {
     )
 }
 
-/// Runs to a register whose lock some calls do not open: what is told, and the calls that change files, must be these.
+/// Runs to a register whose lock some calls do not open. `rt` starts threads and waits, `more` are the words behind the
+/// stamp's, and `calls` counts the calls that change files and refuses some. `complained` is what must be on standard
+/// error, and `made` the calls that must be made.
 fn expect_unlocked<T: AllocGlobal + Threads + Wait + Sync>(
     rt: &T,
     more: &[&str],
@@ -154,7 +156,8 @@ fn expect_unlocked<T: AllocGlobal + Threads + Wait + Sync>(
     same_text("the calls", &disk.calls.made()?, made)
 }
 
-/// Runs the program over a disk, and it ends with status 1 and prints nothing: what it tells must be this.
+/// Runs the program over a disk. It must end with status 1 and print nothing on standard output, and this on standard
+/// error.
 fn expect_failed<T: AllocGlobal + Threads + Wait + Sync>(
     rt: &T,
     words: &[&str],
@@ -165,7 +168,7 @@ fn expect_failed<T: AllocGlobal + Threads + Wait + Sync>(
     expect_program(fake, ExitCode::FAILURE, b"", complained)
 }
 
-/// The system is asked once more for the reason, and only where it is to be told.
+/// The system is asked once more for the reason, and only if it is to be printed.
 #[test]
 fn tells_why_a_register_is_not_locked(rt: HostRuntime) -> Result<(), Fail> {
     let alloc = rt.alloc();

@@ -1,8 +1,8 @@
-//! What is wrong with the words of a run.
+//! What is wrong with the options of a run.
 
-use cwr_sheets::{same, same_text};
-use run_words::{RunFault, run_fault, words_fault};
+use run_options::{RunFault, run_fault, words_fault};
 use std::test::Fail;
+use test_files::{same, same_text};
 
 #[test]
 fn tells_the_first_wrong_word() -> Result<(), Fail> {

@@ -1,16 +1,18 @@
 //! Files that are worked at once, each on a thread of its own.
 
 use crate::files::numbered;
-use cwr_sheets::{miscounted, same, same_text};
-use program_runs::{Fake, FakeFile, Meeting, run_with};
 use purvilgo_command::run_program;
 use std::alloc::Global;
 use std::process::ExitCode;
 use std::sync::Wait;
 use std::test::Fail;
 use std::thread::Threads;
+use test_files::{miscounted, same, same_text};
+use test_program::{Fake, FakeFile, Meeting, run_with};
 
-/// Runs files, of which each must be refused: how many of their workers meet all others, of whom there are so many.
+/// Runs files, of which each must be refused. `rt` starts threads and waits, `words` is the command line, and `files`
+/// are read. `all` is the number of workers that wait for one another, and `met` the number of those that must meet all
+/// others.
 fn expect_met<T: AllocGlobal + Threads + Wait + Sync>(
     rt: &T,
     words: &[&str],
@@ -27,7 +29,7 @@ fn expect_met<T: AllocGlobal + Threads + Wait + Sync>(
     expect_ended((found, status), met, &complained, &printed, &wanted)
 }
 
-/// What is told of files, of which each is refused.
+/// What is printed of files, of which each is refused.
 fn all_refused(alloc: Global, files: &[(&str, FakeFile)]) -> Result<Vec<u8>, Fail> {
     let mut told = Vec::new(alloc);
     for (name, _) in files {
@@ -42,7 +44,9 @@ fn tell_refused(told: &mut Vec<u8>, name: &str) -> Result<(), Fail> {
     Ok(())
 }
 
-/// A run must have failed with so many workers that met all others, complained of nothing and printed this.
+/// A run must have failed, with nothing on standard error. `ended` is the number of workers that met all others, and
+/// the status; `met` is the number that must have. `complained` is standard error, `printed` standard output, and
+/// `wanted` what must be on it.
 fn expect_ended(
     ended: (u64, ExitCode),
     met: u64,

@@ -1,55 +1,55 @@
 //! Disks with an acknowledgement and a register, runs over them, and what is there after these.
 
 use crate::files::file_named;
-use cwr_sheets::{plain_file, same, same_text};
-use program_runs::{
-    Calls, Disk, Fake, FakeFile, KeptFile, Text, expect_held, expect_program, keeping, register,
-    run_with,
-};
 use std::alloc::Global;
 use std::fs::Metadata;
 use std::process::ExitCode;
 use std::sync::Wait;
 use std::test::Fail;
 use std::thread::Threads;
+use test_files::{plain_file, same, same_text};
+use test_program::{
+    Calls, Disk, Fake, FakeFile, KeptFile, Text, expect_held, expect_program, keeping, register,
+    run_with,
+};
 
 /// An acknowledgement of an earlier run.
 pub(crate) const OLDER: &[u8] = b"an older acknowledgement";
 
-/// What a run tells of the file `a`.
+/// What a run prints of the file `a`.
 pub(crate) const ACKNOWLEDGED: &str = "a: acknowledged 1\n";
 
 /// A file of this name that holds this text so far, and takes at most 1,000 bytes and 200 in one write.
-pub(crate) fn in_pieces<'a>(
+pub(crate) fn in_chunks<'a>(
     alloc: Global,
     name: &'a str,
     text: &[u8],
 ) -> Result<KeptFile<'a>, Fail> {
     let mut file = keeping(alloc, name, text, 1000)?;
-    file.piece = 200;
+    file.chunk = 200;
     Ok(file)
 }
 
 /// The files of a disk.
-pub(crate) fn all_in_pieces<'a>(
+pub(crate) fn all_in_chunks<'a>(
     alloc: Global,
     files: &[(&'a str, &[u8])],
 ) -> Result<Vec<KeptFile<'a>>, Fail> {
     let mut kept = Vec::new(alloc);
     for (name, text) in files {
-        kept.push(in_pieces(alloc, name, text)?)?;
+        kept.push(in_chunks(alloc, name, text)?)?;
     }
     Ok(kept)
 }
 
-/// A disk with these files, of which one call is refused, and each that does something.
+/// A disk with these files. The call with number `refused` is refused, and each call that does `always`.
 pub(crate) fn disk<'a>(
     alloc: Global,
     files: &[(&'a str, &[u8])],
     refused: usize,
     always: &'static str,
 ) -> Result<Disk<'a>, Fail> {
-    let files = all_in_pieces(alloc, files)?;
+    let files = all_in_chunks(alloc, files)?;
     Ok(Disk {
         files,
         calls: Calls::refusing(alloc, refused, always),
@@ -70,7 +70,7 @@ pub(crate) fn older<'a>(
     disk(alloc, &files, refused, always)
 }
 
-/// The same, where the system tells of both that they are regular files.
+/// The same, where the system says that both are regular files.
 pub(crate) fn told<'a>(
     alloc: Global,
     refused: usize,
@@ -88,7 +88,8 @@ pub(crate) fn tell_of_files<'a>(nodes: &mut Vec<(&'a str, Metadata)>) -> Result<
     Ok(())
 }
 
-/// Runs the program over a disk: its status, standard output and standard error must be these.
+/// Runs the program over a disk. `rt` starts threads and waits, and `words` is the command line. `files` can only be
+/// read, and `disk` has the others. `ended` has the status, standard output and standard error that it must have.
 pub(crate) fn expect_on<T: AllocGlobal + Threads + Wait + Sync>(
     rt: &T,
     words: &[&str],
@@ -114,7 +115,9 @@ pub(crate) fn run_over<T: AllocGlobal + Threads + Wait + Sync>(
     expect_on(rt, &words, &files, disk, ended)
 }
 
-/// Runs the file `a` from `book` to `book` over a disk.
+/// Runs the file `a` from `book` to `book` over a disk. `rt` starts threads and waits, and `disk` has the
+/// acknowledgement and the register. `status`, `printed` and `complained` are the status, standard output and standard
+/// error that it must have.
 pub(crate) fn run_into_itself<T: AllocGlobal + Threads + Wait + Sync>(
     rt: &T,
     disk: &Disk,
@@ -145,14 +148,15 @@ pub(crate) fn expect_draft(disk: &Disk, name: &str, what: &str, waits: bool) -> 
     same(what, &file.has_draft(), &waits)
 }
 
-/// The acknowledgement and the register must be those that were there before.
+/// The acknowledgement and the register must be the old ones.
 pub(crate) fn expect_older(alloc: Global, disk: &Disk) -> Result<(), Fail> {
     expect_text(alloc, disk, "a.ack", Text::Bytes(OLDER))?;
     expect_text(alloc, disk, "book", Text::Register(1))
 }
 
-/// Runs the file `a` with these words over a disk: the status, what is printed, each call that changes files, in their
-/// order, and what a file holds then must be these.
+/// Runs the file `a` over a disk. `rt` starts threads and waits, and `more` are the words behind the stamp's. `ended`
+/// has the status, standard output and standard error that it must have. `made` has the calls that must change files on
+/// `disk`, in their order, and `held` the name of a file and what it must hold then.
 pub(crate) fn expect_calls<T: AllocGlobal + Threads + Wait + Sync>(
     rt: &T,
     more: &[&str],

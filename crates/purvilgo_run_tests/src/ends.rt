@@ -1,15 +1,15 @@
-//! Which of several files fails, and what becomes of the others.
+//! Which of several files fails, and the outcome of the others.
 
 use crate::files::kept_files;
-use cwr_sheets::{OTHER_SENDER, SENDER, acknowledgement, decision, miscounted, one_work, same};
-use program_runs::{
-    FakeFile, Given, Kept, KeptFile, Step, Text, expect, expect_held, expect_play, run_with,
-};
 use std::alloc::Global;
 use std::process::ExitCode;
 use std::sync::Wait;
 use std::test::Fail;
 use std::thread::Threads;
+use test_files::{OTHER_SENDER, SENDER, acknowledgement, decision, miscounted, one_work, same};
+use test_program::{
+    FakeFile, Given, Kept, KeptFile, Step, Text, expect, expect_held, expect_play, run_with,
+};
 
 const NAMES: [&str; 3] = ["first.v22", "in/middle", "last"];
 
@@ -30,7 +30,7 @@ fn three_files(alloc: Global) -> Result<Vec<Vec<u8>>, Fail> {
     Ok(files)
 }
 
-/// The three files, of which the one at this place, if any, is another.
+/// The three files, in which the one at this place, if any, is another.
 fn all_but<'a>(
     alloc: Global,
     files: &'a [Vec<u8>],
@@ -45,7 +45,7 @@ fn all_but<'a>(
     Ok(held)
 }
 
-/// What is told of the three files, of which the one at this place, if any, is refused.
+/// What is printed of the three files, of which the one at this place, if any, is refused.
 fn told_of_all_but(alloc: Global, place: usize) -> Result<String, Fail> {
     let mut told = String::new(alloc);
     for (index, name) in NAMES.iter().enumerate() {
@@ -102,8 +102,8 @@ fn expect_answers(alloc: Global, kept: &[KeptFile], place: usize) -> Result<(), 
     same("works", &works, &(if place < 3 { 2 } else { 3 }))
 }
 
-/// Runs the three files in turn, of which the one at this place, if any, is not well-formed: that one is told, and each
-/// other is acknowledged in the file of its name and `.ack`.
+/// Runs the three files in turn. The one at this place, if any, is not well-formed. It must be reported, and each other
+/// file must be acknowledged in the file of its name and `.ack`.
 fn expect_all_but<T: AllocGlobal + Threads + Wait + Sync>(
     rt: &T,
     files: &[Vec<u8>],

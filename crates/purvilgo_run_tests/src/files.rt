@@ -1,8 +1,8 @@
 //! Files that the runs of the tests find and leave.
 
-use program_runs::{KeptFile, keeping};
 use std::alloc::Global;
 use std::test::Fail;
+use test_program::{KeptFile, keeping};
 
 /// The names `1.v22`, `2.v22` and so on, before this number.
 pub(crate) fn numbered(alloc: Global, end: u32) -> Result<Vec<String>, Fail> {
@@ -13,7 +13,7 @@ pub(crate) fn numbered(alloc: Global, end: u32) -> Result<Vec<String>, Fail> {
     Ok(names)
 }
 
-/// Files that can be written: the name of each, what it holds so far, and how many bytes it takes at most.
+/// Files that can be written: the name of each, what it holds so far, and the greatest number of bytes that it takes.
 pub(crate) fn kept_files<'a>(
     alloc: Global,
     files: &[(&'a str, &[u8], usize)],

@@ -1,7 +1,7 @@
 //! Registers that runs begin with and leave, and their audits.
 
-use program_runs::{Given, Kept, Step, Text, expect_play};
 use std::test::Fail;
+use test_program::{Given, Kept, Step, Text, expect_play};
 
 /// The register of one run, with a reply that the registry does not give.
 const DAMAGED: &[u8] = b"REG00000001\n\

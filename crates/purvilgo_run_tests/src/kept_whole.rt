@@ -1,24 +1,24 @@
-//! Registers and acknowledgements that are replaced whole: what is there when a call of the system is refused.
+//! Registers and acknowledgements that are replaced at once: what is there when a call of the system is refused.
 
 use crate::disks::{
     ACKNOWLEDGED, OLDER, expect_draft, expect_made, expect_older, expect_text, run_into_itself,
     told,
 };
 use crate::files::file_named;
-use cwr_sheets::one_answer;
-use program_runs::{Disk, KeptFile, Text, expect_held};
 use std::alloc::Global;
 use std::process::ExitCode;
 use std::sync::Wait;
 use std::test::Fail;
 use std::thread::Threads;
+use test_files::one_answer;
+use test_program::{Disk, KeptFile, Text, expect_held};
 
-/// What a run from one register to the same leaves, beside the entry in it: what it tells on standard output and on
-/// standard error, how many bytes of the acknowledgement are in place, if any, whether its draft is left, and whether
-/// the register is the new one.
+/// What a run from one register to the same leaves, beside the entry in it: standard output, standard error, the number
+/// of bytes of the acknowledgement that are in place, if any, whether its draft is left, and whether the register is
+/// the new one.
 type Left<'a> = (&'a str, &'a str, Option<usize>, bool, bool);
 
-/// The calls that change files of a run from `book` to `book`, in their order, and what is left where that one alone is
+/// The calls that change files of a run from `book` to `book`, in their order, and what is left if that one alone is
 /// refused. The acknowledgement has 425 bytes and the register 360; a write takes at most 200.
 const REFUSALS: [(&str, Left); 18] = [
     (
@@ -72,7 +72,7 @@ const REFUSALS: [(&str, Left); 18] = [
     ),
     ("sync book", AFTER_360),
     ("rename book", AFTER_360),
-    // The register has its name, of which the system does not say that a crash leaves it.
+    // The register has its name, but the system does not say that a crash leaves it.
     (
         "sync .",
         (
@@ -123,7 +123,7 @@ const AFTER_360: Left = (
 
 const NOT_IN_PLACE: Left = (ACKNOWLEDGED, "a.ack: not in place\n", None, true, true);
 
-/// So many bytes of the new acknowledgement must be in place, or else the older one.
+/// The first `placed` bytes of the new acknowledgement must be in place, or else the older one.
 fn expect_placed(alloc: Global, disk: &Disk, placed: Option<usize>) -> Result<(), Fail> {
     let ack = file_named(&disk.files, "a.ack")?;
     match placed {
@@ -172,7 +172,7 @@ fn writes_in_this_order(rt: HostRuntime) -> Result<(), Fail> {
     expect_made(&disk, &wanted)
 }
 
-/// Runs over a disk whose call of this number is refused: this is what must be left.
+/// Runs over a disk whose call of this number is refused: this must be left.
 fn expect_refused<T: AllocGlobal + Threads + Wait + Sync>(
     rt: &T,
     number: usize,
@@ -192,7 +192,7 @@ fn leaves_the_old_or_the_new_at_each_refusal(rt: HostRuntime) -> Result<(), Fail
     Ok(())
 }
 
-/// An acknowledgement that the disk did not take is not told of where the register is not kept: it is withheld.
+/// An acknowledgement that could not be put on disk is not reported if the register is not kept: it is withheld.
 #[test]
 fn withholds_what_the_disk_did_not_take(rt: HostRuntime) -> Result<(), Fail> {
     let disk = told(rt.alloc(), 0, "sync")?;
@@ -233,7 +233,7 @@ fn expect_drafts<T: AllocGlobal + Threads + Wait + Sync>(rt: &T, disk: &Disk) ->
     expect_draft(disk, "book", "another", true)
 }
 
-/// What cannot be removed stays where the run failed, and nothing else is otherwise.
+/// What cannot be removed stays if the run failed, and nothing else has changed.
 #[test]
 fn leaves_drafts_that_it_cannot_remove(rt: HostRuntime) -> Result<(), Fail> {
     let disk = told(rt.alloc(), 13, "remove")?;

@@ -1,23 +1,23 @@
 //! Files and registers of several megabytes.
 
 use crate::files::{file_named, kept_files};
-use cwr_sheets::{
-    OTHER_SENDER, SENDER, acknowledgement, crowded_faults, crowded_work, decision, many_answers,
-    many_checked, many_entries, many_works, same,
-};
-use program_runs::{
-    Fake, FakeFile, KeptFile, expect, expect_held, expect_program, keeping, run_with,
-};
 use std::alloc::Global;
 use std::process::ExitCode;
 use std::sync::Wait;
 use std::test::Fail;
 use std::thread::Threads;
+use test_files::{
+    OTHER_SENDER, SENDER, acknowledgement, crowded_faults, crowded_work, decision, many_answers,
+    many_checked, many_entries, many_works, same,
+};
+use test_program::{
+    Fake, FakeFile, KeptFile, expect, expect_held, expect_program, keeping, run_with,
+};
 
-/// How many works a file has, of 225 bytes each.
+/// The number of works of a file, of 225 bytes each.
 const MANY: u32 = 20_000;
 
-/// More bytes than any file has that is written here.
+/// A bound on the bytes of any file that is written here.
 const ROOM: usize = 10_000_000;
 
 #[test]
@@ -30,7 +30,8 @@ fn checks_a_large_file(rt: HostRuntime) -> Result<(), Fail> {
     expect_program(fake, ExitCode::FAILURE, &wanted, "")
 }
 
-/// Runs files with these words: it must succeed and print this.
+/// Runs files, which must succeed. `rt` starts threads and waits, and `more` are the words behind the stamp's. `files`
+/// can only be read, and `kept` can be written. `told` is what must be on standard output.
 fn expect_run<T: AllocGlobal + Threads + Wait + Sync>(
     rt: &T,
     more: &[&str],
@@ -42,7 +43,7 @@ fn expect_run<T: AllocGlobal + Threads + Wait + Sync>(
     expect(rt, &words, files, kept, ExitCode::SUCCESS, told, "")
 }
 
-/// A file must hold the acknowledgement of many works, which come after so many others.
+/// A file must hold the acknowledgement of many works, which come after `before` others.
 fn expect_answers(alloc: Global, file: &KeptFile, before: u32) -> Result<(), Fail> {
     let wanted = many_answers(alloc, MANY, before)?;
     expect_held(file, &wanted)

@@ -1,4 +1,5 @@
-//! Tests of the program's runs, over a runtime of the tests' own: many files, registers, and what is left where a call fails.
+//! Tests of the program's runs, over a runtime of the tests' own: many files, registers, and what is left if a call
+//! fails.
 #![tactic(auto)]
 
 #[cfg(test)]

@@ -1,22 +1,22 @@
-//! The limits of each command: the greatest file that it takes, and a byte more.
+//! The limits of each command: the greatest file that it takes, and one more byte.
 
 use crate::files::{file_named, kept_files};
-use cwr_desk::{MOST_BYTES, MOST_ENTRIES};
-use cwr_sheets::{SENDER, many_answers, many_checked, many_works, same};
-use program_runs::{Fake, FakeFile, KeptFile, expect, expect_held, expect_program, run_with};
-use purvilgo_command::MOST_REGISTER_BYTES;
+use cwr_desk::{MAX_BYTES, MAX_ENTRIES};
+use purvilgo_command::MAX_REGISTER_BYTES;
 use std::alloc::Global;
 use std::process::ExitCode;
 use std::sync::Wait;
 use std::test::Fail;
 use std::thread::Threads;
+use test_files::{SENDER, many_answers, many_checked, many_works, same};
+use test_program::{Fake, FakeFile, KeptFile, expect, expect_held, expect_program, run_with};
 
-/// The most bytes of a file that is acknowledged or checked.
+/// The greatest number of bytes of a file that is acknowledged or checked.
 const LIMIT: usize = 16_777_216;
 
 const MANY: u32 = 70_000;
 
-/// A file of 70,000 works, filled with blanks behind its last record up to this many bytes.
+/// A file of 70,000 works, filled with blanks behind its last record up to this number of bytes.
 fn filled(alloc: Global, size: usize) -> Result<Vec<u8>, Fail> {
     let mut text = many_works(alloc, SENDER, MANY)?;
     text.resize(size, b' ')?;
@@ -25,12 +25,13 @@ fn filled(alloc: Global, size: usize) -> Result<Vec<u8>, Fail> {
 
 #[test]
 fn has_limits() -> Result<(), Fail> {
-    same("bytes of a file", &MOST_BYTES, &LIMIT)?;
-    same("bytes of a register", &MOST_REGISTER_BYTES, &68_719_476_736)?;
-    same("entries of a history", &MOST_ENTRIES, &99_999_999)
+    same("bytes of a file", &MAX_BYTES, &LIMIT)?;
+    same("bytes of a register", &MAX_REGISTER_BYTES, &68_719_476_736)?;
+    same("entries of a history", &MAX_ENTRIES, &99_999_999)
 }
 
-/// Checks the file of this name: it must fail, print this and complain of this.
+/// Checks a file, which must fail. `rt` starts threads and waits, `files` are there, and `name` is that of the file.
+/// `printed` and `complained` are the standard output and standard error that it must have.
 fn expect_check<T: AllocGlobal + Threads + Wait + Sync>(
     rt: &T,
     files: &[(&str, FakeFile)],
@@ -76,7 +77,7 @@ fn acknowledge_most<T: AllocGlobal + Threads + Wait + Sync>(rt: &T) -> Result<()
     expect_program(fake, ExitCode::SUCCESS, &wanted, "")
 }
 
-/// Stops at a file of a byte more.
+/// Stops at a file of one more byte.
 fn acknowledge_more<T: AllocGlobal + Threads + Wait + Sync>(rt: &T) -> Result<(), Fail> {
     let more = filled(rt.alloc(), LIMIT + 1)?;
     let fake = Fake::new(rt, &["purvilgo"], &more);

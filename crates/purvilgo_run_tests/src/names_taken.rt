@@ -1,10 +1,8 @@
-//! How registers and acknowledgements take their names: by which calls, over what, and where another file is.
+//! How registers and acknowledgements take their names: by which calls, over what, and if another file is there.
 
 use crate::disks::{
     ACKNOWLEDGED, OLDER, disk, expect_calls, expect_draft, expect_on, expect_text, older, run_over,
 };
-use cwr_sheets::{plain_file, same};
-use program_runs::{Disk, FakeFile, Text, register, run_with};
 use std::alloc::Global;
 use std::fs;
 use std::fs::Metadata;
@@ -12,8 +10,10 @@ use std::process::ExitCode;
 use std::sync::Wait;
 use std::test::Fail;
 use std::thread::Threads;
+use test_files::{plain_file, same};
+use test_program::{Disk, FakeFile, Text, register, run_with};
 
-/// The register of `--from` is not there, and nothing is told of it.
+/// The register of `--from` does not exist, and nothing is printed of it.
 #[test]
 fn leaves_a_register_that_is_in_use(rt: HostRuntime) -> Result<(), Fail> {
     let disk = older(rt.alloc(), 0, "")?;
@@ -23,7 +23,7 @@ fn leaves_a_register_that_is_in_use(rt: HostRuntime) -> Result<(), Fail> {
     expect_calls(&rt, &words, &disk, used, "lock taken.lock\n", held)
 }
 
-/// Nothing is locked where no register is left, and the acknowledgement takes its name once the worker has ended.
+/// Nothing is locked if no register is written, and the acknowledgement takes its name once the worker has ended.
 #[test]
 fn puts_an_acknowledgement_in_place_without_a_register(rt: HostRuntime) -> Result<(), Fail> {
     let disk = older(rt.alloc(), 0, "")?;
@@ -65,7 +65,7 @@ fn keeps_the_draft_of_what_it_cannot_link(rt: HostRuntime) -> Result<(), Fail> {
     expect_draft(&disk, "a.ack", "a draft", true)
 }
 
-/// With `--no-clobber` the register replaces none either, but the one that the run begins with.
+/// With `--no-clobber` the register replaces no file either, except the one that the run begins with.
 #[test]
 fn leaves_a_register_that_is_there(rt: HostRuntime) -> Result<(), Fail> {
     let mut disk = disk(rt.alloc(), &[("a.ack", b""), ("book", OLDER)], 0, "")?;
@@ -145,8 +145,10 @@ fn follows_a_link_to_a_register(rt: HostRuntime) -> Result<(), Fail> {
     expect_calls(&rt, &["--to", "linked", "a"], &disk, done, made, held)
 }
 
-/// Runs the file `a` and another over a disk that refuses the call of this number: what it complains of, and how its calls
-/// end must be these. There are eight calls that write the drafts, and two that put them on the disk, on threads.
+/// Runs the file `a` and another over a disk that refuses one call. There are eight calls that write the drafts, and
+/// two that put them on disk, on threads. `rt` starts threads and waits. `other` has the names of the other file and of
+/// its acknowledgement, and `refused` is the number of the refused call, from 1. `complained` is what must be on
+/// standard error, and `end` the calls that must follow the first ten.
 fn expect_two<T: AllocGlobal + Threads + Wait + Sync>(
     rt: &T,
     other: (&str, &str),
@@ -196,7 +198,7 @@ fn expect_end(disk: &Disk, end: &str) -> Result<(), Fail> {
     same("the last calls", &made.ends_with(end), &true)
 }
 
-/// The names of one folder are put on the disk together.
+/// The names of one folder are put on disk together.
 #[test]
 fn puts_a_folder_on_the_disk_once(rt: HostRuntime) -> Result<(), Fail> {
     let other = ("b", "b.ack");
@@ -206,7 +208,7 @@ fn puts_a_folder_on_the_disk_once(rt: HostRuntime) -> Result<(), Fail> {
     expect_two(&rt, other, 13, refused, end)
 }
 
-/// Where one of two folders cannot be put on the disk, that is told of the names in it alone.
+/// If one of two folders cannot be put on disk, that is reported of the names in it alone.
 #[test]
 fn puts_each_folder_on_the_disk(rt: HostRuntime) -> Result<(), Fail> {
     let other = ("in/b", "in/b.ack");

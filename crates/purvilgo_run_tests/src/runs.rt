@@ -1,15 +1,15 @@
 //! The program's runs, over a runtime of the tests' own.
 
 use crate::files::{file_named, kept_files, numbered};
-use cwr_sheets::{miscounted, one_answer, plain_file, rival_claims, same, same_bytes};
-use program_runs::{
-    FakeFile, Given, Kept, KeptFile, Step, Text, expect, expect_held, expect_play, run_with,
-};
 use std::alloc::Global;
 use std::process::ExitCode;
 use std::sync::Wait;
 use std::test::Fail;
 use std::thread::Threads;
+use test_files::{miscounted, one_answer, plain_file, rival_claims, same, same_bytes};
+use test_program::{
+    FakeFile, Given, Kept, KeptFile, Step, Text, expect, expect_held, expect_play, run_with,
+};
 
 /// Whether a file holds this text.
 fn holds(file: &KeptFile, text: &[u8]) -> Result<bool, Fail> {
@@ -63,7 +63,7 @@ fn expect_either(kept: &[KeptFile], accepted: &[u8], conflict: &[u8]) -> Result<
     expect_held(other, wanted_other)
 }
 
-/// One of these acknowledgements must accept, and the other tell of a conflict.
+/// One of these acknowledgements must accept, and the other report a conflict.
 fn expect_one_conflict(alloc: Global, kept: &[KeptFile]) -> Result<(), Fail> {
     let accepted = one_answer(alloc, "AS")?;
     let conflict = one_answer(alloc, "CO")?;
@@ -116,7 +116,7 @@ fn expect_cut(file: &KeptFile, wanted: &[u8]) -> Result<(), Fail> {
     )
 }
 
-/// What files that failed and the last one must hold, where this is its acknowledgement if it came first.
+/// What files that failed and the last one must hold. `wanted` is the acknowledgement of the last one if it came first.
 fn expect_failed(alloc: Global, kept: &[KeptFile], wanted: &[u8]) -> Result<(), Fail> {
     expect_held(file_named(kept, "refused.ack")?, b"older")?;
     expect_cut(file_named(kept, "cut.ack")?, wanted)?;
@@ -149,7 +149,8 @@ fn goes_on_after_files_that_fail(rt: HostRuntime) -> Result<(), Fail> {
     expect_failed(alloc, &kept, &wanted)
 }
 
-/// Runs files of these names, none of which is there.
+/// Runs files that do not exist. `rt` starts threads and waits, and `names` are those of the files. `status`, `printed`
+/// and `complained` are the status, standard output and standard error that it must have.
 fn run_absent<T: AllocGlobal + Threads + Wait + Sync>(
     rt: &T,
     names: &[String],
@@ -165,7 +166,7 @@ fn run_absent<T: AllocGlobal + Threads + Wait + Sync>(
     expect(rt, &words, &[], &[], status, printed, complained)
 }
 
-/// What is told of files of these names, none of which is there.
+/// What is printed of files of these names, none of which exists.
 fn all_absent(alloc: Global, names: &[String]) -> Result<String, Fail> {
     let mut told = String::new(alloc);
     for name in names {

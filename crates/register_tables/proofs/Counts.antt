@@ -12,7 +12,7 @@ use Rattle.work_registry.specs.declared.reply.Reply.TheVariants.{Accepted, Dupli
 use Rattle.work_registry.specs.EntryValue.{EntryValue}
 use Rattle.work_registry.specs.History.{IsHistory}
 use Rattle.work_registry.specs.Rows.{rows_of}
-use Rattle.work_registry.specs.Told.{status_in}
+use Rattle.work_registry.specs.ReplyParts.{status_in}
 use Rattle.register_tables.specs.declared.tally.Tally.{Tally}
 use Rattle.register_tables.specs.declared.shares.Bands.{Bands}
 use Rattle.register_tables.specs.declared.conflicts.Conflicted.{Conflicted}

@@ -14,7 +14,7 @@ use Rattle.work_registry.specs.Rows.{Row, key_of, last_of_key, or_else, row_of, 
 use Rattle.work_registry.specs.Claims.{claim_from, claim_of, versions_of}
 use Rattle.work_registry.specs.History.{IsHistory}
 use Rattle.work_registry.specs.Reply.{reply_to}
-use Rattle.work_registry.specs.Told.{version_in, work_in}
+use Rattle.work_registry.specs.ReplyParts.{version_in, work_in}
 use Rattle.work_registry.proofs.Keys.{same_key-refl, same_key-sym, same_key-true}
 use Rattle.work_registry.proofs.OneMoreRow.{last_such-push}
 use Rattle.work_registry.proofs.SoundRows.{IsSound, Takes, takes-from}

@@ -13,14 +13,14 @@ use Rattle.work_registry.specs.EntryValue.{EntryValue, entry_of}
 use Rattle.work_registry.specs.Rows.{Row, last_such, or_else, row_of, rows_of, rows_of_entry}
 use Rattle.work_registry.specs.History.{IsHistory}
 use Rattle.work_registry.specs.Works.{control_of, iswc_in, iswc_of}
-use Rattle.work_registry.specs.Told.{work_in}
+use Rattle.work_registry.specs.ReplyParts.{work_in}
 use Rattle.work_registry.specs.Indexes.{newer}
-use Rattle.register_tables.specs.declared.works.KeptWork.{KeptWork}
+use Rattle.register_tables.specs.declared.works.WorkTotals.{WorkTotals}
 use Rattle.register_tables.specs.declared.form.Form.{Form}
 use Rattle.register_tables.specs.declared.wanted.Wanted.{Wanted}
 use Rattle.register_tables.specs.Summary.{count}
 use Rattle.register_tables.specs.WorksTable.{is_on, is_wanted_work, kept_of, wanted_line, work_line}
-use Rattle.register_tables.specs.Gathered.{AreGathered, AreKept, blank_work, gathered_of, grown, is_first_on, noted}
+use Rattle.register_tables.specs.WorkTotals.{AreTotals, AreKept, blank_work, totals_of_work, grown, is_first_on, noted}
 use Rattle.register_tables.specs.Counting.{is_first}
 use Rattle.register_tables.proofs.Firsts.{as_many}
 
@@ -54,7 +54,7 @@ firsts-more w entries e =
 
 -- an entry that is not accepted changes nothing of a work
 untouched : (w : ℕ) (entries : List EntryValue) (e : EntryValue) → rows_of_entry e.call e.reply ≡ [] → is_first_on w e ≡ false
-    → gathered_of w (entries ++ e ∷ []) ≡ gathered_of w entries
+    → totals_of_work w (entries ++ e ∷ []) ≡ totals_of_work w entries
 untouched w entries e none off = rw (rows_of-more entries e, none, append-nil (rows_of entries), firsts-more w entries e, off, add-zero (count_by (is_first_on w) entries)) refl
 
 and_not : (b : Bool) → (b && false) ≡ false
@@ -66,7 +66,7 @@ not_accepted w e none = rw none (and_not (is_on w (work_in e.reply)))
 
 -- nor does one on another work
 elsewhere : (k : ℕ) (entries : List EntryValue) (session : ℕ) (call : CallValue) (w v : ℕ) → (w == k) ≡ false
-    → gathered_of k (entries ++ entry_of session call (Accepted w v) ∷ []) ≡ gathered_of k entries
+    → totals_of_work k (entries ++ entry_of session call (Accepted w v) ∷ []) ≡ totals_of_work k entries
 elsewhere k entries session call w v other =
     let e : EntryValue = entry_of session call (Accepted w v) in
     rw (rows_of-more entries e, iswc_of-more k (rows_of entries) (row_of call w), firsts-more k entries e, other, add-zero (count_by (is_first_on k) entries)) refl
@@ -77,7 +77,7 @@ most n few false = sym (add-zero n)
 
 -- one on it is noted
 there : (k : ℕ) (entries : List EntryValue) (session : ℕ) (call : CallValue) (w v : ℕ) → (w == k) ≡ true → length entries < 2 ^ 64 - 1
-    → grown (gathered_of k entries) call.iswc v ≡ gathered_of k (entries ++ entry_of session call (Accepted w v) ∷ [])
+    → grown (totals_of_work k entries) call.iswc v ≡ totals_of_work k (entries ++ entry_of session call (Accepted w v) ∷ [])
 there k entries session call w v same few =
     let e : EntryValue = entry_of session call (Accepted w v) in
     let count : ℕ = count_by (is_first_on k) entries in
@@ -86,11 +86,11 @@ there k entries session call w v same few =
     rw (rows_of-more entries e, iswc_of-more k (rows_of entries) (row_of call w), firsts-more k entries e, same, most count small (v == 1)) refl
 
 -- what is noted at a place
-pub noted_at : (works : List KeptWork) (iswc : Option ℕ) (w v k : ℕ) (d : KeptWork) → k < length works
+pub noted_at : (works : List WorkTotals) (iswc : Option ℕ) (w v k : ℕ) (d : WorkTotals) → k < length works
     → get_or (noted works iswc (Accepted w v)) k d ≡ (if w == k + 1 then grown (get_or works k blank_work) iswc v else get_or works k d)
 noted_at works iswc w v k d lt = by (nat_lt 0 w && nat_le w (length works)) refl (w == k + 1) refl
   where
-    x : KeptWork
+    x : WorkTotals
     x = grown (get_or works (w - 1) blank_work) iswc v
 
     by : (guard : Bool) → (nat_lt 0 w && nat_le w (length works)) ≡ guard → (same : Bool) → (w == k + 1) ≡ same
@@ -105,7 +105,7 @@ noted_at works iswc w v k d lt = by (nat_lt 0 w && nat_le w (length works)) refl
     by false g true s = absurd (grind (arith, common_steps))
     by false g false s = refl
 
-length_noted : (works : List KeptWork) (iswc : Option ℕ) (reply : Reply) → length (noted works iswc reply) ≡ length works
+length_noted : (works : List WorkTotals) (iswc : Option ℕ) (reply : Reply) → length (noted works iswc reply) ≡ length works
 length_noted works iswc (Accepted w v) = by (nat_lt 0 w && nat_le w (length works))
   where
     by : (guard : Bool) → length (if guard then set works (w - 1) (grown (get_or works (w - 1) blank_work) iswc v) else works) ≡ length works
@@ -120,11 +120,11 @@ newer_code None older p q = q
 newer_code (Some i) older p q = p
 
 -- the works are gathered with one entry more
-pub gathered_more : (n : ℕ) (entries : List EntryValue) (works : List KeptWork) (e : EntryValue) → length entries < 2 ^ 64 - 1 → IsTrue (is_iswc e.call.iswc)
-    → AreGathered n entries works → AreGathered n (entries ++ e ∷ []) (noted works e.call.iswc e.reply)
+pub gathered_more : (n : ℕ) (entries : List EntryValue) (works : List WorkTotals) (e : EntryValue) → length entries < 2 ^ 64 - 1 → IsTrue (is_iswc e.call.iswc)
+    → AreTotals n entries works → AreTotals n (entries ++ e ∷ []) (noted works e.call.iswc e.reply)
 gathered_more n entries works e few code gathered = more e.session e.call e.reply code
   where
-    still : (session : ℕ) (call : CallValue) (reply : Reply) → rows_of_entry call reply ≡ [] → is_first reply ≡ false → AreGathered n (entries ++ entry_of session call reply ∷ []) works
+    still : (session : ℕ) (call : CallValue) (reply : Reply) → rows_of_entry call reply ≡ [] → is_first reply ≡ false → AreTotals n (entries ++ entry_of session call reply ∷ []) works
     still session call reply none later =
         let e' : EntryValue = entry_of session call reply in
         record {
@@ -133,7 +133,7 @@ gathered_more n entries works e few code gathered = more e.session e.call e.repl
           codes = gathered.codes;
         }
 
-    more : (session : ℕ) (call : CallValue) (reply : Reply) → IsTrue (is_iswc call.iswc) → AreGathered n (entries ++ entry_of session call reply ∷ []) (noted works call.iswc reply)
+    more : (session : ℕ) (call : CallValue) (reply : Reply) → IsTrue (is_iswc call.iswc) → AreTotals n (entries ++ entry_of session call reply ∷ []) (noted works call.iswc reply)
     more session call (Accepted w v) c =
         let size : length (noted works call.iswc (Accepted w v)) ≡ length works = length_noted works call.iswc (Accepted w v) in
         record {
@@ -142,12 +142,12 @@ gathered_more n entries works e few code gathered = more e.session e.call e.repl
           codes = λ k d lt. rw (noted_at works call.iswc w v k d (rw size at lt)) (spelled k d (rw size at lt) (w == k + 1));
         }
       where
-        value : (k : ℕ) (d : KeptWork) → k < length works → (same : Bool) → (w == k + 1) ≡ same
-            → (if same then grown (get_or works k blank_work) call.iswc v else get_or works k d) ≡ gathered_of (k + 1) (entries ++ entry_of session call (Accepted w v) ∷ [])
+        value : (k : ℕ) (d : WorkTotals) → k < length works → (same : Bool) → (w == k + 1) ≡ same
+            → (if same then grown (get_or works k blank_work) call.iswc v else get_or works k d) ≡ totals_of_work (k + 1) (entries ++ entry_of session call (Accepted w v) ∷ [])
         value k d lt true s = rw (gathered.each k blank_work lt) (there (k + 1) entries session call w v s few)
         value k d lt false s = gathered.each k d lt ∙ sym (elsewhere (k + 1) entries session call w v s)
 
-        spelled : (k : ℕ) (d : KeptWork) → k < length works → (same : Bool) → IsTrue (is_iswc (if same then grown (get_or works k blank_work) call.iswc v else get_or works k d).iswc)
+        spelled : (k : ℕ) (d : WorkTotals) → k < length works → (same : Bool) → IsTrue (is_iswc (if same then grown (get_or works k blank_work) call.iswc v else get_or works k d).iswc)
         spelled k d lt true = newer_code call.iswc (get_or works k blank_work).iswc c (gathered.codes k blank_work lt)
         spelled k d lt false = gathered.codes k d lt
     more session call (Duplicate w) c = still session call (Duplicate w) refl refl
@@ -155,7 +155,7 @@ gathered_more n entries works e few code gathered = more e.session e.call e.repl
     more session call Rejected c = still session call Rejected refl refl
 
 -- what is gathered of a history is what its rows say
-pub kept_all : (n : ℕ) (history : List EntryValue) (works : List KeptWork) → IsHistory history → AreGathered n history works → AreKept (rows_of history) n history works
+pub kept_all : (n : ℕ) (history : List EntryValue) (works : List WorkTotals) → IsHistory history → AreTotals n history works → AreKept (rows_of history) n history works
 kept_all n history works is gathered = record {
   size = gathered.size;
   each = λ w d lt. gathered.each w d lt ∙ ap (λ (claims : ℕ). record { iswc = iswc_of (w + 1) (rows_of history); claims = claims }) (sym (as_many history is (is_on (w + 1))));

@@ -1,4 +1,4 @@
--- What the code counts, one more at a time. A count stays at the greatest that it can be.
+-- What the code counts, one more at a time. A count stays at its greatest value, 2 ^ 64 - 1.
 use Rattle.std.specs.Prelude.{◌≡◌, ℕ, ◌+◌, ◌-◌, ◌^◌, ◌<◌, ◌==◌, Bool, true, false, List, if◌then◌else◌, Some, length, min, nat_le, nat_lt, ◌&&◌, slice_index_or, slice_set}
 use Rattle.cwr_record.specs.declared.status.Status.{Status}
 use Rattle.cwr_record.specs.declared.status.Status.TheVariants as status
@@ -10,18 +10,18 @@ use Rattle.register_tables.specs.declared.shares.Bands.{Bands}
 use Rattle.register_tables.specs.Wanted.{fits_status}
 use Rattle.register_tables.specs.Summary.{count, is_all, is_answered, is_conflict_on, is_half, is_more, is_none, is_quarter}
 
--- one more, or as many
+-- one more where there is one more, and else the same; a count at its greatest value stays
 abbrev pub counted : ℕ → Bool → ℕ
 counted n more = if more then min (n + 1) (2 ^ 64 - 1) else n
 
--- it is the first version of a claim
+-- the reply accepts the first version of a claim
 abbrev pub is_first : Reply → Bool
 is_first (Accepted work version) = version == 1
 is_first (Duplicate work) = false
 is_first (Conflict work) = false
 is_first Rejected = false
 
--- one entry more, with this status, which is a first version or not
+-- the counts of entries with one entry more, which has this status, and is a first version or not
 abbrev pub tallied : Tally → Status → Bool → Tally
 tallied tally answer first = record {
   accepted = counted tally.accepted (fits_status (Some status.Accepted) answer);
@@ -31,7 +31,7 @@ tallied tally answer first = record {
   current = counted tally.current first;
 }
 
--- these entries, by status and by how many are first versions
+-- the counts of these entries: by status, and the number of first versions, which is that of the claims in force
 abbrev pub tallied_all : List EntryValue → Tally
 tallied_all entries = record {
   accepted = count (is_answered status.Accepted) entries;
@@ -41,7 +41,7 @@ tallied_all entries = record {
   current = count (λ e. is_first e.reply) entries;
 }
 
--- one work more, of which so much is left
+-- the counts of works with one work more, of which this share of a right is left
 abbrev pub banded : Bands → ℕ → Bands
 banded bands left = record {
   none = counted bands.none (is_none left);
@@ -51,7 +51,7 @@ banded bands left = record {
   all = counted bands.all (is_all left);
 }
 
--- the conflicts on each work, with one entry more
+-- the conflicts on each work, with one entry more; work 1 stands at index 0
 abbrev pub conflict_noted : List ℕ → Reply → List ℕ
 conflict_noted counts (Accepted work version) = counts
 conflict_noted counts (Duplicate work) = counts
@@ -59,7 +59,7 @@ conflict_noted counts (Conflict work) =
     if nat_lt 0 work && nat_le work (length counts) then slice_set counts (work - 1) (counted (slice_index_or counts (work - 1) 0) true) else counts
 conflict_noted counts Rejected = counts
 
--- the conflicts on each work are those of these entries
+-- the counts are the conflicts on each work in these entries
 pub record AreCounted (works : ℕ) (entries : List EntryValue) (counts : List ℕ) : Type 0 where
   pub size : length counts ≡ works
   pub each : (w d : ℕ) → w < length counts → slice_index_or counts w d ≡ count (λ e. is_conflict_on (w + 1) e.reply) entries

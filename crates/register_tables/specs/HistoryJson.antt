@@ -1,4 +1,4 @@
--- The history as objects of JSON, one a line.
+-- The history as JSON objects, one per line.
 use Rattle.std.specs.Prelude.{ℕ, List, [], ◌∷◌, ◌++◌, map, codes, slice_index, Option, Some, None}
 use Rattle.std.specs.Fmt.{decimal}
 use Rattle.cwr_call.specs.declared.transaction_fault.Fault.{Fault}
@@ -8,28 +8,30 @@ use Rattle.serde_json.specs.Data.{Data, null, array, object, no_members, put}
 use Rattle.serde_json.specs.View.{items_of}
 use Rattle.work_registry.specs.declared.reply.Reply.{Reply}
 use Rattle.work_registry.specs.EntryValue.{EntryValue}
-use Rattle.work_registry.specs.Told.{status_in, work_in, version_in}
+use Rattle.work_registry.specs.ReplyParts.{status_in, work_in, version_in}
 use Rattle.register_tables.specs.declared.wanted.Wanted.{Wanted}
 use Rattle.register_tables.specs.HistoryTable.{entry_rows}
 use Rattle.register_tables.specs.JsonValues.{text_data, count_data, option_data, json_line}
 
--- a fault by the type of the faulty record, the rule, and the record's sequence
+-- the object of a fault: the type of the faulty record, the rule, and the record's sequence
 abbrev pub named_data : List ℕ → List ℕ → ℕ → Data
 named_data rtype rule sequence =
     object (put (codes "record") (text_data rtype) (put (codes "rule") (text_data rule) (put (codes "sequence") (count_data sequence) no_members)))
 
+-- the object of a fault of a transaction; its rule is J and the number
 abbrev pub fault_data : Fault → Data
 fault_data fault = named_data fault.rtype (codes "J" ++ decimal fault.number) fault.sequence
 
+-- an array of faults, in order
 abbrev pub faults_data : List Fault → Data
 faults_data faults = array (items_of (map fault_data faults))
 
--- an ISWC, or null
+-- an ISWC, and null for `None`
 abbrev pub iswc_data : Option ℕ → Data
 iswc_data None = null
 iswc_data (Some n) = text_data (iswc_text n)
 
--- the entry with this index: its call, and what was replied
+-- the object of the entry with this index, from 1: its call, and the reply
 abbrev pub entry_data : ℕ → EntryValue → Data
 entry_data index e =
     object (put (codes "entry") (count_data index)
@@ -46,16 +48,17 @@ entry_data index e =
     (put (codes "version") (option_data (version_in e.reply))
     (put (codes "work") (option_data (work_in e.reply)) no_members)))))))))))))
 
+-- the entry with this index as one line of JSON
 abbrev pub entry_json : ℕ → EntryValue → List ℕ
 entry_json index e = json_line (entry_data index e)
 
--- a line for each entry that is wanted, in order
+-- a line for each entry that is wanted, in the order of the history
 abbrev pub history_json : Wanted → List EntryValue → List ℕ
 history_json wanted history = entry_rows entry_json wanted 1 history
 
--- What is written of an entry behind its faults: its ISWC, what is told between that and its version, and what was replied.
-abbrev pub told_members : EntryValue → List (List ℕ × Data)
-told_members e =
+-- what the object of an entry has between its ISWC and its version, in the order in which it is written
+abbrev pub middle_members : EntryValue → List (List ℕ × Data)
+middle_members e =
     (codes "kind", text_data (work_kind_code e.call.kind))
     ∷ (codes "mechanical_control", count_data (slice_index e.call.control 1))
     ∷ (codes "number", text_data e.call.number)
@@ -66,8 +69,10 @@ told_members e =
     ∷ (codes "title", text_data e.call.title)
     ∷ []
 
+-- the version and the work of a reply; null where there is none
 abbrev pub reply_members : Reply → List (List ℕ × Data)
 reply_members reply = (codes "version", option_data (version_in reply)) ∷ (codes "work", option_data (work_in reply)) ∷ []
 
+-- what the object of an entry has behind its faults, in the order in which it is written
 abbrev pub other_members : EntryValue → List (List ℕ × Data)
-other_members e = (codes "iswc", iswc_data e.call.iswc) ∷ (told_members e ++ reply_members e.reply)
+other_members e = (codes "iswc", iswc_data e.call.iswc) ∷ (middle_members e ++ reply_members e.reply)

@@ -9,23 +9,25 @@ use Rattle.serde_json.specs.Written.{compact_text, outline}
 use Rattle.register_tables.specs.declared.json_values.Shown.{Shown}
 use Rattle.register_tables.specs.declared.json_values.Shown.TheVariants as shown
 
--- bytes as a text: each byte is the character with its number
+-- bytes as a JSON string: each byte is the character with its number
 abbrev pub text_data : List ℕ → Data
 text_data bytes = string (encode_utf8_all bytes)
 
+-- a number as a JSON value
 abbrev pub count_data : ℕ → Data
 count_data n = number (unsigned n)
 
--- a number, or null
+-- a number, and null for `None`
 abbrev pub option_data : Option ℕ → Data
 option_data None = null
 option_data (Some n) = count_data n
 
--- an object of these members
+-- the members of an object, in this order
 abbrev pub members_of : List (List ℕ × Data) → Members
 members_of [] = no_members
 members_of (m ∷ ms) = member m.0 m.1 (members_of ms)
 
+-- an object with these members
 abbrev pub object_data : List (List ℕ × Data) → Data
 object_data ms = object (members_of ms)
 
@@ -35,6 +37,7 @@ json_line value = compact_text value ++ 10 ∷ []
 
 -- What is written of a value.
 
+-- the JSON value of what is to be written
 abbrev pub shown_data : Shown → Data
 shown_data shown.Null = null
 shown_data (shown.Number n) = count_data n
@@ -48,7 +51,7 @@ value_tokens value = json_tokens (outline value)
 abbrev pub member_tokens : List ℕ × Data → List Token
 member_tokens m = key m.0 ∷ value_tokens m.1
 
--- these tokens are written behind what was
+-- these tokens are written behind those that were there
 pub record Adds (old new : Written) (added : List Token) : Type 0 where
   pub tokens : new.tokens ≡ old.tokens ++ added
   pub before : new.before ≡ old.before

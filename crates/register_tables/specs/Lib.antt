@@ -5,7 +5,7 @@ pub mod RowTexts
 pub mod ClaimsTable
 pub mod HistoryTable
 pub mod WorksTable
-pub mod Gathered
+pub mod WorkTotals
 pub mod Summary
 pub mod Counting
 pub mod JsonValues

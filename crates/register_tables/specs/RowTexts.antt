@@ -1,4 +1,4 @@
--- What is put together for a row.
+-- The texts that are put together for a row.
 use Rattle.std.specs.Prelude.{◌≡◌, ℕ, List, slice_index}
 use Rattle.cwr_call.specs.CallValue.{CallValue}
 use Rattle.register_tables.specs.declared.form.Form.{Form}
@@ -6,13 +6,13 @@ use Rattle.register_tables.specs.declared.texts.Texts.{Texts}
 use Rattle.register_tables.specs.CsvRows.{iswc_field}
 use Rattle.register_tables.specs.Fields.{share_field, text_field}
 
--- the fields of this control
+-- the texts for the control columns are those of this control
 pub record HasControl {A : Type 0} (form : Form) (control : List ℕ) (t : Texts A) : Type 0 where
   pub performing : t.performing.items ≡ share_field form (slice_index control 0)
   pub mechanical : t.mechanical.items ≡ share_field form (slice_index control 1)
   pub synchronization : t.synchronization.items ≡ share_field form (slice_index control 2)
 
--- the fields of this call, but its faults
+-- the texts are those of this call, without its faults
 pub record HasCall {A : Type 0} (form : Form) (call : CallValue) (t : Texts A) : Type 0 where
   pub submitter : t.submitter.items ≡ text_field form call.submitter
   pub number : t.number.items ≡ text_field form call.number

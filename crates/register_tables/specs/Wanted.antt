@@ -4,26 +4,26 @@ use Rattle.std.specs.Str.{bytes_eq}
 use Rattle.cwr_record.specs.Kinds.{status_text}
 use Rattle.cwr_record.specs.declared.status.Status.{Status}
 use Rattle.work_registry.specs.EntryValue.{EntryValue}
-use Rattle.work_registry.specs.Told.{status_in, work_in}
+use Rattle.work_registry.specs.ReplyParts.{status_in, work_in}
 use Rattle.register_tables.specs.declared.wanted.Wanted.{Wanted}
 
--- any number, or this one
+-- no number is asked for, or it is this one
 abbrev pub fits_number : Option ℕ → Option ℕ → Bool
 fits_number None given = true
 fits_number (Some n) None = false
 fits_number (Some n) (Some m) = m == n
 
--- any text, or this one
+-- no text is asked for, or it is this one
 abbrev pub fits_text : Option (List ℕ) → List ℕ → Bool
 fits_text None given = true
 fits_text (Some text) given = bytes_eq given text
 
--- any status, or this one
+-- no status is asked for, or it is this one
 abbrev pub fits_status : Option Status → Status → Bool
 fits_status None given = true
 fits_status (Some status) given = bytes_eq (status_text given) (status_text status)
 
--- an entry that fits in all that is asked for: the work that its reply names, the submitter and the submitter's number of
+-- the entry fits in all that is asked for: the work that its reply names, the submitter and the submitter's number of
 -- its call, and its status
 abbrev pub is_wanted : Wanted → EntryValue → Bool
 is_wanted wanted e =

@@ -5,37 +5,39 @@ use Rattle.std.specs.Fmt.{decimal}
 use Rattle.work_registry.specs.EntryValue.{EntryValue}
 use Rattle.work_registry.specs.Rows.{Row, rows_of}
 use Rattle.work_registry.specs.Works.{control_of, iswc_of}
-use Rattle.work_registry.specs.Told.{work_in}
+use Rattle.work_registry.specs.ReplyParts.{work_in}
 use Rattle.register_tables.specs.declared.form.Form.{Form}
 use Rattle.register_tables.specs.declared.wanted.Wanted.{Wanted}
-use Rattle.register_tables.specs.declared.works.KeptWork.{KeptWork}
+use Rattle.register_tables.specs.declared.works.WorkTotals.{WorkTotals}
 use Rattle.register_tables.specs.CsvRows.{csv_line, iswc_field}
 use Rattle.register_tables.specs.Fields.{share_field, performing_name, mechanical_name, synchronization_name}
 use Rattle.register_tables.specs.Wanted.{fits_number}
 use Rattle.register_tables.specs.ClaimsTable.{is_current}
 
--- the greatest of a number and of the works of rows
+-- the greatest of a number and of the numbers of works in the rows
 abbrev pub greatest : ℕ → List Row → ℕ
 greatest found [] = found
 greatest found (r ∷ rs) = greatest (max found r.work) rs
 
--- The greatest number that was given to a work. Works are numbered from 1, in the order in which they were first accepted,
--- so there are as many.
+-- The greatest number that was given to a work, 0 where there is none. Works are numbered from 1, in the order in
+-- which they were first accepted, so there are as many.
 abbrev pub last_work : List Row → ℕ
 last_work rows = greatest 0 rows
 
+-- there is a work, and it is this one
 abbrev pub is_on : ℕ → Option ℕ → Bool
 is_on work None = false
 is_on work (Some n) = n == work
 
--- a current claim on a work
+-- the entry made a claim in force on the work
 abbrev pub is_claim_on : List Row → ℕ → EntryValue → Bool
 is_claim_on rows work e = is_on work (work_in e.reply) && is_current rows e
 
--- of a work: its ISWC, and how many of these entries are current claims on it
-abbrev pub kept_of : List Row → ℕ → List EntryValue → KeptWork
+-- of a work: its ISWC, and the number of these entries that made claims in force on it
+abbrev pub kept_of : List Row → ℕ → List EntryValue → WorkTotals
 kept_of rows work entries = record { iswc = iswc_of work (rows_of entries); claims = count_by (is_claim_on rows work) entries }
 
+-- the names of the columns
 abbrev pub works_header : Form → List (List ℕ)
 works_header form =
     codes "work"
@@ -46,8 +48,8 @@ works_header form =
     ∷ codes "claims"
     ∷ []
 
--- a work: its number, its ISWC, its control of the three rights, and how many current claims there are on it
-abbrev pub work_fields : Form → ℕ → KeptWork → List ℕ → List (List ℕ)
+-- the fields of a work: its number, its ISWC, its control of the three rights, and the number of claims in force on it
+abbrev pub work_fields : Form → ℕ → WorkTotals → List ℕ → List (List ℕ)
 work_fields form work kept control =
     decimal work
     ∷ iswc_field kept.iswc
@@ -57,9 +59,11 @@ work_fields form work kept control =
     ∷ decimal kept.claims
     ∷ []
 
+-- the CSV line of a work
 abbrev pub work_line : Form → List EntryValue → ℕ → List ℕ
 work_line form history work = csv_line (work_fields form work (kept_of (rows_of history) work history) (control_of work (rows_of history)))
 
+-- no work is asked for, or it is this one
 abbrev pub is_wanted_work : Wanted → ℕ → Bool
 is_wanted_work wanted work = fits_number wanted.work (Some work)
 
@@ -68,10 +72,10 @@ abbrev pub work_lines : Form → Wanted → List EntryValue → List ℕ
 work_lines form wanted history =
     flat_map (work_line form history) (filter (is_wanted_work wanted) (range_with_len 1 (last_work (rows_of history))))
 
--- a header line, and these lines
+-- the table of the works: a header line, and a line for each work that is wanted
 abbrev pub works_text : Form → Wanted → List EntryValue → List ℕ
 works_text form wanted history = csv_line (works_header form) ++ work_lines form wanted history
 
--- the line of a work, where it is wanted
-abbrev pub wanted_line : Form → Wanted → ℕ → KeptWork → List ℕ → List ℕ
+-- the line of a work, and nothing where the work is not wanted
+abbrev pub wanted_line : Form → Wanted → ℕ → WorkTotals → List ℕ → List ℕ
 wanted_line form wanted work kept control = if is_wanted_work wanted work then csv_line (work_fields form work kept control) else []

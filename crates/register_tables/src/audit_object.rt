@@ -1,4 +1,4 @@
-//! What an audit found, as an object of JSON.
+//! What an audit found, as a JSON object.
 
 ghost use Rattle.std.specs.Prelude.{◌≡◌, IfOk, OnOk};
 ghost use Rattle.register_tables.specs.declared.audit_object.Audited.TheVariants as found;
@@ -13,7 +13,7 @@ use std::alloc::Allocator;
 /// What an audit of a register found.
 #[derive(Clone, Copy, Debug, PartialEq, Eq)]
 pub enum Audited {
-    /// So many entries, of one registry.
+    /// The number of entries, all of one registry.
     Entries(u64),
     /// Its first fault.
     Fault {
@@ -24,10 +24,10 @@ pub enum Audited {
     },
 }
 
-/// What an audit found as an object of JSON, and LF.
+/// What an audit found as a JSON object, and LF.
 ///
-/// Its members are `entries`, how many there are, or null; and `fault`, null or an object with `line`, counted from 1, and
-/// `rule`, as `G3`.
+/// Its members are `entries`, the number of entries, or null; and `fault`, null or an object with `line`, counted from
+/// 1, and `rule`, as `G3`.
 pub fn audit_json<A: Allocator + Copy + Drop>(
     alloc: A,
     audited: Audited,
@@ -35,23 +35,30 @@ pub fn audit_json<A: Allocator + Copy + Drop>(
     ensures { IfOk result (λ text. text.items ≡ audit_json audited) }
 {
     let mut out = Writer::new(Vec::new(alloc));
-    let mut room = String::new(alloc);
+    let mut buffer = String::new(alloc);
     match audited {
         Audited::Entries(entries) => put_object(
             &mut out,
-            &mut room,
+            &mut buffer,
             &[("entries", Shown::Number(entries)), ("fault", Shown::Null)],
         )?,
-        Audited::Fault { number, line } => put_fault(alloc, &mut out, &mut room, number, line)?,
+        Audited::Fault { number, line } => put_faulty_audit(
+            alloc,
+            &mut out,
+            &mut buffer,
+            number,
+            line,
+        )?,
     }
     line_of(out)
 }
 
-/// Writes a fault.
-fn put_fault<A: Allocator + Copy + Drop>(
+/// Writes the object of an audit that found a fault to `out`: `entries` is null. `alloc` allocates, and `buffer` is a
+/// scratch buffer for texts. `number` is the fault's number, 1 for G1, and `line` its line, from 1.
+fn put_faulty_audit<A: Allocator + Copy + Drop>(
     alloc: A,
     out: &mut Writer<A>,
-    room: &mut String<A>,
+    buffer: &mut String<A>,
     number: u8,
     line: u64,
 ) -> Result<(), Memory>
@@ -60,17 +67,18 @@ fn put_fault<A: Allocator + Copy + Drop>(
     let mut rule = Vec::new(alloc);
     set_rule(&mut rule, b'G', number)?;
     out.begin_object()?;
-    put_members(out, room, &[("entries", Shown::Null)])?;
+    put_members(out, buffer, &[("entries", Shown::Null)])?;
     out.key("fault")?;
-    put_place(out, room, line, &rule)?;
+    put_fault_object(out, buffer, line, &rule)?;
     out.end_object()?;
     Ok(())
 }
 
-/// Writes the line and the rule of a fault.
-fn put_place<A: Allocator + Copy + Drop>(
+/// Writes the value of the member `fault` to `out`: an object with `line`, from 1, and `rule`, the name of the fault, as
+/// `G3`. `buffer` is a scratch buffer for texts.
+fn put_fault_object<A: Allocator + Copy + Drop>(
     out: &mut Writer<A>,
-    room: &mut String<A>,
+    buffer: &mut String<A>,
     line: u64,
     rule: &[u8],
 ) -> Result<(), Memory>
@@ -78,7 +86,7 @@ fn put_place<A: Allocator + Copy + Drop>(
 {
     put_object(
         out,
-        room,
+        buffer,
         &[("line", Shown::Number(line)), ("rule", Shown::Text(rule))],
     )
 }

@@ -13,7 +13,7 @@ ghost use Rattle.register_tables.specs.ClaimsTable.{is_current, is_version_of, c
 ghost use Rattle.register_tables.specs.Summary.{count};
 
 use crate::form::{Form, mechanical_name, performing_name, synchronization_name};
-use crate::rows::{Told, Unwritten, ended, number_field, put_row, rows_to};
+use crate::rows::{TableError, WrittenTable, ended, number_field, put_row, rows_to};
 use crate::texts::Texts;
 use crate::wanted::{Wanted, is_wanted};
 use csv::Writer;
@@ -22,19 +22,22 @@ use std::alloc::Allocator;
 use std::io::Write;
 use work_registry::{Book, Call, Entry};
 
-/// Writes the current claims of a book that are wanted, in the order of their entries, and gives back what it wrote to.
+/// Writes the current claims of a book that are wanted, in the order of their entries, and returns `to` and the number
+/// of rows.
 ///
-/// A header line comes first. A claim is a line of its submitter (sender type and sender id of HDR), the submitter work number,
-/// the registry's number of the work, the version, the work title, the ISWC of the transaction or nothing, and the control of the
-/// performing, the mechanical and the synchronization right. [`Form`] says how texts and shares stand there. A line ends
-/// with LF.
+/// A header line comes first. A claim is a line with: its submitter (sender type and sender id of HDR), the submitter
+/// work number, the registry's number of the work, the version, the work title, the ISWC of the transaction or nothing,
+/// and the control of the performing, the mechanical and the synchronization right. A line ends with LF.
+///
+/// `alloc` allocates, and `to` is written to. `book` has the claims, `wanted` selects among them, and `form` says how
+/// texts and shares stand in a row.
 pub fn claims_table<W: Write + Drop, A: Allocator + Copy + Drop>(
     alloc: A,
     to: W,
     book: &Book<A>,
     wanted: &Wanted,
     form: Form,
-) -> Result<Told<W>, Unwritten>
+) -> Result<WrittenTable<W>, TableError>
     ensures text { IfOk result (λ told. Appends (W.contents to) (W.contents told.to) (claims_text form wanted.now book.now.history)) }
     ensures rows { IfOk result (λ told. told.rows ≡ count (is_listed wanted.now (rows_of book.now.history)) book.now.history) }
 {
@@ -56,27 +59,29 @@ pub fn claims_table<W: Write + Drop, A: Allocator + Copy + Drop>(
     ended(out, rows)
 }
 
-/// Writes the current claims of a book that are wanted, as the register has them: [`claims_table`] in the form [`Form::Exact`].
+/// Writes the current claims of a book that are wanted, as the register has them: [`claims_table`] in the form
+/// [`Form::Exact`].
 pub fn claims_text<W: Write + Drop, A: Allocator + Copy + Drop>(
     alloc: A,
     to: W,
     book: &Book<A>,
     wanted: &Wanted,
-) -> Result<W, Unwritten>
+) -> Result<W, TableError>
     ensures { IfOk result (λ told. Appends (W.contents to) (W.contents told) (claims_text Exact wanted.now book.now.history)) }
 {
-    let Told { to, rows: _ } = claims_table(alloc, to, book, wanted, Form::Exact)?;
+    let WrittenTable { to, rows: _ } = claims_table(alloc, to, book, wanted, Form::Exact)?;
     Ok(to)
 }
 
-/// Writes the claims that are wanted, and tells how many there are.
+/// Writes the claims that are wanted, and returns their number. `alloc` allocates, and `out` is written to. `book` has
+/// the claims, `wanted` selects among them, and `form` is that of their fields.
 fn put_claims<W: Write + Drop, A: Allocator + Copy + Drop>(
     alloc: A,
     out: &mut Writer<W>,
     book: &Book<A>,
     wanted: &Wanted,
     form: Form,
-) -> Result<u64, Unwritten>
+) -> Result<u64, TableError>
     requires { IsAtRow out.old }
     ensures ready { OnOk result (IsAtRow out.new) }
     ensures text { OnOk result (Appends (text_written W.contents out.old) (text_written W.contents out.new) (flat_map (claim_line form) (filter (is_listed wanted.now (rows_of book.now.history)) book.now.history))) }
@@ -91,7 +96,9 @@ fn put_claims<W: Write + Drop, A: Allocator + Copy + Drop>(
     Ok(rows)
 }
 
-/// Writes the claim that an entry made, where it is in force and wanted, and tells how many rows that is.
+/// Writes the claim that an entry made, if it is in force and wanted, and returns the number of rows written, 0 or 1.
+/// `out` is written to, and `entry` is one of `book`. `wanted` selects claims, `form` is that of the fields, and
+/// `texts` has buffers for them.
 #[tactic(auto, using(crate::proofs::Steps::nothing))]
 fn put_listed<W: Write + Drop, A: Allocator + Copy + Drop>(
     out: &mut Writer<W>,
@@ -100,7 +107,7 @@ fn put_listed<W: Write + Drop, A: Allocator + Copy + Drop>(
     wanted: &Wanted,
     form: Form,
     texts: &mut Texts<A>,
-) -> Result<u64, Unwritten>
+) -> Result<u64, TableError>
     requires { IsAtRow out.old }
     ensures ready { OnOk result (IsAtRow out.new) }
     ensures text { OnOk result (Appends (text_written W.contents out.old) (text_written W.contents out.new) (if is_listed wanted.now (rows_of book.now.history) entry.now then claim_line form entry.now else [])) }
@@ -134,13 +141,13 @@ fn is_in_force<A: Allocator + Copy + Drop>(book: &Book<A>, call: &Call<A>, versi
     }
 }
 
-/// Writes the claim that an entry made, with the fields that are put together in this form.
+/// Writes the claim that an entry made. `texts` has the fields that were put together in this form.
 fn put_claim<W: Write + Drop, A: Allocator + Copy + Drop>(
     out: &mut Writer<W>,
     entry: &Entry<A>,
     form: Form,
     texts: &Texts<A>,
-) -> Result<(), Unwritten>
+) -> Result<(), TableError>
     requires ready { IsAtRow out.old }
     requires call { HasCall form entry.now.call texts.now }
     ensures ready { OnOk result (IsAtRow out.new) }

@@ -17,7 +17,8 @@ pub(crate) struct Conflicted {
     pub(crate) conflicts: u64,
 }
 
-/// The ten works with the most conflicts, those with the most first, and of as many the lower number first.
+/// The ten works with the most conflicts. Those with the most come first; of works with equally many, the lower number
+/// comes first.
 pub(crate) fn largest<A: Allocator + Copy + Drop>(
     alloc: A,
     book: &Book<A>,
@@ -38,7 +39,7 @@ pub(crate) fn largest<A: Allocator + Copy + Drop>(
     Ok(top)
 }
 
-/// How many conflicts there are on each work up to the last.
+/// The number of conflicts on each work up to the last.
 fn conflicts_by_work<A: Allocator + Copy + Drop>(
     alloc: A,
     entries: &[Entry<A>],
@@ -54,7 +55,7 @@ fn conflicts_by_work<A: Allocator + Copy + Drop>(
     Ok(counts)
 }
 
-/// So many works without conflicts.
+/// A count of zero for each work up to `last`.
 fn no_conflicts<A: Allocator + Copy + Drop>(alloc: A, last: u32) -> Result<Vec<u64, A>, AllocError>
     ensures { IfOk result (λ counts. AreCounted last [] counts.items) }
 {
@@ -115,7 +116,7 @@ fn place_of(top: &[Conflicted], one: Conflicted) -> usize
     top.len()
 }
 
-/// Whether the first has more conflicts, or as many and the lower number.
+/// Whether `one` has more conflicts than the other, or equally many and the lower number.
 fn is_ahead(one: Conflicted, other: Conflicted) -> bool
     ensures { result ≡ is_ahead one other }
 {

@@ -12,9 +12,9 @@ use std::alloc::Allocator;
 pub enum Form {
     /// As the register has them: texts with the blanks behind them, shares in hundredths of one per cent.
     Exact,
-    /// For spreadsheets: texts without the blanks behind them, and with an apostrophe before what else were taken for a
-    /// formula (it begins with `=`, `+`, `-`, `@`, TAB or CR); shares in per cent, with two places. The columns of control
-    /// are named so.
+    /// For spreadsheets. Texts have no blanks behind them, and an apostrophe before them if they would be taken for a
+    /// formula (they begin with `=`, `+`, `-`, `@`, TAB or CR). Shares are in per cent, with two places, and the
+    /// columns of control are named so.
     Plain,
 }
 
@@ -64,7 +64,7 @@ pub(crate) fn set_text<A: Allocator + Copy + Drop>(
     Ok(())
 }
 
-/// Appends a text, with an apostrophe before it where it else were taken for a formula.
+/// Appends a text, with an apostrophe before it if it would be taken for a formula.
 fn put_guarded<A: Allocator + Copy + Drop>(
     field: &mut Vec<u8, A>,
     text: &[u8],

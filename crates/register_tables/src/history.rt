@@ -12,7 +12,7 @@ ghost use Rattle.register_tables.specs.Wanted.{is_wanted};
 ghost use Rattle.std.specs.List.{flat_map};
 
 use crate::form::{Form, mechanical_name, performing_name, synchronization_name};
-use crate::rows::{Told, Unwritten, ended, number_field, put_row, rows_to};
+use crate::rows::{TableError, WrittenTable, ended, number_field, put_row, rows_to};
 use crate::texts::Texts;
 use crate::wanted::{Wanted, is_wanted};
 use csv::Writer;
@@ -22,20 +22,23 @@ use std::alloc::Allocator;
 use std::io::Write;
 use work_registry::{Book, Entry, Fault};
 
-/// Writes the entries of a book that are wanted, in order, and gives back what it wrote to.
+/// Writes the entries of a book that are wanted, in order, and returns `to` and the number of rows.
 ///
-/// A header line comes first. An entry is a line of its index from 1, its submitter (sender type and sender id of HDR), `NWR` or
-/// `REV`, the submitter work number, the work title, the ISWC or nothing, the control of the performing, the mechanical and the
-/// synchronization right, the status `AS`, `DU`, `CO` or `RJ`, the registry's number of the work (nothing with `RJ`), the
-/// version (with `AS` alone), and the faults, each as record sequence, colon, `J` and number, with a blank between two.
-/// [`Form`] says how texts and shares stand there. A line ends with LF.
+/// A header line comes first. An entry is a line with: its index from 1, its submitter (sender type and sender id of
+/// HDR), `NWR` or `REV`, the submitter work number, the work title, the ISWC or nothing, the control of the performing,
+/// the mechanical and the synchronization right, the status `AS`, `DU`, `CO` or `RJ`, the registry's number of the work
+/// (nothing with `RJ`), the version (with `AS` alone), and the faults. A fault is a record sequence, a colon, `J` and a
+/// number; there is a blank between two. A line ends with LF.
+///
+/// `alloc` allocates, and `to` is written to. `book` has the entries, `wanted` selects among them, and `form` says how
+/// texts and shares stand in a row.
 pub fn history_table<W: Write + Drop, A: Allocator + Copy + Drop>(
     alloc: A,
     to: W,
     book: &Book<A>,
     wanted: &Wanted,
     form: Form,
-) -> Result<Told<W>, Unwritten>
+) -> Result<WrittenTable<W>, TableError>
     ensures text { IfOk result (λ told. Appends (W.contents to) (W.contents told.to) (history_text form wanted.now book.now.history)) }
     ensures rows { IfOk result (λ told. told.rows ≡ count (is_wanted wanted.now) book.now.history) }
 {
@@ -61,27 +64,29 @@ pub fn history_table<W: Write + Drop, A: Allocator + Copy + Drop>(
     ended(out, rows)
 }
 
-/// Writes the entries of a book that are wanted, as the register has them: [`history_table`] in the form [`Form::Exact`].
+/// Writes the entries of a book that are wanted, as the register has them: [`history_table`] in the form
+/// [`Form::Exact`].
 pub fn history_text<W: Write + Drop, A: Allocator + Copy + Drop>(
     alloc: A,
     to: W,
     book: &Book<A>,
     wanted: &Wanted,
-) -> Result<W, Unwritten>
+) -> Result<W, TableError>
     ensures { IfOk result (λ told. Appends (W.contents to) (W.contents told) (history_text Exact wanted.now book.now.history)) }
 {
-    let Told { to, rows: _ } = history_table(alloc, to, book, wanted, Form::Exact)?;
+    let WrittenTable { to, rows: _ } = history_table(alloc, to, book, wanted, Form::Exact)?;
     Ok(to)
 }
 
-/// Writes the entries that are wanted, and tells how many there are.
+/// Writes the entries that are wanted, and returns their number. `alloc` allocates, and `out` is written to. `wanted`
+/// selects among `entries`, and `form` is that of their fields.
 fn put_entries<W: Write + Drop, A: Allocator + Copy + Drop>(
     alloc: A,
     out: &mut Writer<W>,
     entries: &[Entry<A>],
     wanted: &Wanted,
     form: Form,
-) -> Result<u64, Unwritten>
+) -> Result<u64, TableError>
     requires { IsAtRow out.old }
     ensures ready { OnOk result (IsAtRow out.new) }
     ensures text { OnOk result (Appends (text_written W.contents out.old) (text_written W.contents out.new) (entry_rows (entry_line form) wanted.now 1 entries.now)) }
@@ -95,7 +100,9 @@ fn put_entries<W: Write + Drop, A: Allocator + Copy + Drop>(
     Ok(rows)
 }
 
-/// Writes an entry, where it is wanted, and tells how many rows that is.
+/// Writes an entry, if it is wanted, and returns the number of rows written, 0 or 1. `out` is written to, and `index`
+/// is that of `entry`, from 1. `wanted` selects entries, `form` is that of the fields, and `texts` has buffers for
+/// them.
 #[tactic(auto, using(crate::proofs::Steps::nothing))]
 fn put_wanted<W: Write + Drop, A: Allocator + Copy + Drop>(
     out: &mut Writer<W>,
@@ -104,7 +111,7 @@ fn put_wanted<W: Write + Drop, A: Allocator + Copy + Drop>(
     wanted: &Wanted,
     form: Form,
     texts: &mut Texts<A>,
-) -> Result<u64, Unwritten>
+) -> Result<u64, TableError>
     requires { IsAtRow out.old }
     ensures ready { OnOk result (IsAtRow out.new) }
     ensures text { OnOk result (Appends (text_written W.contents out.old) (text_written W.contents out.new) (entry_row (entry_line form) wanted.now index entry.now)) }
@@ -119,14 +126,15 @@ fn put_wanted<W: Write + Drop, A: Allocator + Copy + Drop>(
     Ok(0)
 }
 
-/// Writes an entry, with the fields that are put together in this form.
+/// Writes an entry to `out`. `index` is that of `entry`, from 1, and `texts` has the fields that were put together in
+/// this `form`.
 fn put_entry<W: Write + Drop, A: Allocator + Copy + Drop>(
     out: &mut Writer<W>,
     index: u64,
     entry: &Entry<A>,
     form: Form,
     texts: &Texts<A>,
-) -> Result<(), Unwritten>
+) -> Result<(), TableError>
     requires ready { IsAtRow out.old }
     requires call { HasCall form entry.now.call texts.now }
     requires faults { texts.now.faults.items ≡ faults_field entry.now.call.faults }

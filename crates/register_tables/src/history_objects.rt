@@ -1,17 +1,17 @@
-//! Every entry as an object of JSON.
+//! Every entry as a JSON object.
 
 ghost use Rattle.std.specs.Prelude.{◌≡◌, if◌then◌else◌, codes, IfOk, OnOk};
 ghost use Rattle.std.specs.List.{flat_map};
 ghost use Rattle.std.specs.Io.KnownBytes.{Appends};
 ghost use Rattle.register_tables.specs.CsvRows.{iswc_field};
-ghost use Rattle.register_tables.specs.HistoryJson.{entry_data, entry_json, fault_data, faults_data, history_json, iswc_data, named_data, other_members, reply_members, told_members};
+ghost use Rattle.register_tables.specs.HistoryJson.{entry_data, entry_json, fault_data, faults_data, history_json, iswc_data, named_data, other_members, reply_members, middle_members};
 ghost use Rattle.register_tables.specs.HistoryTable.{entry_row, entry_rows};
 ghost use Rattle.register_tables.specs.JsonValues.{member_tokens, shown_data, value_tokens, Adds};
 ghost use Rattle.register_tables.specs.Summary.{count};
 ghost use Rattle.register_tables.specs.Wanted.{is_wanted};
 
 use crate::json_values::{Shown, line_of, number_or_null, put_members, put_object, set_rule};
-use crate::rows::{Told, Unwritten, set_iswc};
+use crate::rows::{TableError, WrittenTable, set_iswc};
 use crate::wanted::{Wanted, is_wanted};
 use cwr_field::Memory;
 use json::Writer;
@@ -19,51 +19,51 @@ use std::alloc::Allocator;
 use std::io::{BufWriter, Write};
 use work_registry::{Book, Entry, Fault, Reply};
 
-/// Room for the texts of an object.
+/// Buffers for the texts of an object.
 #[derive(Drop)]
 struct Rooms<A: Allocator + Drop> {
     text: String<A>,
     bytes: Vec<u8, A>,
 }
 
-/// Writes the entries of a book that are wanted, in order, each as an object of JSON on a line of its own, and gives back what
-/// it wrote to.
+/// Writes the entries of a book that are wanted, in order, each as a JSON object on a line of its own, and returns
+/// `to` and the number of objects.
 ///
-/// The members of an object stand in the order of their names: `entry`, the index from 1; `faults`, a list of objects with
-/// `record`, the type of the faulty record, `rule`, as `J4`, and `sequence`, the record sequence; `iswc`, or null; `kind`, `NWR`
-/// or `REV`; `mechanical_control`, in hundredths of one per cent; `number`, the submitter work number;
+/// The members of an object stand in the order of their names: `entry`, the index from 1; `faults`, a list of objects
+/// with `record`, the type of the faulty record, `rule`, as `J4`, and `sequence`, the record sequence; `iswc`, or null;
+/// `kind`, `NWR` or `REV`; `mechanical_control`, in hundredths of one per cent; `number`, the submitter work number;
 /// `performing_control`; `status`, `AS`, `DU`, `CO` or `RJ`; `submitter`, sender type and sender id of HDR;
-/// `synchronization_control`; `title`; `version`, null but with `AS`; and `work`, null with `RJ`. In a text each byte of the
-/// register is the character with its number, blanks included. A line ends with LF.
+/// `synchronization_control`; `title`; `version`, null but with `AS`; and `work`, null with `RJ`. In a text each byte
+/// of the register is the character with its number, blanks included. A line ends with LF.
 pub fn history_json<W: Write + Drop, A: Allocator + Copy + Drop>(
     alloc: A,
     to: W,
     book: &Book<A>,
     wanted: &Wanted,
-) -> Result<Told<W>, Unwritten>
+) -> Result<WrittenTable<W>, TableError>
     ensures text { IfOk result (λ told. Appends (W.contents to) (W.contents told.to) (history_json wanted.now book.now.history)) }
     ensures rows { IfOk result (λ told. told.rows ≡ count (is_wanted wanted.now) book.now.history) }
 {
-    let Ok(mut out) = BufWriter::with_capacity(alloc, MOST_PENDING, to) else {
-        return Err(Unwritten::Memory);
+    let Ok(mut out) = BufWriter::with_capacity(alloc, MAX_PENDING, to) else {
+        return Err(TableError::Memory);
     };
     let rows = put_entries(alloc, &mut out, book.history(), wanted)?;
     match out.into_inner() {
-        Ok(to) => Ok(Told { to, rows }),
-        Err(_) => Err(Unwritten::Write),
+        Ok(to) => Ok(WrittenTable { to, rows }),
+        Err(_) => Err(TableError::Write),
     }
 }
 
-/// How many bytes are put together before they are written.
-const MOST_PENDING: usize = 65_536;
+/// The number of bytes that are gathered before they are written.
+const MAX_PENDING: usize = 65_536;
 
-/// Writes the entries that are wanted, and tells how many there are.
+/// Writes the entries that are wanted, and returns their number.
 fn put_entries<W: Write, A: Allocator + Copy + Drop>(
     alloc: A,
     out: &mut W,
     entries: &[Entry<A>],
     wanted: &Wanted,
-) -> Result<u64, Unwritten>
+) -> Result<u64, TableError>
     ensures text { OnOk result (Appends (W.contents out.old) (W.contents out.new) (entry_rows entry_json wanted.now 1 entries.now)) }
     ensures rows { IfOk result (λ rows. rows ≡ count (is_wanted wanted.now) entries.now) }
 {
@@ -78,7 +78,8 @@ fn put_entries<W: Write, A: Allocator + Copy + Drop>(
     Ok(rows)
 }
 
-/// Writes an entry, where it is wanted, and tells how many rows that is.
+/// Writes an entry, if it is wanted, and returns the number of rows written, 0 or 1. `alloc` allocates, `out` is
+/// written to, and `rooms` has buffers for texts. `index` is that of `entry`, from 1, and `wanted` selects entries.
 #[tactic(auto, using(crate::proofs::Steps::nothing))]
 fn put_wanted<W: Write, A: Allocator + Copy + Drop>(
     alloc: A,
@@ -87,7 +88,7 @@ fn put_wanted<W: Write, A: Allocator + Copy + Drop>(
     index: u64,
     entry: &Entry<A>,
     wanted: &Wanted,
-) -> Result<u64, Unwritten>
+) -> Result<u64, TableError>
     ensures text { OnOk result (Appends (W.contents out.old) (W.contents out.new) (entry_row entry_json wanted.now index entry.now)) }
     ensures rows { IfOk result (λ rows. rows ≡ (if is_wanted wanted.now entry.now then 1 else 0)) }
 {
@@ -95,7 +96,7 @@ fn put_wanted<W: Write, A: Allocator + Copy + Drop>(
         let line = entry_line(alloc, rooms, index, entry)?;
         return match out.write_all(&line) {
             Ok(()) => Ok(1),
-            Err(_) => Err(Unwritten::Write),
+            Err(_) => Err(TableError::Write),
         };
     }
     Ok(0)
@@ -115,7 +116,7 @@ fn entry_line<A: Allocator + Copy + Drop>(
     line_of(out)
 }
 
-/// The bytes of most lines, at most.
+/// A bound on the bytes of most lines.
 const FEW_PENDING: usize = 512;
 
 /// Writes an entry.
@@ -170,10 +171,11 @@ fn put_fault<A: Allocator + Copy + Drop>(
     )
 }
 
-/// Writes a fault by the type of its record, the name of its rule and its sequence.
+/// Writes a fault to `out`. `buffer` is a scratch buffer for texts. `rtype` is the type of the faulty record, `rule`
+/// the name of the rule, and `sequence` the record sequence, from 0.
 fn put_named<'t, A: Allocator + Copy + Drop>(
     out: &mut Writer<A>,
-    room: &mut String<A>,
+    buffer: &mut String<A>,
     rtype: &'t [u8],
     rule: &'t [u8],
     sequence: u32,
@@ -182,7 +184,7 @@ fn put_named<'t, A: Allocator + Copy + Drop>(
 {
     put_object(
         out,
-        room,
+        buffer,
         &[
             ("record", Shown::Text(rtype)),
             ("rule", Shown::Text(rule)),
@@ -201,14 +203,14 @@ fn put_others<A: Allocator + Copy + Drop>(
 {
     set_iswc(&mut rooms.bytes, entry.call().iswc())?;
     put_iswc(out, &mut rooms.text, entry.call().iswc(), &rooms.bytes)?;
-    put_told(out, &mut rooms.text, entry)?;
+    put_middle_members(out, &mut rooms.text, entry)?;
     put_reply(out, &mut rooms.text, entry.reply())
 }
 
-/// Writes an ISWC, whose field is there as a text, or null.
+/// Writes an ISWC, or null. `field` has the ISWC as a text.
 fn put_iswc<A: Allocator + Copy + Drop>(
     out: &mut Writer<A>,
-    room: &mut String<A>,
+    buffer: &mut String<A>,
     iswc: Option<u64>,
     field: &[u8],
 ) -> Result<(), Memory>
@@ -216,13 +218,13 @@ fn put_iswc<A: Allocator + Copy + Drop>(
     ensures { OnOk result (Adds out.old out.new (member_tokens (codes "iswc", iswc_data iswc))) }
 {
     let code = code_or_null(iswc, field);
-    put_members(out, room, &[("iswc", code)])
+    put_members(out, buffer, &[("iswc", code)])
 }
 
 /// Writes the work that a reply names, and the version.
 fn put_reply<A: Allocator + Copy + Drop>(
     out: &mut Writer<A>,
-    room: &mut String<A>,
+    buffer: &mut String<A>,
     reply: Reply,
 ) -> Result<(), Memory>
     ensures { OnOk result (Adds out.old out.new (flat_map member_tokens (reply_members reply))) }
@@ -231,16 +233,16 @@ fn put_reply<A: Allocator + Copy + Drop>(
         number_or_null(reply.version()),
         number_or_null(reply.work()),
     );
-    put_members(out, room, &[("version", version), ("work", work)])
+    put_members(out, buffer, &[("version", version), ("work", work)])
 }
 
-/// Writes what an entry tells between its ISWC and its version.
-fn put_told<A: Allocator + Copy + Drop>(
+/// Writes the members of an entry between its ISWC and its version.
+fn put_middle_members<A: Allocator + Copy + Drop>(
     out: &mut Writer<A>,
-    room: &mut String<A>,
+    buffer: &mut String<A>,
     entry: &Entry<A>,
 ) -> Result<(), Memory>
-    ensures { OnOk result (Adds out.old out.new (flat_map member_tokens (told_members entry.now))) }
+    ensures { OnOk result (Adds out.old out.new (flat_map member_tokens (middle_members entry.now))) }
 {
     let call = entry.call();
     let (submitter, number, title) = (call.submitter(), call.number(), call.title());
@@ -248,7 +250,7 @@ fn put_told<A: Allocator + Copy + Drop>(
     let control = call.control();
     put_members(
         out,
-        room,
+        buffer,
         &[
             ("kind", Shown::Text(&kind)),
             ("mechanical_control", Shown::Number(control[1])),
@@ -262,7 +264,7 @@ fn put_told<A: Allocator + Copy + Drop>(
     )
 }
 
-/// An ISWC, whose field is there as a text, or null.
+/// An ISWC, or null. `field` has the ISWC as a text.
 fn code_or_null(iswc: Option<u64>, field: &[u8]) -> Shown<'_>
     requires { field.now ≡ iswc_field iswc }
     ensures { shown_data result ≡ iswc_data iswc }

@@ -32,30 +32,30 @@ pub(crate) fn number_or_null<'t>(number: Option<u32>) -> Shown<'t>
     }
 }
 
-/// Writes an object of members, each a name and a value. `room` is room for a text.
+/// Writes an object of members, each a name and a value. `buffer` is a scratch buffer for texts.
 pub(crate) fn put_object<A: Allocator + Copy + Drop>(
     out: &mut Writer<A>,
-    room: &mut String<A>,
+    buffer: &mut String<A>,
     members: &[(&str, Shown<'_>)],
 ) -> Result<(), Memory>
     ensures { OnOk result (Adds out.old out.new (value_tokens (object_data (map (λ m. (m.0.now, shown_data m.1)) members.now)))) }
 {
     out.begin_object()?;
-    put_members(out, room, members)?;
+    put_members(out, buffer, members)?;
     out.end_object()?;
     Ok(())
 }
 
-/// Writes members, each a name and a value. `room` is room for a text.
+/// Writes members, each a name and a value. `buffer` is a scratch buffer for texts.
 pub(crate) fn put_members<A: Allocator + Copy + Drop>(
     out: &mut Writer<A>,
-    room: &mut String<A>,
+    buffer: &mut String<A>,
     members: &[(&str, Shown<'_>)],
 ) -> Result<(), Memory>
     ensures { OnOk result (Adds out.old out.new (flat_map member_tokens (map (λ m. (m.0.now, shown_data m.1)) members.now))) }
 {
     for member in members {
-        put_member(out, room, member.0, member.1)?;
+        put_member(out, buffer, member.0, member.1)?;
     }
     Ok(())
 }
@@ -63,20 +63,20 @@ pub(crate) fn put_members<A: Allocator + Copy + Drop>(
 /// Writes a member.
 fn put_member<A: Allocator + Copy + Drop>(
     out: &mut Writer<A>,
-    room: &mut String<A>,
+    buffer: &mut String<A>,
     name: &str,
     value: Shown<'_>,
 ) -> Result<(), Memory>
     ensures { OnOk result (Adds out.old out.new (member_tokens (name.now, shown_data value.entry))) }
 {
     out.key(name)?;
-    put_value(out, room, value)
+    put_value(out, buffer, value)
 }
 
 /// Writes a value.
 fn put_value<A: Allocator + Copy + Drop>(
     out: &mut Writer<A>,
-    room: &mut String<A>,
+    buffer: &mut String<A>,
     value: Shown<'_>,
 ) -> Result<(), Memory>
     ensures { OnOk result (Adds out.old out.new (value_tokens (shown_data value.entry))) }
@@ -85,8 +85,8 @@ fn put_value<A: Allocator + Copy + Drop>(
         Shown::Null => out.null()?,
         Shown::Number(number) => out.u64(number)?,
         Shown::Text(bytes) => {
-            set_latin(room, bytes)?;
-            out.string(room)?;
+            set_latin(buffer, bytes)?;
+            out.string(buffer)?;
         }
     }
     Ok(())

@@ -1,5 +1,5 @@
-//! The register as tables in CSV, for spreadsheets and scripts: the current claims, the works, and every entry; a summary of it;
-//! and its entries, the summary and what an audit found as JSON.
+//! The register as tables in CSV, for spreadsheets and scripts: the current claims, the works, and every entry; a
+//! summary of it; and its entries, the summary and what an audit found as JSON.
 #![tactic(auto)]
 
 mod audit_object;
@@ -23,7 +23,7 @@ pub use claims::{claims_table, claims_text};
 pub use form::Form;
 pub use history::{history_table, history_text};
 pub use history_objects::history_json;
-pub use rows::{Told, Unwritten};
+pub use rows::{TableError, WrittenTable};
 pub use summary::summary_text;
 pub use summary_object::summary_json;
 pub use wanted::Wanted;

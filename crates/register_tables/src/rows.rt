@@ -5,43 +5,43 @@ ghost use Rattle.std.specs.Io.KnownBytes.{Appends, Keeps};
 ghost use Rattle.csv.specs.Writing.{text_written, writer_pending};
 ghost use Rattle.cwr_call.specs.Lawful.{is_iswc};
 ghost use Rattle.register_tables.specs.CsvRows.{csv_line, number_field, iswc_field, IsAtRow};
-ghost use Rattle.register_tables.specs.declared.rows.Unwritten.TheVariants.{Memory as refused};
+ghost use Rattle.register_tables.specs.declared.rows.TableError.TheVariants.{Memory as refused};
 
 use csv::{Writer, WriterBuilder};
 use cwr_field::Memory;
-use cwr_record::{Piece, put_line};
+use cwr_record::{FieldValue, put_line};
 use itoa::Buffer;
 use std::alloc::Allocator;
 use std::io::Write;
 
-/// Why a table was not written whole.
+/// Why a table was not written completely.
 #[derive(Clone, Copy, Debug, PartialEq, Eq)]
-pub enum Unwritten {
-    /// Memory was refused.
+pub enum TableError {
+    /// An allocation failed.
     Memory,
-    /// A write failed or took nothing. What was written before it stands.
+    /// A write failed or took nothing. What was written before it stays.
     Write,
 }
 
-impl From<Memory> for Unwritten {
+impl From<Memory> for TableError {
     ghost from_gives = { λ _ e. e ≡ refused };
 
-    fn from(_error: Memory) -> Unwritten {
-        Unwritten::Memory
+    fn from(_error: Memory) -> TableError {
+        TableError::Memory
     }
 }
 
-/// What was written to, with a whole table.
+/// A complete table: what it was written to, and its number of rows.
 #[derive(Debug, Drop)]
-pub struct Told<W: Drop> {
+pub struct WrittenTable<W: Drop> {
     /// What it was written to.
     pub to: W,
-    /// How many rows it has: lines behind the header, or objects.
+    /// The number of rows: lines behind the header, or objects.
     pub rows: u64,
 }
 
 /// A writer of rows, behind their header.
-pub(crate) fn rows_to<W: Write + Drop>(to: W, header: &[&[u8]]) -> Result<Writer<W>, Unwritten>
+pub(crate) fn rows_to<W: Write + Drop>(to: W, header: &[&[u8]]) -> Result<Writer<W>, TableError>
     ensures ready { IfOk result (λ out. IsAtRow out) }
     ensures text { IfOk result (λ out. Appends (W.contents to) (text_written W.contents out) (csv_line (map (λ f. f.now) header.now))) }
 {
@@ -54,25 +54,28 @@ pub(crate) fn rows_to<W: Write + Drop>(to: W, header: &[&[u8]]) -> Result<Writer
 pub(crate) fn put_row<W: Write + Drop>(
     out: &mut Writer<W>,
     fields: &[&[u8]],
-) -> Result<(), Unwritten>
+) -> Result<(), TableError>
     requires { IsAtRow out.old }
     ensures ready { OnOk result (IsAtRow out.new) }
     ensures text { OnOk result (Appends (text_written W.contents out.old) (text_written W.contents out.new) (csv_line (map (λ f. f.now) fields.now))) }
 {
     match out.write_fields(fields) {
         Ok(()) => Ok(()),
-        Err(_) => Err(Unwritten::Write),
+        Err(_) => Err(TableError::Write),
     }
 }
 
-/// What so many rows were written to, with all of them.
-pub(crate) fn ended<W: Write + Drop>(out: Writer<W>, rows: u64) -> Result<Told<W>, Unwritten>
+/// Ends a table of `rows` rows, and returns what it was written to.
+pub(crate) fn ended<W: Write + Drop>(
+    out: Writer<W>,
+    rows: u64,
+) -> Result<WrittenTable<W>, TableError>
     ensures kept { IfOk result (λ told. Keeps (text_written W.contents out) (W.contents told.to)) }
     ensures rows { IfOk result (λ told. told.rows ≡ rows) }
 {
     match out.into_inner() {
-        Ok(to) => Ok(Told { to, rows }),
-        Err(_) => Err(Unwritten::Write),
+        Ok(to) => Ok(WrittenTable { to, rows }),
+        Err(_) => Err(TableError::Write),
     }
 }
 
@@ -96,7 +99,7 @@ pub(crate) fn set_iswc<A: Allocator + Copy + Drop>(
 {
     text.clear();
     if iswc.is_some() {
-        put_line(text, &[Piece::Code(iswc)])?;
+        put_line(text, &[FieldValue::Code(iswc)])?;
     }
     Ok(())
 }

@@ -10,7 +10,7 @@ use crate::tally::counted;
 use std::alloc::Allocator;
 use work_registry::Book;
 
-/// How many works there are in each band of what is left.
+/// The number of works in each band of what is left.
 #[derive(Clone, Copy)]
 pub(crate) struct Bands {
     /// Nothing.
@@ -45,7 +45,7 @@ pub(crate) fn bands_of<A: Allocator + Copy + Drop>(book: &Book<A>, last: u32, ri
     bands
 }
 
-/// One work more, of which so much is left.
+/// Adds a work of which `left` hundredths of one per cent are left.
 fn banded(bands: Bands, left: u64) -> Bands
     ensures { result ≡ banded bands left }
 {

@@ -9,7 +9,7 @@ ghost use Rattle.register_tables.specs.Summary.{conflict_line, conflicts_text, e
 ghost use Rattle.register_tables.specs.WorksTable.{last_work};
 
 use crate::conflicts::{Conflicted, largest};
-use crate::rows::Unwritten;
+use crate::rows::TableError;
 use crate::shares::bands_of;
 use crate::tally::{submitter_count, tally_of};
 use crate::works::last_work;
@@ -18,24 +18,24 @@ use std::alloc::Allocator;
 use std::io::Write;
 use work_registry::Book;
 
-/// Writes a summary of a book, and gives back what it wrote to.
+/// Writes a summary of a book, and returns what it wrote to.
 ///
-/// It is a page of lines, each a name, a colon, a blank and a number: how many entries there are, and how many with each status;
-/// how many works, claims in force, and submitters of entries; for each right how many works there are by what is left of
-/// it; and the ten works with the most conflicts, the most first, and of as many the lower number first. What is left is 10,000
-/// hundredths of one per cent without the control of the work: none, up to 2,500, up to 5,000, more than that, and all. A
-/// line ends with LF.
+/// It is a page of lines, each a name, a colon, a blank and a number. They are the number of entries, and of those with
+/// each status; of works, of claims in force, and of submitters of entries; for each right the number of works by what
+/// is left of it; and the ten works with the most conflicts. The work with the most comes first; of works with equally
+/// many, the lower number. What is left is 10,000 hundredths of one per cent without the control of the work: none, up
+/// to 2,500, up to 5,000, more than that, and all. A line ends with LF.
 pub fn summary_text<W: Write + Drop, A: Allocator + Copy + Drop>(
     alloc: A,
     mut to: W,
     book: &Book<A>,
-) -> Result<W, Unwritten>
+) -> Result<W, TableError>
     ensures { IfOk result (λ told. Appends (W.contents to) (W.contents told) (summary_text book.now.history)) }
 {
     let page = page_of(alloc, book)?;
     match to.write_all(&page) {
         Ok(()) => Ok(to),
-        Err(_) => Err(Unwritten::Write),
+        Err(_) => Err(TableError::Write),
     }
 }
 

@@ -1,4 +1,4 @@
-//! A summary of a register as an object of JSON.
+//! A summary of a register as a JSON object.
 
 ghost use Rattle.std.specs.Prelude.{◌≡◌, ◌∷◌, [], ◌<◌, codes, length, IfOk, OnOk};
 ghost use Rattle.std.specs.Io.KnownBytes.{Appends};
@@ -6,12 +6,12 @@ ghost use Rattle.std.specs.List.{flat_map};
 ghost use Rattle.work_registry.specs.Rows.{rows_of};
 ghost use Rattle.register_tables.specs.JsonValues.{value_tokens, Adds};
 ghost use Rattle.register_tables.specs.Summary.{different, largest, submitters, tally_of};
-ghost use Rattle.register_tables.specs.SummaryJson.{bands_data, conflict_data, conflicts_data, right_data, shares_data, summary_data, summary_json, told_data};
+ghost use Rattle.register_tables.specs.SummaryJson.{bands_data, conflict_data, conflicts_data, right_data, shares_data, summary_data, summary_json, object_of_numbers};
 ghost use Rattle.register_tables.specs.WorksTable.{last_work};
 
 use crate::conflicts::{Conflicted, largest};
 use crate::json_values::{Shown, line_of, put_members, put_object};
-use crate::rows::Unwritten;
+use crate::rows::TableError;
 use crate::shares::{Bands, bands_of};
 use crate::tally::{Tally, submitter_count, tally_of};
 use crate::works::last_work;
@@ -21,24 +21,25 @@ use std::alloc::Allocator;
 use std::io::Write;
 use work_registry::Book;
 
-/// Writes a summary of a book as an object of JSON, and LF, and gives back what it wrote to.
+/// Writes a summary of a book as a JSON object, and LF, and returns what it wrote to.
 ///
-/// Its members are numbers but for two, and stand in the order of their names: `accepted`, `conflicts`, `duplicates` and
-/// `rejected`, the entries with each status; `current_claims`; `entries`; `submitters`, those of the entries; `works`;
-/// `largest_conflicts`, a list of objects with `conflicts` and `work`, as the page has them; and `left`, an object with a member
-/// for each right, `mechanical`, `performing` and `synchronization`, each an object that tells how many works there are by what
-/// is left of the right: `all`, `more_than_half`, `none`, `up_to_half` and `up_to_quarter`.
+/// Its members are numbers but for two, and stand in the order of their names: `accepted`, `conflicts`, `duplicates`
+/// and `rejected`, the entries with each status; `current_claims`; `entries`; `submitters`, those of the entries;
+/// `works`; `largest_conflicts`, a list of objects with `conflicts` and `work`, as the page has them; and `left`, an
+/// object with a member for each right, `mechanical`, `performing` and `synchronization`. Each of these is an object
+/// with the number of works by what is left of the right: `all`, `more_than_half`, `none`, `up_to_half` and
+/// `up_to_quarter`.
 pub fn summary_json<W: Write + Drop, A: Allocator + Copy + Drop>(
     alloc: A,
     mut to: W,
     book: &Book<A>,
-) -> Result<W, Unwritten>
+) -> Result<W, TableError>
     ensures { IfOk result (λ told. Appends (W.contents to) (W.contents told) (summary_json book.now.history)) }
 {
     let text = text_of(alloc, book)?;
     match to.write_all(&text) {
         Ok(()) => Ok(to),
-        Err(_) => Err(Unwritten::Write),
+        Err(_) => Err(TableError::Write),
     }
 }
 
@@ -67,8 +68,8 @@ fn put_summary<A: Allocator + Copy + Drop>(
         submitters: submitter_count(alloc, book.history())?,
         tally: tally_of(book),
     };
-    let mut room = String::new(alloc);
-    put_told(out, &mut room, book, last, numbers, &top)
+    let mut buffer = String::new(alloc);
+    put_summary_members(out, &mut buffer, book, last, numbers, &top)
 }
 
 /// The numbers of a summary.
@@ -80,23 +81,24 @@ struct Numbers {
     tally: Tally,
 }
 
-/// Writes the members, and between them what is left.
-fn put_told<A: Allocator + Copy + Drop>(
+/// Writes the members of the object. `out` is written to, and `buffer` is a scratch buffer for texts. `book` has `last`
+/// works, `numbers` has the counts, and `top` the works with the most conflicts.
+fn put_summary_members<A: Allocator + Copy + Drop>(
     out: &mut Writer<A>,
-    room: &mut String<A>,
+    buffer: &mut String<A>,
     book: &Book<A>,
     last: u32,
     numbers: Numbers,
     top: &[Conflicted],
 ) -> Result<(), Memory>
     requires { last ≡ last_work (rows_of book.now.history) }
-    ensures { OnOk result (Adds out.old out.new (value_tokens (told_data numbers.entries numbers.works numbers.submitters numbers.tally (shares_data (rows_of book.now.history)) (conflicts_data top.now)))) }
+    ensures { OnOk result (Adds out.old out.new (value_tokens (object_of_numbers numbers.entries numbers.works numbers.submitters numbers.tally (shares_data (rows_of book.now.history)) (conflicts_data top.now)))) }
 {
     let tally = numbers.tally;
     out.begin_object()?;
     put_members(
         out,
-        room,
+        buffer,
         &[
             ("accepted", Shown::Number(tally.accepted)),
             ("conflicts", Shown::Number(tally.conflicts)),
@@ -106,12 +108,12 @@ fn put_told<A: Allocator + Copy + Drop>(
         ],
     )?;
     out.key("largest_conflicts")?;
-    put_conflicts(out, room, top)?;
+    put_conflicts(out, buffer, top)?;
     out.key("left")?;
-    put_shares(out, room, book, last)?;
+    put_shares(out, buffer, book, last)?;
     put_members(
         out,
-        room,
+        buffer,
         &[
             ("rejected", Shown::Number(tally.rejected)),
             ("submitters", Shown::Number(numbers.submitters)),
@@ -125,14 +127,14 @@ fn put_told<A: Allocator + Copy + Drop>(
 /// Writes works with conflicts, as a list of objects.
 fn put_conflicts<A: Allocator + Copy + Drop>(
     out: &mut Writer<A>,
-    room: &mut String<A>,
+    buffer: &mut String<A>,
     top: &[Conflicted],
 ) -> Result<(), Memory>
     ensures { OnOk result (Adds out.old out.new (value_tokens (conflicts_data top.now))) }
 {
     out.begin_array()?;
     for one in top {
-        put_conflict(out, room, *one)?;
+        put_conflict(out, buffer, *one)?;
     }
     out.end_array()?;
     Ok(())
@@ -140,14 +142,14 @@ fn put_conflicts<A: Allocator + Copy + Drop>(
 
 fn put_conflict<A: Allocator + Copy + Drop>(
     out: &mut Writer<A>,
-    room: &mut String<A>,
+    buffer: &mut String<A>,
     one: Conflicted,
 ) -> Result<(), Memory>
     ensures { OnOk result (Adds out.old out.new (value_tokens (conflict_data one))) }
 {
     put_object(
         out,
-        room,
+        buffer,
         &[
             ("conflicts", Shown::Number(one.conflicts)),
             ("work", Shown::Number(one.work as u64)),
@@ -158,7 +160,7 @@ fn put_conflict<A: Allocator + Copy + Drop>(
 /// Writes the works by what is left of each right.
 fn put_shares<A: Allocator + Copy + Drop>(
     out: &mut Writer<A>,
-    room: &mut String<A>,
+    buffer: &mut String<A>,
     book: &Book<A>,
     last: u32,
 ) -> Result<(), Memory>
@@ -167,26 +169,26 @@ fn put_shares<A: Allocator + Copy + Drop>(
 {
     out.begin_object()?;
     out.key("mechanical")?;
-    put_bands(out, room, bands_of(book, last, 1))?;
+    put_bands(out, buffer, bands_of(book, last, 1))?;
     out.key("performing")?;
-    put_bands(out, room, bands_of(book, last, 0))?;
+    put_bands(out, buffer, bands_of(book, last, 0))?;
     out.key("synchronization")?;
-    put_bands(out, room, bands_of(book, last, 2))?;
+    put_bands(out, buffer, bands_of(book, last, 2))?;
     out.end_object()?;
     Ok(())
 }
 
-/// Writes how many works there are in each band.
+/// Writes the number of works in each band.
 fn put_bands<A: Allocator + Copy + Drop>(
     out: &mut Writer<A>,
-    room: &mut String<A>,
+    buffer: &mut String<A>,
     bands: Bands,
 ) -> Result<(), Memory>
     ensures { OnOk result (Adds out.old out.new (value_tokens (bands_data bands))) }
 {
     put_object(
         out,
-        room,
+        buffer,
         &[
             ("all", Shown::Number(bands.all)),
             ("more_than_half", Shown::Number(bands.more)),

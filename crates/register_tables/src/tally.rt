@@ -11,7 +11,7 @@ use std::alloc::{AllocError, Allocator};
 use std::hash::{BuildHasherDefault, FoldHasher};
 use work_registry::{Book, Entry, Reply, Status};
 
-/// How many entries have each status, and how many made the claim in force under their key.
+/// The number of entries with each status, and of entries that made the claim in force under their key.
 #[derive(Clone, Copy)]
 pub(crate) struct Tally {
     pub(crate) accepted: u64,
@@ -21,8 +21,8 @@ pub(crate) struct Tally {
     pub(crate) current: u64,
 }
 
-/// Counts the entries of a book. Under a key there is one claim in force, and one entry made its first version: so these are
-/// counted, and no claim is looked up.
+/// Counts the entries of a book. Under a key there is one claim in force, and one entry made its first version. So
+/// first versions are counted, and no claim is looked up.
 pub(crate) fn tally_of<A: Allocator + Copy + Drop>(book: &Book<A>) -> Tally
     ensures { result ≡ tally_of (rows_of book.now.history) book.now.history }
 {
@@ -51,7 +51,7 @@ fn is_first(reply: Reply) -> bool
     }
 }
 
-/// One entry more, with this status, which was accepted as the first under its key or was not.
+/// Adds an entry with this status. `first` says whether it was accepted as the first under its key.
 fn tallied(tally: Tally, status: Status, first: bool) -> Tally
     ensures { result ≡ tallied tally status first }
 {
@@ -67,14 +67,14 @@ fn tallied(tally: Tally, status: Status, first: bool) -> Tally
     }
 }
 
-/// One more, or as many.
+/// The count, and one more if `more` is true.
 pub(crate) fn counted(count: u64, more: bool) -> u64
     ensures { result ≡ counted count more }
 {
     if more { count.saturating_add(1) } else { count }
 }
 
-/// How many submitters the entries of a book have.
+/// The number of different submitters of the entries of a book.
 pub(crate) fn submitter_count<A: Allocator + Copy + Drop>(
     alloc: A,
     entries: &[Entry<A>],

@@ -1,4 +1,4 @@
-//! Room for the fields of a row that are put together.
+//! Buffers for the fields of a row that are put together.
 
 ghost use Rattle.std.specs.Prelude.{◌≡◌, OnOk};
 ghost use Rattle.register_tables.specs.RowTexts.{HasCall, HasControl};
@@ -9,7 +9,7 @@ use cwr_field::Memory;
 use std::alloc::Allocator;
 use work_registry::Call;
 
-/// Room for the fields of a row that are put together.
+/// Buffers for the fields of a row that are put together.
 #[derive(Drop)]
 pub(crate) struct Texts<A: Allocator + Drop> {
     pub(crate) submitter: Vec<u8, A>,
@@ -23,7 +23,7 @@ pub(crate) struct Texts<A: Allocator + Drop> {
 }
 
 impl<A: Allocator + Copy + Drop> Texts<A> {
-    /// Room without any field. No memory is asked for.
+    /// Empty buffers. Nothing is allocated.
     pub(crate) fn new(alloc: A) -> Texts<A> {
         Texts {
             submitter: Vec::new(alloc),
@@ -37,7 +37,7 @@ impl<A: Allocator + Copy + Drop> Texts<A> {
         }
     }
 
-    /// Makes them those of a call. The faults stay.
+    /// Sets the fields to those of a call. The faults stay.
     pub(crate) fn set_call(&mut self, form: Form, call: &Call<A>) -> Result<(), Memory>
         ensures call { OnOk result (HasCall form call.now self.new) }
         ensures faults { self.new.faults ≡ self.old.faults }
@@ -49,7 +49,7 @@ impl<A: Allocator + Copy + Drop> Texts<A> {
         self.set_control(form, call.control())
     }
 
-    /// Makes the control that of a call or of a work. The others stay.
+    /// Sets the control to that of a call or of a work. The other fields stay.
     pub(crate) fn set_control(&mut self, form: Form, control: [u64; 3]) -> Result<(), Memory>
         ensures submitter { self.new.submitter ≡ self.old.submitter }
         ensures number { self.new.number ≡ self.old.number }

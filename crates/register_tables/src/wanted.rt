@@ -5,7 +5,7 @@ use cwr_record::Status;
 use std::alloc::Allocator;
 use work_registry::Entry;
 
-/// Which entries a table is of: those that fit in all that is given.
+/// Which entries a table is of: those that match each field that is given.
 #[derive(Clone, Copy, Debug, PartialEq, Eq)]
 pub struct Wanted {
     /// The registry's number of the work that the reply names.
@@ -32,7 +32,7 @@ impl Wanted {
     }
 }
 
-/// Whether an entry fits in all that is asked for.
+/// Whether an entry matches each field that is given.
 pub(crate) fn is_wanted<A: Allocator>(wanted: &Wanted, entry: &Entry<A>) -> bool
     ensures { result ≡ is_wanted wanted.now entry.now }
 {
@@ -42,7 +42,7 @@ pub(crate) fn is_wanted<A: Allocator>(wanted: &Wanted, entry: &Entry<A>) -> bool
         && fits_status(wanted.status, entry.reply().status())
 }
 
-/// Whether any number is asked for, or this one.
+/// Whether no number is asked for, or this one.
 pub(crate) fn fits_number(wanted: Option<u32>, given: Option<u32>) -> bool
     ensures { result ≡ fits_number wanted given }
 {

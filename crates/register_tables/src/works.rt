@@ -11,10 +11,10 @@ ghost use Rattle.register_tables.specs.declared.form.Form.TheVariants.{Exact};
 ghost use Rattle.register_tables.specs.RowTexts.{HasControl};
 ghost use Rattle.register_tables.specs.WorksTable.{is_wanted_work, last_work, wanted_line, work_fields, work_lines, works_text};
 ghost use Rattle.register_tables.specs.Summary.{count, works as numbers};
-ghost use Rattle.register_tables.specs.Gathered.{AreGathered, AreKept, blank_work, grown, noted};
+ghost use Rattle.register_tables.specs.WorkTotals.{AreTotals, AreKept, blank_work, grown, noted};
 
 use crate::form::{Form, mechanical_name, performing_name, synchronization_name};
-use crate::rows::{Told, Unwritten, ended, put_row, rows_to, set_iswc};
+use crate::rows::{TableError, WrittenTable, ended, put_row, rows_to, set_iswc};
 use crate::texts::Texts;
 use crate::wanted::{Wanted, fits_number};
 use csv::Writer;
@@ -23,32 +23,34 @@ use std::alloc::{AllocError, Allocator};
 use std::io::Write;
 use work_registry::{Book, Entry, Reply};
 
-/// What is gathered of a work.
+/// What the entries of a book say of a work.
 #[derive(Clone, Copy)]
-struct KeptWork {
-    /// That of its last accepted entry that has one.
+struct WorkTotals {
+    /// The ISWC of its last accepted entry that has one.
     iswc: Option<u64>,
-    /// How many current claims there are on it.
+    /// The number of current claims on it.
     claims: u64,
 }
 
-/// Writes the works of a book that are wanted, in the order of their numbers, and gives back what it wrote to.
+/// Writes the works of a book that are wanted, in the order of their numbers, and returns `to` and the number of rows.
 ///
-/// Of what is wanted the number of the work counts alone. A header line comes first. A work is a line of its number, its ISWC or
-/// nothing, its control of the performing, the mechanical and the synchronization right, and the number of current claims
-/// on it. [`Form`] says how shares stand there. A line ends with LF.
+/// A header line comes first. A work is a line with its number, its ISWC or nothing, its control of the performing, the
+/// mechanical and the synchronization right, and the number of current claims on it. A line ends with LF.
+///
+/// `alloc` allocates, and `to` is written to. `book` has the works. Of `wanted` the number of the work alone counts,
+/// and `form` says how shares stand in a row.
 pub fn works_table<W: Write + Drop, A: Allocator + Copy + Drop>(
     alloc: A,
     to: W,
     book: &Book<A>,
     wanted: &Wanted,
     form: Form,
-) -> Result<Told<W>, Unwritten>
+) -> Result<WrittenTable<W>, TableError>
     ensures text { IfOk result (λ told. Appends (W.contents to) (W.contents told.to) (works_text form wanted.now book.now.history)) }
     ensures rows { IfOk result (λ told. told.rows ≡ count (is_wanted_work wanted.now) (numbers (rows_of book.now.history))) }
 {
-    let Ok(works) = kept_works(alloc, book) else {
-        return Err(Unwritten::Memory);
+    let Ok(works) = totals_of_works(alloc, book) else {
+        return Err(TableError::Memory);
     };
     let mut out = rows_to(
         to,
@@ -71,21 +73,21 @@ pub fn works_text<W: Write + Drop, A: Allocator + Copy + Drop>(
     to: W,
     book: &Book<A>,
     wanted: &Wanted,
-) -> Result<W, Unwritten>
+) -> Result<W, TableError>
     ensures { IfOk result (λ told. Appends (W.contents to) (W.contents told) (works_text Exact wanted.now book.now.history)) }
 {
-    let Told { to, rows: _ } = works_table(alloc, to, book, wanted, Form::Exact)?;
+    let WrittenTable { to, rows: _ } = works_table(alloc, to, book, wanted, Form::Exact)?;
     Ok(to)
 }
 
 /// What the entries of a book say of each work, in the order of their numbers.
 ///
-/// Under a key there is one claim in force, and one entry made its first version, on the same work: so the first versions on
-/// a work are as many as the claims in force on it, and no claim is looked up.
-fn kept_works<A: Allocator + Copy + Drop>(
+/// Under a key there is one claim in force, and one entry made its first version, on the same work. So the number of
+/// first versions on a work is that of the claims in force on it, and no claim is looked up.
+fn totals_of_works<A: Allocator + Copy + Drop>(
     alloc: A,
     book: &Book<A>,
-) -> Result<Vec<KeptWork, A>, AllocError>
+) -> Result<Vec<WorkTotals, A>, AllocError>
     ensures kept { IfOk result (λ works. AreKept (rows_of book.now.history) (last_work (rows_of book.now.history)) book.now.history works.items) }
     ensures few { IfOk result (λ works. length works.items < 2 ^ 32) }
 {
@@ -97,16 +99,16 @@ fn kept_works<A: Allocator + Copy + Drop>(
     Ok(works)
 }
 
-/// So many works, of which nothing is known.
+/// Blank totals for `count` works.
 fn blank_works<A: Allocator + Copy + Drop>(
     alloc: A,
     count: u32,
-) -> Result<Vec<KeptWork, A>, AllocError>
-    ensures { IfOk result (λ works. AreGathered count [] works.items) }
+) -> Result<Vec<WorkTotals, A>, AllocError>
+    ensures { IfOk result (λ works. AreTotals count [] works.items) }
 {
     Vec::from_elem(
         alloc,
-        KeptWork {
+        WorkTotals {
             iswc: None,
             claims: 0,
         },
@@ -128,7 +130,7 @@ pub(crate) fn last_work<A: Allocator>(entries: &[Entry<A>]) -> u32
 }
 
 /// Notes an entry at its work, if it was accepted.
-fn note<A: Allocator + Copy + Drop>(works: &mut Vec<KeptWork, A>, entry: &Entry<A>)
+fn note<A: Allocator + Copy + Drop>(works: &mut Vec<WorkTotals, A>, entry: &Entry<A>)
     ensures noted { works.new.items ≡ noted works.old.items entry.now.call.iswc entry.now.reply }
     ensures code { IsTrue (is_iswc entry.now.call.iswc) }
 {
@@ -141,11 +143,11 @@ fn note<A: Allocator + Copy + Drop>(works: &mut Vec<KeptWork, A>, entry: &Entry<
     }
 }
 
-/// What is gathered of a work with one entry more on it, of this version.
-fn grown(kept: KeptWork, iswc: Option<u64>, version: u32) -> KeptWork
+/// The totals of a work with one more entry on it, of this version.
+fn grown(kept: WorkTotals, iswc: Option<u64>, version: u32) -> WorkTotals
     ensures { result ≡ grown kept iswc version }
 {
-    KeptWork {
+    WorkTotals {
         iswc: match iswc {
             Some(_) => iswc,
             None => kept.iswc,
@@ -158,15 +160,16 @@ fn grown(kept: KeptWork, iswc: Option<u64>, version: u32) -> KeptWork
     }
 }
 
-/// Writes the works that are wanted, and tells how many there are.
+/// Writes the works that are wanted, and returns their number. `alloc` allocates, and `out` is written to. `book` has
+/// the works, `works` their totals, `wanted` selects among them, and `form` is that of the fields.
 fn put_works<W: Write + Drop, A: Allocator + Copy + Drop>(
     alloc: A,
     out: &mut Writer<W>,
     book: &Book<A>,
-    works: &[KeptWork],
+    works: &[WorkTotals],
     wanted: &Wanted,
     form: Form,
-) -> Result<u64, Unwritten>
+) -> Result<u64, TableError>
     requires ready { IsAtRow out.old }
     requires kept { AreKept (rows_of book.now.history) (last_work (rows_of book.now.history)) book.now.history works.now }
     requires few { length works.now < 2 ^ 32 }
@@ -183,17 +186,19 @@ fn put_works<W: Write + Drop, A: Allocator + Copy + Drop>(
     Ok(rows)
 }
 
-/// Writes a work, where it is wanted, and tells how many rows that is.
+/// Writes a work, if it is wanted, and returns the number of rows written, 0 or 1. `out` is written to, and `work` is
+/// the number of a work of `book`, from 1. `kept` has its totals. `wanted` selects works, `form` is that of the fields,
+/// and `texts` has buffers for them.
 #[tactic(auto, using(crate::proofs::Steps::nothing))]
 fn put_wanted<W: Write + Drop, A: Allocator + Copy + Drop>(
     out: &mut Writer<W>,
     book: &Book<A>,
     work: u32,
-    kept: KeptWork,
+    kept: WorkTotals,
     wanted: &Wanted,
     form: Form,
     texts: &mut Texts<A>,
-) -> Result<u64, Unwritten>
+) -> Result<u64, TableError>
     requires ready { IsAtRow out.old }
     requires iswc { IsTrue (is_iswc kept.iswc) }
     ensures ready { OnOk result (IsAtRow out.new) }
@@ -210,15 +215,16 @@ fn put_wanted<W: Write + Drop, A: Allocator + Copy + Drop>(
     Ok(0)
 }
 
-/// Writes a work, with the fields that are put together in this form.
+/// Writes a work to `out`. `work` is its number, from 1, `kept` has its totals, and `control` is what it has of each
+/// right, in hundredths of one per cent. `texts` has the fields that were put together in this `form`.
 fn put_work<W: Write + Drop, A: Allocator + Copy + Drop>(
     out: &mut Writer<W>,
     work: u32,
-    kept: KeptWork,
+    kept: WorkTotals,
     control: [u64; 3],
     form: Form,
     texts: &Texts<A>,
-) -> Result<(), Unwritten>
+) -> Result<(), TableError>
     requires ready { IsAtRow out.old }
     requires iswc { texts.now.iswc.items ≡ iswc_field kept.iswc }
     requires control { HasControl form control texts.now }

@@ -1,12 +1,12 @@
 //! Books, and what their tables must be.
 
-use cwr_sheets::{same, same_bytes};
 use register_tables::{
-    Form, Told, Unwritten, Wanted, claims_table, history_json, history_table, summary_json,
-    summary_text, works_table,
+    Form, TableError, Wanted, WrittenTable, claims_table, history_json, history_table,
+    summary_json, summary_text, works_table,
 };
 use std::alloc::Global;
 use std::test::Fail;
+use test_files::{same, same_bytes};
 use work_registry::{Book, Call, Fault, Faults, WorkKind};
 
 /// The submitters of the sample files.
@@ -96,16 +96,16 @@ pub(crate) fn decisions(alloc: Global) -> Result<Book, Fail> {
     Ok(book)
 }
 
-/// A text that must be whole.
-fn whole(written: Result<Vec<u8>, Unwritten>) -> Result<Vec<u8>, Fail> {
+/// A text that must be complete.
+fn whole(written: Result<Vec<u8>, TableError>) -> Result<Vec<u8>, Fail> {
     match written {
         Ok(text) => Ok(text),
         Err(_) => Err("it was not written")?,
     }
 }
 
-/// A table that must be whole, and tell as many rows as these lines are.
-fn told(table: Result<Told<Vec<u8>>, Unwritten>, lines: &[u8]) -> Result<Vec<u8>, Fail> {
+/// A table that must be complete, with a row count that is the number of these lines.
+fn told(table: Result<WrittenTable<Vec<u8>>, TableError>, lines: &[u8]) -> Result<Vec<u8>, Fail> {
     match table {
         Ok(told) => {
             let rows = lines.iter().filter(|byte| **byte == b'\n').count() as u64;
@@ -116,7 +116,7 @@ fn told(table: Result<Told<Vec<u8>>, Unwritten>, lines: &[u8]) -> Result<Vec<u8>
     }
 }
 
-/// What is wanted of the claims must be these lines, after their header.
+/// The claims that are wanted must be these lines, after their header.
 pub(crate) fn expect_claims(
     alloc: Global,
     book: &Book,
@@ -133,7 +133,7 @@ pub(crate) fn expect_claims(
     )
 }
 
-/// What is wanted of the works must be these lines, after their header.
+/// The works that are wanted must be these lines, after their header.
 pub(crate) fn expect_works(
     alloc: Global,
     book: &Book,
@@ -150,7 +150,7 @@ pub(crate) fn expect_works(
     )
 }
 
-/// What is wanted of the history must be these lines, after their header.
+/// The entries of the history that are wanted must be these lines, after their header.
 pub(crate) fn expect_history(
     alloc: Global,
     book: &Book,
@@ -209,7 +209,7 @@ pub(crate) fn expect_plain_history(alloc: Global, book: &Book, lines: &[u8]) -> 
     )
 }
 
-/// What is wanted of the history must be these objects of JSON, each on a line.
+/// The entries of the history that are wanted must be these JSON objects, each on a line.
 pub(crate) fn expect_objects(
     alloc: Global,
     book: &Book,
@@ -220,7 +220,7 @@ pub(crate) fn expect_objects(
     same_bytes("the objects", &told(objects, lines)?, lines)
 }
 
-/// The summary of a book must be this object of JSON.
+/// The summary of a book must be this JSON object.
 pub(crate) fn expect_summary_object(alloc: Global, book: &Book, object: &[u8]) -> Result<(), Fail> {
     let text = whole(summary_json(alloc, Vec::new(alloc), book))?;
     same_bytes("the summary as JSON", &text, object)

@@ -1,9 +1,11 @@
-//! Tests of a register's tables and of its summary: the example of the profile's decisions, texts that CSV must quote, what is
-//! wanted, bands of what is left, more conflicts than are told, plain tables, and what is told as JSON.
+//! Tests of a register's tables and of its summary: the example of the profile's decisions, texts that CSV must quote,
+//! rows that are wanted, bands of what is left, more conflicts than are printed, plain tables, and JSON.
 #![tactic(auto)]
 
 #[cfg(test)]
 mod books;
+#[cfg(test)]
+mod failing_writer;
 #[cfg(test)]
 mod objects;
 #[cfg(test)]
@@ -14,7 +16,5 @@ mod quoted;
 mod summaries;
 #[cfg(test)]
 mod tables;
-#[cfg(test)]
-mod unwritten;
 #[cfg(test)]
 mod wanted;

@@ -1,13 +1,13 @@
-//! What is told of a register as JSON.
+//! A register as JSON.
 
 use crate::books::{
     ONE, OTHER, TITLE, W1, W7, decisions, expect_objects, expect_summary_object, hand_in,
 };
 use cwr_field::filled;
-use cwr_sheets::same_bytes;
 use register_tables::{Audited, Wanted, audit_json};
 use std::alloc::Global;
 use std::test::Fail;
+use test_files::same_bytes;
 use work_registry::{Book, Fault, Status, WorkKind};
 
 /// The third entry of the example in the profile's section on decisions, and the sixth and the seventh.
@@ -29,7 +29,7 @@ const SEVENTH: &[u8] =
 \"performing_control\":5000,\"status\":\"RJ\",\"submitter\":\"PB000000123\",\"synchronization_control\":5000,\
 \"title\":\"SONG ONE                                                    \",\"version\":null,\"work\":null}\n";
 
-/// The conflicts, the rejection, and those of a submitter that there is not.
+/// The conflicts, the rejection, and the entries of a submitter that does not exist.
 fn expect_narrow_objects(alloc: Global, book: &Book) -> Result<(), Fail> {
     let mut wanted = Wanted::all();
     wanted.status = Some(Status::Conflict);
@@ -93,7 +93,8 @@ fn sums_up_decisions_as_an_object(rt: HostRuntime) -> Result<(), Fail> {
     )
 }
 
-/// Hands in works of which is left, in this order of rights: nothing and 50.01 per cent, 25 per cent and all, 50 and 25.01.
+/// Hands in works of which is left, in this order of rights: nothing and 50.01 per cent, 25 per cent and all, 50 and
+/// 25.01.
 fn hand_in_bands(alloc: Global, book: &mut Book) -> Result<(), Fail> {
     let told = (ONE, WorkKind::Nwr, TITLE, W1, None, [10000, 7500, 5000]);
     hand_in(alloc, book, told, &[])?;

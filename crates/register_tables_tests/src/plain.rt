@@ -27,7 +27,7 @@ fn tells_plain_decisions(rt: HostRuntime) -> Result<(), Fail> {
     expect_decisions(alloc, &book)
 }
 
-/// Hands in a transaction with shares that have hundredths and none, and one with a fault and more than is there to share.
+/// Hands in a transaction with shares that have hundredths and none, and one with a fault and more than all of a right.
 fn hand_in_shares(alloc: Global, book: &mut Book) -> Result<(), Fail> {
     let told = (ONE, WorkKind::Nwr, TITLE, W1, ISWC, [5007, 10, 1]);
     hand_in(alloc, book, told, &[])?;

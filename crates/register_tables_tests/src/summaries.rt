@@ -1,4 +1,5 @@
-//! Summaries of the example of the profile's decisions, of works in each band, and of more works with conflicts than are told.
+//! Summaries of the example of the profile's decisions, of works in each band, and of more works with conflicts than
+//! are printed.
 
 use crate::books::{
     ONE, OTHER, TITLE, Transaction, W1, W7, decisions, expect_summary, hand_in, hand_in_all,
@@ -61,7 +62,7 @@ fn hand_in_conflicts(alloc: Global, book: &mut Book) -> Result<(), Fail> {
     hand_in(alloc, book, told, &[])
 }
 
-/// Eleven works have a conflict, and the last one two. Those with one stand by number, and the eleventh is not told.
+/// Eleven works have a conflict, and the last one two. Those with one stand by number, and the eleventh is not printed.
 #[test]
 fn tells_ten_conflicts(rt: HostRuntime) -> Result<(), Fail> {
     let alloc = rt.alloc();

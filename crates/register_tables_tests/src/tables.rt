@@ -84,8 +84,8 @@ PB000000123,W1            ,1,3,SONG ONE                                         
     )
 }
 
-/// A work of which nothing is controlled is listed, and the one before it too, whose ISWC came with its second version. The three
-/// rights stand in their columns.
+/// A work of which nothing is controlled is listed, and the one before it too, whose ISWC came with its second version.
+/// The three rights stand in their columns.
 #[test]
 fn tells_each_work(rt: HostRuntime) -> Result<(), Fail> {
     let alloc = rt.alloc();

@@ -1,4 +1,4 @@
-//! What is wanted of tables.
+//! The rows that are wanted of tables.
 
 use crate::books::{
     ONE, OTHER, TITLE, W1, W7, expect_claims, expect_history, expect_works, hand_in,
@@ -53,7 +53,7 @@ fn narrows_claims(rt: HostRuntime) -> Result<(), Fail> {
     expect_narrow_claims(alloc, &book)
 }
 
-/// The second work, and a third that there is not.
+/// The second work, and a third that does not exist.
 fn expect_narrow_works(alloc: Global, book: &Book) -> Result<(), Fail> {
     let mut wanted = Wanted::all();
     wanted.work = Some(2);
@@ -99,7 +99,7 @@ fn expect_narrow_history(alloc: Global, book: &Book) -> Result<(), Fail> {
     expect_history(alloc, book, &wanted, b"")
 }
 
-/// An entry keeps its index where others are left out. A rejection names no work.
+/// An entry keeps its index if others are left out. A rejection names no work.
 #[test]
 fn narrows_the_history(rt: HostRuntime) -> Result<(), Fail> {
     let alloc = rt.alloc();

@@ -20,7 +20,7 @@ use Rattle.registry_desk.specs.declared.view.View.{View}
 use Rattle.registry_desk.specs.declared.seat.Counts.{Counts}
 use Rattle.registry_desk.specs.Plays.{Seated}
 use Rattle.registry_desk.specs.Standing.{Rests}
-use Rattle.registry_desk.specs.Views.{phase_of, seats_of, spent_view, most_turns, opening_view}
+use Rattle.registry_desk.specs.Views.{phase_of, seats_of, spent_view, max_turns, opening_view}
 use Rattle.registry_desk.specs.Rule.{ViewFits, Kept}
 use Rattle.registry_desk.specs.Closing.{Closes}
 use Rattle.registry_desk.proofs.Lists.{there, no_other, prefix_self}
@@ -134,7 +134,7 @@ closes_desk id v words slots first live away own all final =
 
 -- the opening seat as it comes
 pub opening_rests : (b : BookValue) (seats : ℕ) (me : Seated) (c : Counts) → 1 ≤ seats → seats ≤ 64 → me ≡ (opening_view b seats, [])
-    → c ≡ record { session = 0; turns_left = most_turns; seats_left = seats - 1; given = 0; met = 0 } → Rests me c
+    → c ≡ record { session = 0; turns_left = max_turns; seats_left = seats - 1; given = 0; met = 0 } → Rests me c
 opening_rests b seats me c some_seat few is are = subst (λ (x : Seated × Counts). Rests x.0 x.1) (λ i. (sym is i, sym are i)) (record {
   counted = record {
     live = refl;

@@ -7,7 +7,7 @@ use Rattle.work_registry.specs.EntryValue.{EntryValue}
 use Rattle.work_registry.specs.BookValue.{BookValue}
 use Rattle.registry_desk.specs.declared.view.View.{View}
 use Rattle.registry_desk.specs.declared.seat.Counts.{Counts}
-use Rattle.registry_desk.specs.Views.{most_turns, open_flag, entered}
+use Rattle.registry_desk.specs.Views.{max_turns, open_flag, entered}
 use Rattle.registry_desk.specs.Plays.{Seated, Finds, Looks, book_with}
 use Rattle.registry_desk.specs.Standing.{DeskId, Standing, Counted, Waits, Stays}
 use Rattle.registry_desk.specs.Turns.{Enters}
@@ -18,7 +18,7 @@ pub counted_again : (v w : View) (c : Counts) → w ≡ record v { phase = w.pha
 counted_again v w c is k = record {
   live = ap (λ (z : View). z.spent) is ∙ k.live;
   session = ap (λ (z : View). z.session) is ∙ k.session;
-  turns = subst (λ (z : View). z.turns + c.turns_left ≡ most_turns) (sym is) k.turns;
+  turns = subst (λ (z : View). z.turns + c.turns_left ≡ max_turns) (sym is) k.turns;
   left = ap (λ (z : View). z.left) is ∙ k.left;
   given = ap (λ (z : View). z.given) is ∙ k.given;
   met = ap (λ (z : View). length z.met) is ∙ k.met;

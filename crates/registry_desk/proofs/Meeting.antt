@@ -13,7 +13,7 @@ use Rattle.ticket_core.specs.declared.array_lock.ArrayPhase.TheVariants.{Away, I
 use Rattle.work_registry.specs.EntryValue.{EntryValue}
 use Rattle.registry_desk.specs.declared.view.View.{View}
 use Rattle.registry_desk.specs.declared.view.Met.{Met}
-use Rattle.registry_desk.specs.Views.{phase_of, seats_of, turns_of, spent_view, most_turns, met_of, meeting}
+use Rattle.registry_desk.specs.Views.{phase_of, seats_of, turns_of, spent_view, max_turns, met_of, meeting}
 use Rattle.registry_desk.specs.Rule.{MetFits, ViewFits, Kept}
 use Rattle.registry_desk.specs.Plays.{Seated, Counts}
 use Rattle.registry_desk.specs.declared.seat.Counts.{Counts as CountsOf}
@@ -53,9 +53,9 @@ meets_seat id v other w first live live' away unmet s r at apart at' =
     let one_v = own_seats v live in let one_b = own_seats both live in
     let more = length-append v.met (met_of w ∷ []) in
     let new_met : MetFits r.history r.limit (met_of w) = record { list = g.list live'; front = g.front; mark = g.mark } in
-    let bound : both.met_turns ≤ length both.met * most_turns = let a = f.met_turns in let b = g.turns in let c = g.met_turns in
-    let ec : length both.met * most_turns ≡ (length v.met + 1) * most_turns = ap (λ (k : ℕ). k * most_turns) more in
-    let ew : length w.met * most_turns ≡ 0 = ap (λ (l : List Met). length l * most_turns) lone in omega arith in
+    let bound : both.met_turns ≤ length both.met * max_turns = let a = f.met_turns in let b = g.turns in let c = g.met_turns in
+    let ec : length both.met * max_turns ≡ (length v.met + 1) * max_turns = ap (λ (k : ℕ). k * max_turns) more in
+    let ew : length w.met * max_turns ≡ 0 = ap (λ (l : List Met). length l * max_turns) lone in omega arith in
     let still_spent : (j : ℕ) → get_elem? s.views j ≡ some spent_view → get_elem? views j ≡ some spent_view =
     λ j gone. kept j spent_view (not_spent s.views other j w there_w live' gone) (not_spent s.views id j v at live gone) gone in record {
       history = r.history;

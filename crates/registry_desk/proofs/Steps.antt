@@ -19,7 +19,7 @@ use Rattle.work_registry.specs.History.{IsHistory}
 use Rattle.work_registry.specs.Replay.{made}
 use Rattle.registry_desk.specs.declared.view.View.{View}
 use Rattle.registry_desk.specs.declared.view.Met.{Met}
-use Rattle.registry_desk.specs.Views.{phase_of, seats_of, turns_of, spent_view, most_turns, drawn, looked, entered, passed}
+use Rattle.registry_desk.specs.Views.{phase_of, seats_of, turns_of, spent_view, max_turns, drawn, looked, entered, passed}
 use Rattle.registry_desk.specs.Rule.{DeskState, is_open, shown_lock, ViewFits, NobodyInside, Kept}
 use Rattle.registry_desk.specs.Plays.{Seated, book_with, Draws, Looks, Passes as PassesOn}
 use Rattle.registry_desk.proofs.Lists.{within, read, there, sum_set, sum_bound}
@@ -38,17 +38,17 @@ pub own_seats : (v : View) → v.spent ≡ false → seats_of v ≡ 1 + length v
 own_seats v live = ap (λ (b : Bool). cond b 0 (1 + length v.met)) live
 
 -- a view counts no more turns than its seats can have
-bounded_turns : (n i : ℕ) (history : List EntryValue) (limit : ℕ) (v : View) → ViewFits n history limit i v → turns_of v ≤ seats_of v * most_turns
+bounded_turns : (n i : ℕ) (history : List EntryValue) (limit : ℕ) (v : View) → ViewFits n history limit i v → turns_of v ≤ seats_of v * max_turns
 bounded_turns n i history limit v f = by v.spent refl where
-  by : (b : Bool) → v.spent ≡ b → turns_of v ≤ seats_of v * most_turns
-  by true gone = subst (λ (z : View). turns_of z ≤ seats_of z * most_turns) (sym (f.gone gone)) (omega arith)
-  by false live = let a = f.turns in let b = f.met_turns in let e = ap (λ (k : ℕ). k * most_turns) (own_seats v live) in omega arith
+  by : (b : Bool) → v.spent ≡ b → turns_of v ≤ seats_of v * max_turns
+  by true gone = subst (λ (z : View). turns_of z ≤ seats_of z * max_turns) (sym (f.gone gone)) (omega arith)
+  by false live = let a = f.turns in let b = f.met_turns in let e = ap (λ (k : ℕ). k * max_turns) (own_seats v live) in omega arith
 
 -- the numbers of tickets stay small
 pub small_tickets : (s : DeskState) → Kept s → get_or s.words 0 0 < 2 ^ 38
-small_tickets s r = let b = sum_bound turns_of seats_of most_turns s.views (λ i v at. bounded_turns (length s.views) i r.history r.limit v (r.each i v at)) in let t = r.total in let n = r.seats in
+small_tickets s r = let b = sum_bound turns_of seats_of max_turns s.views (λ i v at. bounded_turns (length s.views) i r.history r.limit v (r.each i v at)) in let t = r.total in let n = r.seats in
     let f = there s.views 0 r.some_seat in let o = (r.each 0 f.0 f.1).opens refl in let e = o.1 in let l = o.2 in
-    let m : sum_by seats_of s.views * most_turns ≡ length s.views * most_turns = ap (λ (k : ℕ). k * most_turns) n in omega arith
+    let m : sum_by seats_of s.views * max_turns ≡ length s.views * max_turns = ap (λ (k : ℕ). k * max_turns) n in omega arith
 
 -- One seat's view changes to one of as many seats, and the history may grow by what that seat made
 module _ (s : DeskState) (r : Kept s) (id : ℕ) (v w : View) (at : get_elem? s.views id ≡ some v) where
@@ -122,14 +122,14 @@ module _ (s : DeskState) (r : Kept s) (id : ℕ) (v w : View) (at : get_elem? s.
 
 -- a view of the same session, turns and entries, in another phase, fits where the old one does
 pub rephased : (n i : ℕ) (history : List EntryValue) (limit : ℕ) (v w : View) → v.spent ≡ false → w ≡ record v { phase = w.phase; turns = w.turns; looks = w.looks; held = w.held }
-    → w.turns ≤ most_turns → ((t : ℕ) → w.phase ≡ Inside t → w.held ≡ history)
+    → w.turns ≤ max_turns → ((t : ℕ) → w.phase ≡ Inside t → w.held ≡ history)
     → ViewFits n history limit i v → ViewFits n history limit i w
 rephased n i history limit v w live is room holding f =
     let live' : w.spent ≡ false = ap (λ (z : View). z.spent) is ∙ live in record {
       own = λ _. ap (λ (z : View). z.session) is ∙ f.own live;
       gone = λ e. absurd (let clash : true ≡ false = sym e ∙ live' in cc);
       turns = room;
-      met_turns = subst (λ (z : View). z.met_turns ≤ length z.met * most_turns) (sym is) f.met_turns;
+      met_turns = subst (λ (z : View). z.met_turns ≤ length z.met * max_turns) (sym is) f.met_turns;
       opened = subst (λ (z : View). IsPrefix z.opened history) (sym is) f.opened;
       front = subst (λ (z : View). IsPrefix z.front history) (sym is) f.front;
       list = λ _. subst (λ (z : View). made history z.session ≡ z.list) (sym is) (f.list live);
@@ -150,7 +150,7 @@ module _ (slots id : ℕ) (me : Seated) (live : me.0.spent ≡ false) where
   v = me.0
 
   -- a seat draws a ticket
-  pub draw_allowed : v.phase ≡ Away → v.turns < most_turns
+  pub draw_allowed : v.phase ≡ Away → v.turns < max_turns
       → Allows Kept slots id me 0 (λ n. (n + 1) % 2 ^ 64) (Draws (step slots 0 1 0 none) me)
   draw_allowed away room s r size at small =
       let n : ℕ = get_or s.words 0 0 in let w : View = drawn v n in let below = small_tickets s r in let wide = r.words in

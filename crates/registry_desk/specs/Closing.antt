@@ -10,11 +10,12 @@ use Rattle.registry_desk.specs.declared.view.View.{View}
 use Rattle.registry_desk.specs.declared.view.Met.{Met}
 use Rattle.registry_desk.specs.Rule.{MetFits}
 
--- the history begins with what each of these seats saw last
+-- the history begins with what each of these seats, which the opening seat met, saw last
 abbrev pub BeginsWithEach : List Met → List EntryValue → Type 0
 BeginsWithEach met history = (k : ℕ) (m : Met) → get_elem? met k ≡ some m → IsPrefix m.front history
 
--- of the opening seat's view v
+-- what a desk is closed with: a book that continues the history from the opening with the entries of all seats, where
+-- v is the opening seat's view
 pub record Closes (v : View) (b : BookValue) : Type 0 where
   pub limit : b.limit ≡ v.limit
   -- a history of one registry

@@ -1,5 +1,5 @@
--- Each atomic step of the running desk is its event of the pure lock: what the desk shows after the step is what the
--- lock that it showed before answers to the event.
+-- Each atomic step of the running desk is its event of the pure lock: the lock that the desk shows after the step is
+-- what the lock that it showed before answers to the event.
 use Rattle.std.specs.Prelude.{◌≡◌, ◌≢◌, ℕ, ◌+◌, ◌%◌, ◌^◌, Bool, List, slice_index, slice_set, map}
 use mathlib.Core.Option.{some}
 use lib.ListN.{get_elem?}
@@ -22,11 +22,11 @@ abbrev pub ShowsLawfulLock : Type 0
 ShowsLawfulLock = (s : DeskState) → Kept s
     → IsLawfulArrayState (shown_lock s.words s.views) × AtMostOneInside (map ticket_phase (map phase_of s.views))
 
--- the seat has the view, where the rule holds
+-- the rule holds, and the seat with this number has this view
 abbrev pub Has : DeskState → ℕ → View → Type 0
 Has s id v = Kept s × (get_elem? s.views id ≡ some v)
 
--- the lock that is shown answers the event with this outcome, and then is the one that these words and views show
+-- the lock that is shown answers the event with this outcome, and is then the one that these words and views show
 abbrev pub Answers : DeskState → ArrayEvent → List ℕ → List View → ArrayOutcome → Type 0
 Answers s event words views outcome = array_answer (shown_lock s.words s.views) event ≡ (shown_lock words views, outcome)
 
@@ -35,19 +35,19 @@ abbrev pub DrawIsEvent : Type 0
 DrawIsEvent = (s : DeskState) (id : ℕ) (v : View) → Has s id v → v.phase ≡ Away → let n = slice_index s.words 0 in
     Answers s (Draw id) (slice_set s.words 0 ((n + 1) % 2 ^ 64)) (slice_set s.views id (drawn v n)) (Drew n)
 
--- the load of the flag is a Look, which enters where the word is an open flag's
+-- the load of an open flag is a Look that enters
 abbrev pub EnterIsEvent : Type 0
 EnterIsEvent = (s : DeskState) (id t : ℕ) (v : View) (history : List EntryValue) → Has s id v → v.phase ≡ Waiting t
     → slice_index s.words (flag_word_of t) ≡ open_flag
     → Answers s (Look id) s.words (slice_set s.views id (entered v t history)) (Enters t)
 
--- and waits where it is not
+-- the load of a flag that is not open is a Look that waits
 abbrev pub WaitIsEvent : Type 0
 WaitIsEvent = (s : DeskState) (id t : ℕ) (v : View) → Has s id v → v.phase ≡ Waiting t
     → let found = slice_index s.words (flag_word_of t) in found ≢ open_flag
     → Answers s (Look id) s.words (slice_set s.views id (looked v found)) Waits
 
--- the store of 0 into the flag is a Shut
+-- the store of 0 into the seat's own flag is a Shut
 abbrev pub ShutIsEvent : Type 0
 ShutIsEvent = (s : DeskState) (id t : ℕ) (v : View) (full : Bool) (history : List EntryValue) → Has s id v
     → v.phase ≡ Inside t

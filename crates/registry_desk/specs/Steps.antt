@@ -15,31 +15,34 @@ use Rattle.registry_desk.specs.Plays.{Seated}
 use Rattle.registry_desk.specs.Kinds.{Kind, draws, looks, shuts, passes, gives, meets, exchanges, Tells, left_by, given_by, joined_by}
 use Rattle.registry_desk.specs.Rule.{DeskState, shown_lock, Kept}
 
--- what a step of this kind writes into a word in which it finds n
+-- the value that a step of this kind writes into a word in which it finds n
 abbrev pub written_by : Kind → ℕ → ℕ
 written_by draws n = (n + 1) % 2 ^ 64
 written_by (shuts full) n = 0
 written_by passes n = open_flag
 written_by _ n = n
 
--- the number that it tells: the one found, or of a store the one stored
+-- the number that a step of this kind reports: the one found, or where it stores one the one stored
 abbrev pub number_of : Kind → ℕ → ℕ
 number_of (shuts full) n = 0
 number_of passes n = open_flag
 number_of _ n = n
 
--- The seat `id`, as `me` shows it, makes a step on a word: what it writes, and how the seat is after it, is as the kind
--- says.
+-- The seat `id`, whose view and slots are `me`, makes a step on a word: what it writes, and how the seat is after it,
+-- is as the kind says.
 pub record StepsOnWord (kind : Kind) (id : ℕ) (s after : DeskState) : Type 0 where
   pub me : Seated
   pub there : get_elem? s.views id ≡ some me.0
+  -- the step, which says on which word it is
   pub step : Step (Option BookValue)
+  -- the seat's view after it
   pub view : View
+  -- what the step does with the slot of the book
   pub act : Act (Option BookValue)
   pub told : Tells kind step me (number_of kind (slice_index s.words step.word)) (view, carried_after me.1 act)
   pub state : after ≡ stepped s step.word (written_by kind (slice_index s.words step.word)) id me.1 view act
 
--- the seat `id` gives a seat, which stands behind all others
+-- the seat `id` gives a seat, which stands behind all others in the list
 pub record Gives (id : ℕ) (s after : DeskState) : Type 0 where
   pub view : View
   pub there : get_elem? s.views id ≡ some view
@@ -49,6 +52,7 @@ pub record Gives (id : ℕ) (s after : DeskState) : Type 0 where
 pub record Meets (id : ℕ) (s after : DeskState) : Type 0 where
   pub view : View
   pub there : get_elem? s.views id ≡ some view
+  -- the number of the seat that it meets
   pub other : ℕ
   pub apart : other ≢ id
   pub met : View
@@ -56,15 +60,15 @@ pub record Meets (id : ℕ) (s after : DeskState) : Type 0 where
   pub away : met.phase ≡ Away
   pub state : after ≡ record s { views = slice_set (slice_set s.views id (joined_by meets view met)) other spent_view }
 
--- A step of this kind by the seat `id` leads from one state of the desk to the other. The slot that the exchange
--- changes is out with the seat, so that the state stays.
+-- A step of this kind by the seat `id` leads from one state of the desk to the other. An exchange changes the book,
+-- which is out of its slot with the seat, so that the state of the desk stays.
 abbrev pub Makes : Kind → ℕ → DeskState → DeskState → Type 0
 Makes gives id s after = Gives id s after
 Makes meets id s after = Meets id s after
 Makes exchanges id s after = after ≡ s
 Makes kind id s after = StepsOnWord kind id s after
 
--- the lock that the desk shows
+-- the state of the pure lock that the desk shows
 abbrev pub shown : DeskState → ArrayState
 shown s = shown_lock s.words s.views
 
@@ -83,7 +87,7 @@ IsEvent passes id lock after = array_answer lock (Pass id) ≡ (after, Passes)
 IsEvent gives id lock after = after ≡ one_place_more lock
 IsEvent _ id lock after = after ≡ lock
 
--- each step from a state where the rule holds is that to the lock
+-- each step from a state where the rule holds is to the lock what its kind says
 abbrev pub EachStepIsEvent : Type 0
 EachStepIsEvent = (kind : Kind) (id : ℕ) (s after : DeskState) → Kept s → Makes kind id s after
     → IsEvent kind id (shown s) (shown after)

@@ -16,6 +16,7 @@ use Rattle.work_registry.specs.Replay.{entry_for}
 pub record World : Type 0 where
   pub lock : ArrayState
   pub history : List EntryValue
+  -- whether the place that is inside has added its entry
   pub used : Bool
 
 -- an event of the lock, or a call that a place applies
@@ -23,17 +24,18 @@ pub data WorldEvent : Type 0 where
   locks : ArrayEvent → WorldEvent
   applies : ℕ → CallValue → WorldEvent
 
--- who comes in has added no entry yet
+-- whether the place that is inside has added its entry, after this outcome: one that enters has added none yet
 abbrev pub used_after : Bool → ArrayOutcome → Bool
 used_after used (Enters t) = false
 used_after used _ = used
 
--- what a call of a place in this phase adds: where it is inside, and has added none yet, one entry, with the
--- registry's reply
+-- what a call of a place in this phase adds: where it is inside and has added none yet, one entry with the registry's
+-- reply
 abbrev pub added_at : World → ℕ → CallValue → ArrayPhase → List EntryValue
 added_at w place call (Inside t) = if w.used then [] else entry_for place w.history call ∷ []
 added_at w place call _ = []
 
+-- whether the place that is inside has added its entry, after a call of a place in this phase
 abbrev pub used_at : World → ArrayPhase → Bool
 used_at w (Inside t) = true
 used_at w _ = w.used
@@ -43,6 +45,7 @@ abbrev pub added : World → WorldEvent → List EntryValue
 added w (locks e) = []
 added w (applies place call) = added_at w place call (array_phase_at w.lock.phases place)
 
+-- the world after an event
 abbrev pub world_after : World → WorldEvent → World
 world_after w (locks e) = let a = array_answer w.lock e in
     record { lock = a.0; history = w.history; used = used_after w.used a.1 }
@@ -52,11 +55,12 @@ world_after w (applies place call) = record {
   used = used_at w (array_phase_at w.lock.phases place);
 }
 
+-- the world after a run, which is a list of events
 abbrev pub run_world : World → List WorldEvent → World
 run_world w [] = w
 run_world w (e ∷ es) = run_world (world_after w e) es
 
--- whether it is a call of the place
+-- the event is a call of this place
 abbrev pub is_call_of : ℕ → WorldEvent → Bool
 is_call_of place (locks e) = false
 is_call_of place (applies p call) = p == place

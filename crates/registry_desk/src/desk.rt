@@ -2,7 +2,7 @@
 
 ghost use Rattle.std.specs.Prelude.{◌≡◌, ◌≢◌, ℕ, ◌+◌, ◌<◌, ◌≤◌, true, length, vec_len, IfOk, IfErr};
 ghost use Rattle.work_registry.specs.Replay.{is_opening};
-ghost use Rattle.registry_desk.specs.Views.{most_turns, opening_view, drawn, giving, given_view, meeting};
+ghost use Rattle.registry_desk.specs.Views.{max_turns, opening_view, drawn, giving, given_view, meeting};
 ghost use Rattle.registry_desk.specs.Closing.{Closes};
 ghost use Rattle.registry_desk.specs.Kinds.{draws, looks, Moves};
 ghost use Rattle.registry_desk.specs.Turns.{LooksFor, view_after};
@@ -26,9 +26,10 @@ use work_registry::Book;
 #[derive(Drop)]
 pub struct Desk<A: Allocator + Copy + Drop = Global> {
     pub(crate) table: Table<Option<HeldBook<A>>, View, Opening<A>, DeskRule, A>,
-    /// Who waits with a ticket sleeps at the ticket's place, until the one before it passes the lock on.
+    /// A place to sleep for each flag: the holder of a ticket sleeps there until the ticket before it passes the lock
+    /// on.
     pub(crate) sleepers: Vec<EventCount, A>,
-    /// Who hands a call in comes through the door first.
+    /// Admits one seat at a time, before it draws a ticket.
     pub(crate) door: Door,
 }
 
@@ -43,7 +44,7 @@ impl<A: Allocator + Copy + Drop> Model for Desk<A> {
     ghost invariant = { λ d. (d.table.shared.table_id.words ≡ 65) × (d.table.shared.table_id.slots ≡ 1) × (vec_len d.sleepers ≡ 64) };
 }
 
-/// There was no memory for a desk. The book comes back as it was.
+/// A desk could not be allocated. The book comes back as it was.
 #[derive(Drop)]
 pub struct OpenRefused<A: Allocator + Copy + Drop = Global> {
     /// The book, handed back.
@@ -51,9 +52,26 @@ pub struct OpenRefused<A: Allocator + Copy + Drop = Global> {
 }
 
 impl<A: Allocator + Copy + Drop> Desk<A> {
-    /// Opens a desk with a book, for 1 to 64 seats, the opening seat among them, and gives the opening seat.
+    /// Opens a desk with a book, and returns it with the opening seat. `seats` is the number of its seats, 1 to 64, the
+    /// opening seat included.
     ///
-    /// The book may hold entries, all of the opening session. It comes back where there is no memory for the desk.
+    /// The book may hold entries, all of the opening session. It comes back if the desk cannot be allocated.
+    ///
+    /// # Examples
+    ///
+    /// A desk for two workers, who each get a seat.
+    ///
+    /// ```rust
+    /// let Ok((desk, mut opening)) = Desk::open(alloc, Book::new(alloc, 100), 3) else {
+    ///     return Err(Fail::from("memory"));
+    /// };
+    /// let first = desk.split(&mut opening);
+    /// let second = desk.split(&mut opening);
+    /// // Each worker hands in at its seat, and gives it back.
+    /// desk.meet(&mut opening, first);
+    /// desk.meet(&mut opening, second);
+    /// let book = desk.close(opening);
+    /// ```
     pub fn open(alloc: A, book: Book<A>, seats: u32) -> Result<(Desk<A>, Seat<A>), OpenRefused<A>>
         requires seats { (1 ≤ seats) × (seats ≤ 64) }
         requires opening { is_opening book.history ≡ true }
@@ -119,7 +137,7 @@ impl<A: Allocator + Copy + Drop> Desk<A> {
     /// The seat draws the next ticket, which takes one of its turns, and waits from then on.
     pub fn draw(&self, seat: Seat<A>) -> Waiting<A>
         requires desk { seat.desk ≡ self.now }
-        requires turns { seat.view.turns < most_turns }
+        requires turns { seat.view.turns < max_turns }
         ensures drawn { (ticket : ℕ) × (result ≡ record { desk = self.now; view = drawn seat.view ticket }) }
         ensures step { Moves draws seat.view result.view }
     {
@@ -206,7 +224,7 @@ impl<A: Allocator + Copy + Drop> Desk<A> {
 
 /// The numbers of a new seat.
 fn counts_of(session: u32, seats_left: u32) -> Counts
-    ensures { result ≡ record { session = session; turns_left = most_turns; seats_left = seats_left; given = 0; met = 0 } }
+    ensures { result ≡ record { session = session; turns_left = max_turns; seats_left = seats_left; given = 0; met = 0 } }
 {
     Counts {
         session,

@@ -1,4 +1,4 @@
-//! The door to the line at the desk.
+//! Admission to the desk's queue, one seat at a time.
 
 use crossbeam_utils::Backoff;
 use crossbeam_utils::sync::EventCount;
@@ -7,25 +7,26 @@ use std::sync::atomic::Ordering::SeqCst;
 use std::sync::atomic::{AtomicBool, AtomicU64};
 use std::thread;
 
-/// How often a seat looks at the door before it sleeps there.
+/// The number of times that a seat looks whether it is admitted before it sleeps.
 const FEW_LOOKS: u32 = 30;
 
-/// How many of these looks follow each other within some microseconds, as long as a few turns take. Before each of the
-/// others any thread that waits for the processor goes on.
+/// The number of these looks that follow each other within some microseconds, as long as a few turns take. Before each
+/// of the others any thread that waits for the processor goes on.
 const FIRST_LOOKS: u32 = 7;
 
-/// The door to the line, which lets one seat in at a time. Where it is shut, whoever comes looks a few times and then
-/// sleeps, and is let in by no certain order.
+/// Admits one seat at a time to the queue. A seat that comes while another is admitted looks a few times and then
+/// sleeps. Seats are admitted in no certain order.
 ///
-/// It bears on time alone, since a seat takes its turn by the flag of its ticket. With more seats in line each turn goes
-/// to a certain thread, to which the book has to be brought, and which has to be woken where it fell asleep, turn after
-/// turn. At the door whoever looks first goes in, most often the one that left last, and the others come in between. A
-/// sleeper is called only by one that leaves with nobody looking: called at each turn, it would find the door shut again.
+/// It affects time alone, since a seat takes its turn by the flag of its ticket. With more seats in the queue each turn
+/// goes to a certain thread. The book has to be brought to that thread, and it has to be woken if it fell asleep, turn
+/// after turn. Here the seat that looks first is admitted, most often the one that left last, and the others come in
+/// between. A seat that leaves calls a sleeper only if nobody is looking: a sleeper called at each turn would find
+/// another seat admitted again.
 #[derive(Drop)]
 pub(crate) struct Door {
-    /// Whether a seat is in line.
+    /// Whether a seat is admitted.
     taken: AtomicBool,
-    /// How many seats are awake at the door and look.
+    /// The number of seats that are awake here and look.
     looking: AtomicU64,
     /// Whether a sleeper was called and has not looked yet.
     called: AtomicBool,
@@ -42,7 +43,7 @@ impl Door {
         }
     }
 
-    /// Stands in line, as soon as the door lets it in.
+    /// Waits until the seat is admitted to the queue.
     pub(crate) fn come_in(&self, rt: &impl Wait) {
         if self.lets_in() {
             return;
@@ -57,12 +58,12 @@ impl Door {
         self.looking.fetch_sub(1, SeqCst);
     }
 
-    /// Looks, and answers whether the door was open and is taken now.
+    /// Looks once. Returns whether no seat was admitted, so that this one is now.
     fn lets_in(&self) -> bool {
         !self.taken.load(SeqCst) && !self.taken.swap(true, SeqCst)
     }
 
-    /// Looks a few times, at growing distances, and answers whether it is let in.
+    /// Looks a few times, at growing intervals, and returns whether the seat is admitted.
     fn lets_in_soon(&self) -> bool {
         let backoff = Backoff::new();
         for look in 0..FEW_LOOKS {
@@ -77,11 +78,11 @@ impl Door {
         false
     }
 
-    /// Sleeps until called, unless the door is open by now.
+    /// Sleeps until called, unless admission is open by now.
     ///
-    /// It announces its sleep, takes back any call and is no longer counted before it looks, so whoever leaves after that
-    /// look calls anew; and once it is counted again it takes back the call that woke it, so that the next one to leave
-    /// with nobody looking calls the next sleeper.
+    /// It announces its sleep, takes back any call and is no longer counted before it looks. So a seat that leaves
+    /// after that look calls again. Once it is counted again it takes back the call that woke it. So the next seat that
+    /// leaves with nobody looking calls the next sleeper.
     fn sleep(&self, rt: &impl Wait) {
         let sleep = self.sleepers.prepare_wait();
         self.called.store(false, SeqCst);
@@ -95,8 +96,8 @@ impl Door {
         self.called.store(false, SeqCst);
     }
 
-    /// Leaves the line. Who leaves with nobody looking calls a sleeper, unless one is called already: whoever looks is let
-    /// in, or looks once more before it sleeps.
+    /// Leaves the queue. With nobody looking it calls a sleeper, unless one is called already. A seat that looks is
+    /// admitted, or looks once more before it sleeps.
     pub(crate) fn go_out(&self) {
         self.taken.store(false, SeqCst);
         if self.looking.load(SeqCst) == 0 && !self.called.swap(true, SeqCst) {

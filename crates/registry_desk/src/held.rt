@@ -13,8 +13,8 @@ use std::boxed::Box;
 use std::marker::Model;
 use work_registry::{Book, Call, Refused, Reply};
 
-/// The book, which lies at one place of memory for as long as the desk is open: a turn hands on where it lies, and moves
-/// no book. A contract sees the book.
+/// The book, which lies at one place of memory for as long as the desk is open. A turn hands on a pointer to it, and
+/// moves no book. A contract sees the book.
 #[derive(Drop)]
 pub(crate) struct HeldBook<A: Allocator + Copy + Drop> {
     pub(crate) book: Box<Book<A>, A>,
@@ -29,7 +29,7 @@ impl<A: Allocator + Copy + Drop> Model for HeldBook<A> {
 }
 
 impl<A: Allocator + Copy + Drop> HeldBook<A> {
-    /// Holds a book. It comes back as it was where there is no memory for it.
+    /// Holds a book. It comes back as it was if its place cannot be allocated.
     pub(crate) fn hold(alloc: A, book: Book<A>) -> Result<HeldBook<A>, Book<A>>
         ensures held { IfOk result (λ h. h ≡ book) }
         ensures back { IfErr result (λ b. b ≡ book) }

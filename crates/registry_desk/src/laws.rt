@@ -28,11 +28,11 @@ pub fn shows_a_lawful_lock()
     ensures { ShowsLawfulLock }
 {}
 
-/// A run of the desk, by any steps of any seats in any order, shows a run of the pure lock from a new one. So at most one
-/// seat is inside, by that lock's own law.
+/// A run of the desk, by any steps of any seats in any order, shows a run of the pure lock from a new one. So at most
+/// one seat is inside, by that lock's own law.
 ///
-/// Such a run takes nothing from the rule but that tickets are left before each step, and for the last that there are at
-/// most 64 seats. The rule keeps both.
+/// Such a run needs two things of the rule: that tickets are left before each step, and, for the last claim, that there
+/// are at most 64 seats. The rule keeps both.
 pub fn shows_a_run_of_the_lock()
     ensures run { ShowsRun }
     ensures one_inside { RunsHaveOneInside }
@@ -42,11 +42,11 @@ pub fn shows_a_run_of_the_lock()
     ticket_core::laws::array_at_most_one_inside();
 }
 
-/// Each step of the running desk, of whatever kind, is its event, or leaves the lock that is shown as it was; where a
-/// seat is given, the lock has a place more, which is away.
+/// Each step of the running desk, of whatever kind, is its event of the lock, or leaves the lock that is shown as it
+/// was. If a seat is given, the lock has one more place, which is away.
 ///
-/// Drawing a ticket is a Draw, looking at a flag a Look, which enters exactly where the flag is open, shutting a flag a
-/// Shut, and opening the next one a Pass.
+/// Drawing a ticket is a Draw. Looking at a flag is a Look, which enters exactly if the flag is open. Closing a flag is
+/// a Shut, and opening the next one a Pass.
 pub fn steps_are_events()
     ensures draw { DrawIsEvent }
     ensures enter { EnterIsEvent }

@@ -1,4 +1,4 @@
-//! The rule of a desk, and what each atomic step tells the seat that makes it. Each step is of one of the kinds of
+//! The rule of a desk, and what a seat learns from each atomic step that it makes. Each step is of one of the kinds of
 //! `specs/Kinds.antt`.
 
 use crate::held::HeldBook;
@@ -45,7 +45,7 @@ impl<A: Allocator + Copy + Drop> Play<Option<HeldBook<A>>, View> for Look {
     ghost then = { Tells looks };
 }
 
-/// A seat shuts the flag of its ticket. `FULL` says whether it found the book full.
+/// A seat closes the flag of its ticket. `FULL` says whether it found the book full.
 pub(crate) struct Shut<const FULL: bool>;
 
 impl<const FULL: bool, A: Allocator + Copy + Drop> Play<Option<HeldBook<A>>, View> for Shut<FULL> {

@@ -1,7 +1,7 @@
 //! A seat: at rest, waiting, inside and leaving.
 
 ghost use Rattle.std.specs.Prelude.{◌≡◌, ◌+◌, ◌<◌, length};
-ghost use Rattle.registry_desk.specs.Views.{most_turns};
+ghost use Rattle.registry_desk.specs.Views.{max_turns};
 
 use crate::held::HeldBook;
 use crate::view::View;
@@ -42,7 +42,7 @@ impl<A: Allocator + Copy + Drop> Model for Seat<A> {
     ghost invariant = { λ s. Rests s.seat.me s.counts };
 }
 
-/// A seat that has drawn a ticket and waits. It must be spent: look, until it is inside.
+/// A seat that has drawn a ticket and waits. It must be used: look, until it is inside.
 pub struct Waiting<A: Allocator + Copy + Drop = Global> {
     pub(crate) seat: TableSeat<A>,
     pub(crate) counts: Counts,
@@ -59,7 +59,7 @@ impl<A: Allocator + Copy + Drop> Model for Waiting<A> {
     ghost invariant = { λ s. Waits s.seat.me s.counts s.ticket };
 }
 
-/// A seat that is let in, with the book. It must be spent: leave, so that the next one is let in.
+/// A seat that is inside, with the book. It must be used: leave, so that the next one gets in.
 pub struct Inside<A: Allocator + Copy + Drop = Global> {
     pub(crate) seat: TableSeat<A>,
     pub(crate) counts: Counts,
@@ -79,7 +79,7 @@ impl<A: Allocator + Copy + Drop> Model for Inside<A> {
     ghost invariant = { λ s. Stays s.seat.me s.counts s.ticket s.book s.unused s.full };
 }
 
-/// A seat that has put the book back and shut its flag. It must be spent: pass, so that the next one is let in.
+/// A seat that has put the book back and closed its flag. It must be used: pass, so that the next one gets in.
 pub(crate) struct Leaving<A: Allocator + Copy + Drop> {
     pub(crate) seat: TableSeat<A>,
     pub(crate) counts: Counts,
@@ -100,7 +100,7 @@ impl<A: Allocator + Copy + Drop> Model for Leaving<A> {
 pub enum Looked<A: Allocator + Copy + Drop = Global> {
     /// The flag of the ticket is open: the seat is inside.
     Yours(Inside<A>),
-    /// The flag of the ticket is shut: the seat waits on.
+    /// The flag of the ticket is closed: the seat waits on.
     NotYet(Waiting<A>),
 }
 
@@ -113,28 +113,29 @@ impl<A: Allocator + Copy + Drop> Seat<A> {
         self.counts.session
     }
 
-    /// How many turns it can still take: 4,294,967,295 at first.
+    /// The number of turns that it can still take: 4,294,967,295 at first.
     pub fn turns_left(&self) -> u32
-        ensures { result + self.now.view.turns ≡ most_turns }
+        ensures { result + self.now.view.turns ≡ max_turns }
     {
         self.counts.turns_left
     }
 
-    /// How many seats it can still give: of the opening seat, at first one less than the desk's seats; of another none.
+    /// The number of seats that it can still give: for the opening seat, at first one less than the desk's seats; for
+    /// another, none.
     pub fn seats_left(&self) -> u32
         ensures { result ≡ self.now.view.left }
     {
         self.counts.seats_left
     }
 
-    /// How many seats it has given.
+    /// The number of seats that it has given.
     pub fn given(&self) -> u32
         ensures { result ≡ self.now.view.given }
     {
         self.counts.given
     }
 
-    /// How many seats it has met.
+    /// The number of seats that it has met.
     pub fn met(&self) -> u32
         ensures { result ≡ length self.now.view.met }
     {

@@ -1,4 +1,4 @@
-//! A turn: calls of a seat that is inside, its leaving, and a whole turn with one call.
+//! A turn: calls of a seat that is inside, its leaving, and a complete turn with one call.
 
 ghost use Rattle.std.specs.Prelude.{◌≡◌, ◌≢◌, ℕ, ◌<◌, ◌≤◌, ◌↔◌, true, if◌then◌else◌, length, IfOk, IfErr};
 ghost use Rattle.work_registry.specs.History.{IsHistory};
@@ -6,7 +6,7 @@ ghost use Rattle.work_registry.specs.Rows.{rows_of};
 ghost use Rattle.work_registry.specs.Reply.{reply_to};
 ghost use Rattle.work_registry.specs.Numbers.{IsNumbered};
 ghost use Rattle.work_registry.specs.Refusals.{is_full, is_for_limit};
-ghost use Rattle.registry_desk.specs.Views.{most_turns, after_turn, shut, passed};
+ghost use Rattle.registry_desk.specs.Views.{max_turns, after_turn, shut, passed};
 ghost use Rattle.registry_desk.specs.Kinds.{shuts, passes, Moves};
 ghost use Rattle.registry_desk.specs.Turns.{answered, refused, ComesIn, HandsIn, LeavesBySteps, LooksFor};
 
@@ -18,15 +18,16 @@ use crate::words::{BOOK, CLOSED, OPEN, flag_word, place_after, place_of};
 use crossbeam_utils::Backoff;
 use std::alloc::Allocator;
 use std::sync::Wait;
-use work_registry::{Call, Refused, Reply, WhyRefused};
+use work_registry::{Call, HandInError, Refused, Reply};
 
-/// How often a seat in line looks before it sleeps: some tens of microseconds in all, longer than most turns take.
+/// The number of times that a seat in the queue looks before it sleeps: some tens of microseconds in all, longer than
+/// most turns take.
 const FEW_LOOKS: u32 = 20;
 
 impl<A: Allocator + Copy + Drop> Inside<A> {
     /// Hands a call in, as [`Book::apply`] does by the seat's session.
     ///
-    /// A turn has at most one answer. A call that is refused comes back, and may be handed in again.
+    /// A turn has at most one reply. A call that is refused comes back, and may be handed in again.
     pub fn apply(&mut self, call: Call<A>) -> Result<Reply, Refused<A>>
         requires session { self.old.view.session ≢ 0 }
         requires unused { self.old.unused ≡ true }
@@ -52,9 +53,9 @@ impl<A: Allocator + Copy + Drop> Inside<A> {
         }
     }
 
-    /// Puts the book back and lets the next one in.
+    /// Puts the book back and lets the next seat in.
     ///
-    /// The seat has then seen the book's history, has this turn's entry, if any, behind its others, and is marked where
+    /// The seat has then seen the book's history, and has this turn's entry, if any, behind its others. It is marked if
     /// a call of this turn found the book full.
     pub fn leave(self, desk: &Desk<A>) -> Seat<A>
         requires { self.desk ≡ desk.now }
@@ -64,7 +65,7 @@ impl<A: Allocator + Copy + Drop> Inside<A> {
         self.shut(desk).pass(desk)
     }
 
-    /// Puts the book back and shuts the flag.
+    /// Puts the book back and closes the flag.
     fn shut(self, desk: &Desk<A>) -> Leaving<A>
         requires { self.desk ≡ desk.now }
         ensures shut { (ticket : ℕ) × (result ≡ record { desk = desk.now; view = shut self.view ticket self.full self.book.history }) }
@@ -98,7 +99,7 @@ impl<A: Allocator + Copy + Drop> Inside<A> {
 }
 
 impl<A: Allocator + Copy + Drop> Leaving<A> {
-    /// Opens the flag of the next ticket, and wakes who sleeps there.
+    /// Opens the flag of the next ticket, and wakes the thread that sleeps there.
     fn pass(self, desk: &Desk<A>) -> Seat<A>
         requires { self.desk ≡ desk.now }
         ensures passed { result ≡ record { desk = desk.now; view = passed self.view } }
@@ -119,11 +120,11 @@ impl<A: Allocator + Copy + Drop> Leaving<A> {
 }
 
 impl<A: Allocator + Copy + Drop> Desk<A> {
-    /// One whole turn with one call: draws, looks until the seat is inside, hands the call in, and leaves.
+    /// A complete turn with one call: draws a ticket, looks until the seat is inside, hands the call in, and leaves.
     ///
-    /// The seat is not the opening one, and has a turn left. It waits until there is room in line, and then while others
-    /// are before it. A reply has added exactly that entry, and a refusal none: it hands the call back, and a full book
-    /// marks the seat.
+    /// The seat is not the opening one, and has a turn left. It waits until it is admitted to the queue, and then while
+    /// others are before it. With a reply, exactly that entry was added. With a refusal, none was: it hands the call
+    /// back, and a full book marks the seat.
     pub fn hand_in(
         &self,
         rt: &impl Wait,
@@ -132,7 +133,7 @@ impl<A: Allocator + Copy + Drop> Desk<A> {
     ) -> (Seat<A>, Result<Reply, Refused<A>>)
         requires desk { seat.desk ≡ self.now }
         requires session { seat.view.session ≢ 0 }
-        requires turns { seat.view.turns < most_turns }
+        requires turns { seat.view.turns < max_turns }
         ensures desk { result.0.desk ≡ self.now }
         ensures turn { HandsIn seat.view call result.1 result.0.view }
     {
@@ -147,7 +148,7 @@ impl<A: Allocator + Copy + Drop> Desk<A> {
     /// Draws a ticket, and waits until the seat is inside.
     fn enter(&self, rt: &impl Wait, seat: Seat<A>) -> Inside<A>
         requires desk { seat.desk ≡ self.now }
-        requires turns { seat.view.turns < most_turns }
+        requires turns { seat.view.turns < max_turns }
         ensures { ComesIn seat result }
     {
         let mut waiting = self.draw(seat);
@@ -160,7 +161,7 @@ impl<A: Allocator + Copy + Drop> Desk<A> {
                 Looked::Yours(inside) => return inside,
                 Looked::NotYet(still) => waiting = still,
             }
-            // Who was woken looks at once.
+            // A thread that was woken looks at once.
             if awake {
                 looks += 1;
                 backoff.spin();
@@ -169,7 +170,7 @@ impl<A: Allocator + Copy + Drop> Desk<A> {
         unreachable!()
     }
 
-    /// Looks once more. Where that is not the seat's turn, it then sleeps until the seat may be next, unless it is `awake`.
+    /// Looks once more. If it is not the seat's turn, it then sleeps until the seat may be next, unless it is `awake`.
     fn look_or_sleep(
         &self,
         rt: &impl Wait,
@@ -195,12 +196,12 @@ impl<A: Allocator + Copy + Drop> Desk<A> {
     }
 }
 
-/// The mark of a turn after a call that was not taken: a full book marks it.
-fn marks(full: bool, why: WhyRefused) -> bool
+/// Whether the turn of a refused call is marked: a full book marks it.
+fn marks(full: bool, why: HandInError) -> bool
     ensures { result ≡ if is_for_limit why then true else full }
 {
     match why {
-        WhyRefused::Full => true,
-        WhyRefused::Memory => full,
+        HandInError::Full => true,
+        HandInError::Memory => full,
     }
 }

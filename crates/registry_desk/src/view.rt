@@ -22,13 +22,14 @@ pub struct View {
     pub session: u32,
     /// Where it stands at the lock.
     pub phase: ArrayPhase,
-    /// How many turns it has taken.
+    /// The number of turns that it has taken.
     pub turns: u64,
-    /// How many turns the seats that it met have taken.
+    /// The number of turns that the seats that it met have taken.
     pub met_turns: u64,
     /// The words that it has read in the flag of its ticket since it drew, in order: 1 is an open flag.
     pub looks: LinkedList<u64>,
-    /// The entries that its ended turns added, in order. Of the opening seat, the history that the desk was opened with.
+    /// The entries that its ended turns added, in order. Of the opening seat, the history that the desk was opened
+    /// with.
     pub list: LinkedList<Entry>,
     /// The history that it saw last.
     pub front: LinkedList<Entry>,
@@ -38,11 +39,11 @@ pub struct View {
     pub opened: LinkedList<Entry>,
     /// The history that it found, while it is inside.
     pub held: LinkedList<Entry>,
-    /// The most entries that the book can hold.
+    /// The number of entries that the book can hold at most.
     pub limit: u32,
-    /// How many seats it has given.
+    /// The number of seats that it has given.
     pub given: u32,
-    /// How many seats it can still give.
+    /// The number of seats that it can still give.
     pub left: u32,
     /// The seats that it met, in order.
     pub met: LinkedList<Met>,

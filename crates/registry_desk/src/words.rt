@@ -5,13 +5,13 @@ ghost use Rattle.std.specs.Prelude.{◌≡◌, ◌+◌, ◌%◌, ◌<◌};
 /// The word of the ticket that is drawn next.
 pub(crate) const NEXT: usize = 0;
 
-/// The number of flags, and the most seats that a desk can have.
+/// The number of flags, which is the greatest number of seats of a desk.
 pub(crate) const FLAGS: usize = 64;
 
 /// The word of a flag that is open.
 pub(crate) const OPEN: u64 = 1;
 
-/// The word of a flag that is shut.
+/// The word of a flag that is closed.
 pub(crate) const CLOSED: u64 = 0;
 
 /// The slot of the book.

@@ -84,7 +84,8 @@ pub(crate) fn not_yet(rt: &impl Abort, desk: &Desk, waiting: Waiting) -> Waiting
     }
 }
 
-/// The entry is the k-th work's, accepted for the first time.
+/// An entry must be a new claim to work `k`, accepted for the first time. `rt` ends the test if it is not. `k` is the
+/// registry's number of the work, from 1, and `entry` is looked at. `letter` and `number` are those of the call.
 pub(crate) fn expect_new(rt: &impl Abort, k: usize, entry: &Entry, letter: u8, number: u16) {
     let Reply::Accepted { work, version } = entry.reply() else {
         panic!(rt; "not accepted")

@@ -1,5 +1,5 @@
-//! Tests of the lock: of `ticket_core`, event by event, and of `registry_desk`, whose seats take turns, on one thread and on
-//! many.
+//! Tests of the lock: of `ticket_core`, event by event, and of `registry_desk`, whose seats take turns, on one thread
+//! and on many.
 #![tactic(auto)]
 
 #[cfg(test)]

@@ -26,7 +26,9 @@ fn opened_book(alloc: Global) -> Result<Book, Fail> {
     Ok(book)
 }
 
-/// The book after a call for a work of its opening and one for a new work, handed in by the one seat of a desk.
+/// The book after a call for a work of its opening and one for a new work, handed in by the one seat of a desk. `rt`
+/// waits, and ends the test if a call is refused. `alloc` allocates, and the desk is opened with `book`. `known` and
+/// `fresh` are the two calls.
 fn gone_on<R: Wait + Abort>(rt: &R, alloc: Global, book: Book, known: Call, fresh: Call) -> Book {
     assert!(rt; book.is_opening());
     let Ok((desk, mut opening)) = Desk::open(alloc, book, 2) else {

@@ -1,10 +1,10 @@
 //! The pure lock, event by event.
 
-use cwr_sheets::same;
 use std::test::Fail;
+use test_files::same;
 use ticket_core::{ArrayEvent, ArrayLock, ArrayOutcome, ArrayPhase, Event, Lock, Outcome, Phase};
 
-/// Of the 64 flags this one alone must be open. None is for 64.
+/// Of the 64 flags this one alone must be open; 64 stands for none.
 fn expect_open_alone(lock: &ArrayLock, open: usize) -> Result<(), Fail> {
     for place in 0..64 {
         same("a flag", &lock.flag(place), &(place == open))?;

@@ -10,7 +10,7 @@ fn expect_unused(rt: &impl Abort, seat: &Seat, session: u32) {
     assert_eq!(rt; (seat.session(), seat.turns_left()), (session, 4294967295));
 }
 
-/// How many seats the opening seat can still give, has given and has met.
+/// The number of seats that the opening seat can still give, has given and has met.
 fn expect_counts(rt: &impl Abort, opening: &Seat, counts: (u32, u32, u32)) {
     assert_eq!(rt;
         (opening.seats_left(), opening.given(), opening.met()),

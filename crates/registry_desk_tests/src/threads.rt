@@ -2,7 +2,7 @@
 
 ghost use Rattle.std.specs.Prelude.{◌≡◌, ◌≢◌, ◌+◌, ◌<◌, ◌≤◌};
 ghost use Rattle.std.specs.Thread.{IsSync};
-ghost use Rattle.registry_desk.specs.Views.{most_turns};
+ghost use Rattle.registry_desk.specs.Views.{max_turns};
 
 use crate::desks::{expect_new, new_work, open};
 use registry_desk::{Book, Desk, Seat};
@@ -12,7 +12,9 @@ use std::sync::Wait;
 use std::test::Fail;
 use std::thread::{Threads, join};
 
-/// Hands in calls under a letter, numbered from `first`, until one is refused.
+/// Hands in calls for new works under a letter, up to one that cannot be allocated. A refused call is dropped. `rt`
+/// waits, `alloc` allocates, and `seat` is one of `desk`. `letter` is that of the works, which are numbered from
+/// `first` on, and `count` is the number of calls.
 fn hand_in_all(
     rt: &impl Wait,
     alloc: Global,
@@ -24,7 +26,7 @@ fn hand_in_all(
 ) -> Seat
     requires desk { seat.desk ≡ desk.now }
     requires session { seat.view.session ≢ 0 }
-    requires turns { seat.view.turns + count < most_turns }
+    requires turns { seat.view.turns + count < max_turns }
     requires numbers { first + count < 10000 }
     ensures desk { result.desk ≡ desk.now }
     ensures session { result.view.session ≡ seat.view.session }

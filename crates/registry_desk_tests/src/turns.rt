@@ -1,7 +1,7 @@
 //! Seats that take turns on one thread.
 
 use crate::desks::{call, key, let_in, not_yet, open};
-use registry_desk::{Refused, Reply, WhyRefused};
+use registry_desk::{HandInError, Refused, Reply};
 use std::alloc::Global;
 use std::process::Abort;
 use std::sync::Wait;
@@ -49,7 +49,7 @@ fn expect_full(rt: &impl Abort, answer: Result<Reply, Refused>, number: [u8; 14]
     let Err(refused) = answer else {
         panic!(rt; "there is room for one alone")
     };
-    assert_eq!(rt; refused.why, WhyRefused::Full);
+    assert_eq!(rt; refused.why, HandInError::Full);
     assert_eq!(rt; refused.call.number(), number);
 }
 

@@ -10,7 +10,7 @@ use Rattle.rule_pages.specs.Pages.{every_rule, name_of}
 use Rattle.rule_pages.specs.declared.page.Page.{Page}
 use Rattle.rule_pages.specs.declared.page.Page.TheVariants as page
 
--- what a page is on
+-- the name of a page: that of its rule, or the two letters of its answer
 abbrev pub page_name : Page → List ℕ
 page_name (page.Rule r) = name_of r
 page_name (page.Answer s) = status_text s
@@ -32,14 +32,14 @@ abbrev pub without_zeros : List ℕ → List ℕ
 without_zeros [] = []
 without_zeros (d ∷ ds) = if d == byte "0" then without_zeros ds else d ∷ ds
 
--- the name that a word stands for: a number alone is that of a J; a letter with a number is the capital and that number;
--- any other word is itself, in capitals
+-- the name that a word stands for: a number alone is that of a J; a letter with a number is the capital and that
+-- number; any other word is itself, in capitals
 abbrev pub name_meant : List ℕ → List ℕ
 name_meant [] = []
 name_meant (first ∷ rest) =
     if is_number (first ∷ rest) then byte "J" ∷ without_zeros (first ∷ rest)
     else to_ascii_uppercase first ∷ (if is_number rest then without_zeros rest else map to_ascii_uppercase rest)
 
--- the page whose name a word stands for
+-- the page whose name a word stands for; `None` where there is none
 abbrev pub page_named : List ℕ → Option Page
 page_named word = find (λ p. bytes_eq (page_name p) (name_meant word)) every_page

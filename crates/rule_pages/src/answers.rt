@@ -57,8 +57,8 @@ pub(crate) fn done_then(status: Status) -> &'static [u8]
         Status::Duplicate =>
             b"nothing, where it was sent twice; to change the claim, send REV; a work of its own needs a submitter work number of its own",
         Status::Conflict =>
-            b"ask the society which claims meet, by the work number of the ACK record (purvilgo history --work N REGISTER tells it); settle it with the other submitter, and send it again",
+            b"ask the society which claims meet, by the work number of the ACK record (purvilgo history --work N REGISTER prints it); settle it with the other submitter, and send it again",
         Status::Rejected =>
-            b"see what the numbers of the MSG records ask (purvilgo explain 011) and what stands in the file (purvilgo check --long FILE); mend it, and send it again",
+            b"see what the rules of the MSG records require (purvilgo explain 011) and what stands in the file (purvilgo check --long FILE); correct it, and send it again",
     }
 }

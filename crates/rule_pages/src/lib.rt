@@ -1,5 +1,6 @@
-//! A page on each rule of the profile and on each answer of an acknowledgement. Of a rule: what it asks, an example of what
-//! breaks it, and how to mend that. Of an answer: what it means, what it is given for, and what a publisher does then.
+//! A page on each rule of the profile and on each answer of an acknowledgement. The page of a rule says what it
+//! requires, gives an example that breaks it, and says how to fix that. The page of an answer says what it means, what
+//! it is given for, and what a publisher does then.
 #![tactic(auto)]
 
 mod answers;

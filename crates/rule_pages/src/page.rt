@@ -54,17 +54,18 @@ const PAGES: [Page; 35] = [
     Page::Answer(Status::Rejected),
 ];
 
-/// Every page: of the rules F1 to F12, J1 to J15 and G1 to G4, and then of the answers AS, DU, CO and RJ, in this order.
+/// Every page: of the rules F1 to F12, J1 to J15 and G1 to G4, and then of the answers AS, DU, CO and RJ, in this
+/// order.
 pub fn every_page() -> &'static [Page]
     ensures { result.now ≡ every_page }
 {
     &PAGES
 }
 
-/// The page that a word names; `None` where it names none.
+/// The page that a word names; `None` if it names none.
 ///
-/// A rule is named by its letter, in either case, and its number in one to three digits, as `j8` or `J08`; a number alone is
-/// that of an MSG record, so `011` names J11. An answer is named by its two letters, in either case.
+/// A rule is named by its letter, in either case, and its number in one to three digits, as `j8` or `J08`; a number
+/// alone is that of an MSG record, so `011` names J11. An answer is named by its two letters, in either case.
 pub fn page_named(word: &[u8]) -> Option<Page>
     ensures { result ≡ page_named word.now }
 {
@@ -83,7 +84,8 @@ fn found_in(pages: &[Page], word: &[u8]) -> Option<Page>
     None
 }
 
-/// What a page is on, as its first line has it: the name of a rule, such as `F9`, or the code of an answer, such as `AS`.
+/// The subject of a page, as its first line has it: the name of a rule, such as `F9`, or the code of an answer, such as
+/// `AS`.
 pub fn page_name(page: Page) -> &'static [u8]
     ensures { result.now ≡ page_name page }
 {

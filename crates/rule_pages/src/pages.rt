@@ -4,14 +4,14 @@ ghost use Rattle.std.specs.Prelude.{◌≡◌, ◌++◌, IfOk, OnOk};
 ghost use Rattle.rule_pages.specs.Pages.{heading_text, line_text, page_text, pages_text};
 
 use crate::rule::{Rule, name_of};
-use crate::texts::{asks, broken, mended, title};
+use crate::texts::{fix, requirement, title, violation};
 use cwr_field::Memory;
 use std::alloc::Allocator;
 
 /// The pages of these rules, in their order.
 ///
-/// A page is a line with the rule's name and what a fault of it is called, and a line each for what it asks, an example of what
-/// breaks it, and how to mend that. Each line has LF at its end. Where memory is refused there is no text.
+/// A page is a line with the rule's name and the name of its fault, and then three lines: what it requires, an example
+/// that breaks it, and how to fix that. Each line has LF at its end. If an allocation fails, there is no text.
 pub fn pages_text<A: Allocator>(alloc: A, rules: &[Rule]) -> Result<Vec<u8, A>, Memory>
     ensures { IfOk result (λ text. text.items ≡ pages_text rules.now) }
 {
@@ -27,9 +27,9 @@ pub(crate) fn put_page<A: Allocator>(out: &mut Vec<u8, A>, rule: Rule) -> Result
     ensures { OnOk result (out.new.items ≡ out.old.items ++ page_text rule) }
 {
     put_heading(out, name_of(rule), title(rule))?;
-    put_line(out, b"asks", asks(rule))?;
-    put_line(out, b"broken by", broken(rule))?;
-    put_line(out, b"mended by", mended(rule))?;
+    put_line(out, b"requires", requirement(rule))?;
+    put_line(out, b"broken by", violation(rule))?;
+    put_line(out, b"fixed by", fix(rule))?;
     Ok(())
 }
 

@@ -62,7 +62,7 @@ pub enum Rule {
     J15,
     /// Of a register: a line is not of the register's form.
     G1,
-    /// Of a register: entries are not as line 1 counts them.
+    /// Of a register: the number of entries is not the one in line 1.
     G2,
     /// Of a register: a decision is not that of the registry.
     G3,
@@ -111,7 +111,7 @@ pub fn every_rule() -> &'static [Rule]
     &RULES
 }
 
-/// The rule with this name, such as `F9`; `None` where there is none.
+/// The rule with this name, such as `F9`; `None` if there is none.
 pub fn rule_named(name: &[u8]) -> Option<Rule>
     ensures { result ≡ rule_named name.now }
 {

@@ -1,11 +1,11 @@
 ghost use Rattle.std.specs.Prelude.{◌≡◌};
-ghost use Rattle.rule_pages.specs.Pages.{title_of, asks_of, broken_of, mended_of};
+ghost use Rattle.rule_pages.specs.Pages.{title_of, requirement_of, violation_of, fix_of};
 
 use crate::rule::Rule;
 use cwr_acknowledgement::message_text;
 use cwr_report::file_rule_text;
 
-/// What a fault of a rule is called: of F1 to F12 as a report tells it, of J1 to J15 the text of its MSG record.
+/// The name of a rule's fault: for F1 to F12 as a report prints it, for J1 to J15 the text of its MSG record.
 pub(crate) fn title(rule: Rule) -> &'static [u8]
     ensures { result.now ≡ title_of rule }
 {
@@ -44,9 +44,9 @@ pub(crate) fn title(rule: Rule) -> &'static [u8]
     }
 }
 
-/// What a rule asks.
-pub(crate) fn asks(rule: Rule) -> &'static [u8]
-    ensures { result.now ≡ asks_of rule }
+/// What a rule requires.
+pub(crate) fn requirement(rule: Rule) -> &'static [u8]
+    ensures { result.now ≡ requirement_of rule }
 {
     match rule {
         Rule::F1 => b"line 1 is the HDR of the file",
@@ -62,9 +62,9 @@ pub(crate) fn asks(rule: Rule) -> &'static [u8]
         Rule::F8 =>
             b"transactions run from 00000000 in each group, records from 00000000 in each transaction",
         Rule::F9 =>
-            b"GRT tells the transactions of its group, and its records, GRH and GRT included",
+            b"GRT has the number of transactions of its group, and of its records, GRH and GRT included",
         Rule::F10 =>
-            b"TRL tells the groups, transactions and records of the file, HDR and TRL included",
+            b"TRL has the numbers of groups, transactions and records of the file, HDR and TRL included",
         Rule::F11 => b"the file ends with TRL; after it only blanks, bytes 26 and line ends",
         Rule::F12 => b"a line up to TRL has at most 4,096 bytes, its line end not counted",
         Rule::J1 =>
@@ -92,7 +92,7 @@ pub(crate) fn asks(rule: Rule) -> &'static [u8]
             b"for each TIS code and each right, the collection shares with the indicator I add up to at most 100.06 per cent",
         Rule::G1 => b"a line has its widths, digits, codes and LF, and is that of a transaction",
         Rule::G2 =>
-            b"entries are numbered from 00000001, line 1 tells how many there are, and nothing follows",
+            b"entries are numbered from 00000001, line 1 says how many there are, and nothing follows",
         Rule::G3 =>
             b"status, work and version are the decision on the entry's transaction, after the entries before it",
         Rule::G4 => b"line 1 counts no more entries than the reader takes",
@@ -100,8 +100,8 @@ pub(crate) fn asks(rule: Rule) -> &'static [u8]
 }
 
 /// An example of what breaks a rule.
-pub(crate) fn broken(rule: Rule) -> &'static [u8]
-    ensures { result.now ≡ broken_of rule }
+pub(crate) fn violation(rule: Rule) -> &'static [u8]
+    ensures { result.now ≡ violation_of rule }
 {
     match rule {
         Rule::F1 => b"a byte order mark before HDR",
@@ -138,9 +138,9 @@ pub(crate) fn broken(rule: Rule) -> &'static [u8]
     }
 }
 
-/// How to mend what broke a rule.
-pub(crate) fn mended(rule: Rule) -> &'static [u8]
-    ensures { result.now ≡ mended_of rule }
+/// How to fix what broke a rule.
+pub(crate) fn fix(rule: Rule) -> &'static [u8]
+    ensures { result.now ≡ fix_of rule }
 {
     match rule {
         Rule::F1 => b"write the file without one, as plain bytes",
@@ -150,8 +150,8 @@ pub(crate) fn mended(rule: Rule) -> &'static [u8]
         Rule::F5 =>
             b"send agreements and other transactions in files of their own, to where they are taken",
         Rule::F6 => b"one group for NWR, one for REV",
-        Rule::F7 => b"number the groups of each file anew",
-        Rule::F8 => b"number them anew after taking a record out",
+        Rule::F7 => b"number the groups again in each file",
+        Rule::F8 => b"number them again after removing a record",
         Rule::F9 => b"count GRH and GRT in",
         Rule::F10 => b"count HDR and TRL in",
         Rule::F11 => b"send the file whole: it was cut, or two files were joined",
@@ -165,11 +165,11 @@ pub(crate) fn mended(rule: Rule) -> &'static [u8]
         Rule::J7 => b"give each SPU and SWR its number",
         Rule::J8 =>
             b"repeat the party of the SPU before an SPT, of the SWR before an SWT, byte for byte",
-        Rule::J9 => b"add its SPU or OPU, or mend the number",
+        Rule::J9 => b"add its SPU or OPU, or correct the number",
         Rule::J10 => b"add at least one SWR or OWR",
-        Rule::J11 => b"mend the shares, first those that J6 names: these count nothing",
-        Rule::J12 => b"mend the shares, first those that J6 names: these count nothing",
-        Rule::J13 => b"mend the shares, first those that J6 names: these count nothing",
+        Rule::J11 => b"correct the shares, first those that J6 names: these count as nothing",
+        Rule::J12 => b"correct the shares, first those that J6 names: these count as nothing",
+        Rule::J13 => b"correct the shares, first those that J6 names: these count as nothing",
         Rule::J14 => b"I or E, and a TIS code of digits",
         Rule::J15 => b"find what is included twice in that territory; 0840 and 840 are one",
         Rule::G1 => b"copy the register as bytes, as it was delivered",

@@ -13,9 +13,9 @@ use std::alloc::Allocator;
 
 /// The texts of these pages, in their order.
 ///
-/// That of a rule is the one that [`pages_text`](crate::pages_text) gives it. That of an answer is a line with its code and
-/// what it is called, and a line each for what it means, what it is given for, and what a publisher does then. Each line has
-/// LF at its end. Where memory is refused there is no text.
+/// The text for a rule is that of [`pages_text`](crate::pages_text). The text for an answer is a line with its code and
+/// its name, and then three lines: what it means, what it is given for, and what a publisher does then. Each line has
+/// LF at its end. If an allocation fails, there is no text.
 pub fn texts_of_pages<A: Allocator>(alloc: A, pages: &[Page]) -> Result<Vec<u8, A>, Memory>
     ensures { IfOk result (λ text. text.items ≡ texts_of_pages pages.now) }
 {

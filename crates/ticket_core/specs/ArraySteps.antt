@@ -9,7 +9,7 @@ use Rattle.ticket_core.specs.declared.array_lock.ArrayOutcome.TheVariants.{Drew,
 use Rattle.ticket_core.specs.ArrayLock.{ArrayState, array_phase_at, flag_at, flag_of}
 use Rattle.ticket_core.specs.TicketSteps.{greatest_next}
 
--- no ticket is drawn, every place is away, and flag 0 alone is open
+-- a new lock with this number of places: no ticket is drawn, every place is away, and flag 0 alone is open
 abbrev pub new_array_lock : ℕ → ArrayState
 new_array_lock places = record { next = 0; flags = slice_set (replicate 64 false) 0 true; phases = replicate places Away }
 
@@ -25,7 +25,7 @@ array_look_answer s place (Waiting t) =
     if flag_at s.flags (flag_of t) then (record s { phases = slice_set s.phases place (Inside t) }, Enters t) else (s, Waits)
 array_look_answer s place _ = (s, Nothing)
 
--- a place in this phase shuts: one that is inside shuts its ticket's flag
+-- a place in this phase closes its flag: one that is inside closes its ticket's flag, and is then leaving
 abbrev pub array_shut_answer : ArrayState → ℕ → ArrayPhase → ArrayState × ArrayOutcome
 array_shut_answer s place (Inside t) =
     (record s { flags = slice_set s.flags (flag_of t) false; phases = slice_set s.phases place (Leaving t) }, Shuts)
@@ -46,12 +46,12 @@ array_answer s (Look place) = array_look_answer s place (array_phase_at s.phases
 array_answer s (Shut place) = array_shut_answer s place (array_phase_at s.phases place)
 array_answer s (Pass place) = array_pass_answer s place (array_phase_at s.phases place)
 
--- the state after a list of events
+-- the state after a list of events, one after the other
 abbrev pub array_after_all : ArrayState → List ArrayEvent → ArrayState
 array_after_all s [] = s
 array_after_all s (e ∷ es) = array_after_all (array_answer s e).0 es
 
--- the outcomes of a list of events
+-- the outcomes of a list of events, in order
 abbrev pub array_answers : ArrayState → List ArrayEvent → List ArrayOutcome
 array_answers s [] = []
 array_answers s (e ∷ es) = (array_answer s e).1 ∷ array_answers (array_answer s e).0 es

@@ -6,7 +6,7 @@ use Rattle.ticket_core.specs.declared.ticket_lock.Outcome.TheVariants.{Enters}
 use Rattle.ticket_core.specs.declared.array_lock.ArrayOutcome.{ArrayOutcome}
 use Rattle.ticket_core.specs.declared.array_lock.ArrayOutcome.TheVariants.{Enters as ArrayEnters}
 
--- the ticket of an outcome that is an Enters
+-- the ticket of an outcome that is an entry; `None` for any other outcome
 abbrev pub entry_of : Outcome → Option ℕ
 entry_of (Enters t) = Some t
 entry_of _ = None
@@ -16,7 +16,7 @@ abbrev pub array_entry_of : ArrayOutcome → Option ℕ
 array_entry_of (ArrayEnters t) = Some t
 array_entry_of _ = None
 
--- the tickets of all Enters, in the order in which they came
+-- the tickets of all entries, in the order in which they came
 abbrev pub entries : List Outcome → List ℕ
 entries outcomes = filter_map entry_of outcomes
 
@@ -24,6 +24,6 @@ entries outcomes = filter_map entry_of outcomes
 abbrev pub array_entries : List ArrayOutcome → List ℕ
 array_entries outcomes = filter_map array_entry_of outcomes
 
--- the k-th ticket, from 0, is ticket k
+-- the k-th of the tickets, from 0, is ticket k: places enter in the order in which they drew
 abbrev pub IsTicketOrder : List ℕ → Type 0
 IsTicketOrder tickets = EachIndex tickets (λ k. slice_index tickets k ≡ k)

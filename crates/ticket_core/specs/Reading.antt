@@ -35,5 +35,7 @@ ticket_run events outcomes = filter_map (λ x. ticket_step x.0 x.1) (zip events 
 
 -- these events with these outcomes lead the ticket lock from one state to the other
 pub record IsTicketRun (before : LockState) (steps : List (Event × Outcome)) (after : LockState) : Type 0 where
+  -- the events lead from the one state to the other
   pub state : after_all before (map (λ x. x.0) steps) ≡ after
+  -- the events have these outcomes
   pub outcomes : answers before (map (λ x. x.0) steps) ≡ map (λ x. x.1) steps

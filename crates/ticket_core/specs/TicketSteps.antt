@@ -8,11 +8,11 @@ use Rattle.ticket_core.specs.declared.ticket_lock.Outcome.{Outcome}
 use Rattle.ticket_core.specs.declared.ticket_lock.Outcome.TheVariants.{Drew, Waits, Enters, Leaves, Nothing}
 use Rattle.ticket_core.specs.TicketLock.{LockState, phase_at}
 
--- no ticket is drawn, and every place is away
+-- a new lock with this number of places: no ticket is drawn, and every place is away
 abbrev pub new_lock : ℕ → LockState
 new_lock places = record { next = 0; serving = 0; phases = replicate places Away }
 
--- the greatest u64, at which `next` stays
+-- the greatest u64; once `next` is this, no ticket is drawn any more
 abbrev pub greatest_next : ℕ
 greatest_next = 18446744073709551615
 
@@ -42,12 +42,12 @@ answer s (Draw place) =
 answer s (Look place) = look_answer s place (phase_at s.phases place)
 answer s (Leave place) = leave_answer s place (phase_at s.phases place)
 
--- the state after a list of events
+-- the state after a list of events, one after the other
 abbrev pub after_all : LockState → List Event → LockState
 after_all s [] = s
 after_all s (e ∷ es) = after_all (answer s e).0 es
 
--- the outcomes of a list of events
+-- the outcomes of a list of events, in order
 abbrev pub answers : LockState → List Event → List Outcome
 answers s [] = []
 answers s (e ∷ es) = (answer s e).1 ∷ answers (answer s e).0 es

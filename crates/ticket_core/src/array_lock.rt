@@ -1,8 +1,8 @@
 //! The array-based queueing lock of Anderson (1990).
 //!
-//! Who wants in draws the next ticket of a counter, as in the ticket lock, and then waits until the
-//! flag of its own ticket is open. It leaves in two steps: it shuts its flag, and passes the lock
-//! on by opening the next one. There are 64 flags, used in turn, and so at most 64 places.
+//! A thread that wants the lock draws the next ticket of a counter, as in the ticket lock, and then waits until the
+//! flag of its own ticket is open. It leaves in two steps: it shuts its flag, and passes the lock on by opening the
+//! next one. There are 64 flags, used in turn, and so at most 64 places.
 
 ghost use Rattle.std.specs.Prelude.{◌≡◌, ◌%◌, ◌<◌, ◌≤◌, [], IfOk, IsOk, OnErr, OnOk};
 ghost use Rattle.ticket_core.specs.ArrayLock.{array_phase_at, flag_at, serving_of};
@@ -68,10 +68,11 @@ pub enum ArrayOutcome {
 
 /// The array-based queueing lock of Anderson (1990), as a state machine.
 ///
-/// Contracts see a lock as its state: the ticket that is drawn next, the 64 flags, and the phase
-/// of each place. Flag `t` modulo 64 is that of ticket `t`. The state is always lawful: with a
-/// leaving place read as inside it is a lawful state of the ticket lock; while no place is leaving,
-/// the served ticket's flag alone is open; and while one is, no flag is.
+/// Contracts see a lock as its state: the ticket that is drawn next, the 64 flags, and the phase of each place. The
+/// flag of ticket `t` is number `t` modulo 64.
+///
+/// The state is always lawful. Once each leaving place is read as inside, it is a lawful state of the ticket lock.
+/// While no place is leaving, only the served ticket's flag is open; while one is, no flag is.
 #[derive(Clone, Drop)]
 #[derive_where(Debug)]
 pub struct ArrayLock<A: Allocator = Global> {
@@ -91,8 +92,10 @@ impl<A: Allocator> Model for ArrayLock<A> {
 }
 
 impl<A: Allocator> ArrayLock<A> {
-    /// A lock with this many places, at most 64, all of them away, with ticket 0 to draw and flag 0
-    /// alone open. It fails where there is no memory for the places; no places need none.
+    /// A lock with this many places, at most 64. All of them are away, ticket 0 is next to draw, and only flag 0 is
+    /// open.
+    ///
+    /// It fails where there is no memory for the places. No places need none.
     pub fn new(alloc: A, places: usize) -> Result<ArrayLock<A>, Memory>
         requires { places ≤ 64 }
         ensures made { IfOk result (λ lock. lock ≡ new_array_lock places) }
@@ -118,8 +121,8 @@ impl<A: Allocator> ArrayLock<A> {
         self.next
     }
 
-    /// The ticket that is served: the next one less the number of tickets out. That is also the
-    /// number of places that have passed so far.
+    /// The ticket that is served: the next one less the number of tickets that are out. That is also the number of
+    /// places that have passed so far.
     pub fn serving(&self) -> u64
         ensures { result ≡ serving_of self.now.next self.now.phases }
     {
@@ -131,7 +134,7 @@ impl<A: Allocator> ArrayLock<A> {
         self.next - out as u64
     }
 
-    /// The phase of a place, and `Away` where there is no such place.
+    /// The phase of a place; `Away` where there is no such place.
     pub fn phase(&self, place: usize) -> ArrayPhase
         ensures { result ≡ array_phase_at self.now.phases place }
     {
@@ -146,12 +149,11 @@ impl<A: Allocator> ArrayLock<A> {
         self.flags[i]
     }
 
-    /// Does one event, and says what came of it.
+    /// Does one event, and returns its outcome.
     ///
-    /// A draw acts on a place that is away, a look on one that waits, a shut on one that is
-    /// inside, a pass on one that is leaving. Any other event, one of a place that is not there,
-    /// and a draw where the next ticket is the greatest `u64`, answers `Nothing` and changes
-    /// nothing.
+    /// A draw acts on a place that is away, a look on one that waits, a shut on one that is inside, and a pass on one
+    /// that is leaving. Any other event returns `Nothing` and changes nothing. So does an event of a place that is not
+    /// there, and a draw where the next ticket is the greatest `u64`.
     pub fn step(&mut self, event: ArrayEvent) -> ArrayOutcome
         ensures state { self.new ≡ (array_answer self.old event).0 }
         ensures outcome { result ≡ (array_answer self.old event).1 }
@@ -166,7 +168,7 @@ impl<A: Allocator> ArrayLock<A> {
 
     /// Does the events in turn, each as [`ArrayLock::step`] does it, and lists their outcomes.
     ///
-    /// Room for the outcomes is taken first. Where that is refused, no event is done.
+    /// Memory for the outcomes is asked for first. Where that is refused, no event is done.
     pub fn run(&mut self, events: &[ArrayEvent]) -> Result<Vec<ArrayOutcome, A>, Memory>
     where
         A: Copy,

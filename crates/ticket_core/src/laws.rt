@@ -1,8 +1,7 @@
 //! What holds of both locks, as the contracts of functions that do nothing.
 //!
-//! The laws speak of every list of events, of any places in any order. What a run has gone through
-//! up to any of its events is such a list. So what a law says of the state after every list of
-//! events holds after each single event of every run.
+//! The laws hold for every list of events, of any places in any order. The events of a run up to any one of them are
+//! such a list. So what a law says of the state after every list of events holds after each single event of every run.
 
 ghost use Rattle.std.specs.Prelude.{◌≡◌, ℕ, ◌≤◌, List, [], ◌∷◌, ◌++◌, map};
 ghost use Rattle.ticket_core.specs.ArrayLock.{ArrayState, IsLawfulArrayState, ticket_phase, ticket_state};
@@ -16,9 +15,9 @@ ghost use Rattle.ticket_core.specs.declared.ticket_lock.Event.{Event};
 
 /// The ticket lock: after each event the state is lawful, for any number of places.
 ///
-/// That is said as: a new lock is in a lawful state after every list of events. Since each
-/// beginning of a list of events is a list of events, it is so after each event of a list. The
-/// same holds of a run that begins in any lawful state.
+/// The contract says it this way: a new lock is in a lawful state after every list of events. Each beginning of a list
+/// of events is a list of events too, so it holds after each event of a list. The same holds of a run that begins in
+/// any lawful state.
 pub fn stays_lawful()
     ensures lawful { (s : LockState) (events : List Event) → IsLawful s → IsLawful (after_all s events) }
     ensures new { (places : ℕ) (events : List Event) → IsLawful (after_all (new_lock places) events) }
@@ -36,7 +35,7 @@ pub fn enters_in_ticket_order()
     ensures { (places : ℕ) (events : List Event) → IsTicketOrder (entries (answers (new_lock places) events)) }
 {}
 
-/// The ticket lock: one event more at the end of a run is one step more, from where the run has led.
+/// The ticket lock: one more event at the end of a run is one more step, from the state that the run has reached.
 pub fn runs_step_by_step()
     ensures state { (s : LockState) (events : List Event) (event : Event)
         → after_all s (events ++ event ∷ []) ≡ (answer (after_all s events) event).0 }
@@ -68,7 +67,7 @@ pub fn array_enters_in_ticket_order()
         → IsTicketOrder (array_entries (array_answers (new_array_lock places) events)) }
 {}
 
-/// The array lock: one event more at the end of a run is one step more, from where the run has led.
+/// The array lock: one more event at the end of a run is one more step, from the state that the run has reached.
 pub fn array_runs_step_by_step()
     ensures state { (s : ArrayState) (events : List ArrayEvent) (event : ArrayEvent)
         → array_after_all s (events ++ event ∷ []) ≡ (array_answer (array_after_all s events) event).0 }
@@ -77,10 +76,11 @@ pub fn array_runs_step_by_step()
         ≡ array_answers s events ++ (array_answer (array_after_all s events) event).1 ∷ [] }
 {}
 
-/// Each run of the array lock is a run of the ticket lock, once it is read as one: a leaving place
-/// as inside, a `Pass` that answers `Passes` as a `Leave` that answers `Leaves`, and each `Shut`
-/// and each other `Pass` as no event. So whatever holds of all runs of the ticket lock holds of
-/// those of the array lock.
+/// Each run of the array lock can be read as a run of the ticket lock. So whatever holds of all runs of the ticket lock
+/// holds of those of the array lock.
+///
+/// A leaving place is read as inside. A `Pass` with the outcome `Passes` is read as a `Leave` with the outcome
+/// `Leaves`. Each `Shut`, and each other `Pass`, is read as no event.
 pub fn array_run_is_a_ticket_run()
     ensures lawful { (s : ArrayState) (events : List ArrayEvent) → IsLawfulArrayState s → let after = array_after_all s events in
         IsTicketRun (ticket_state s.next s.phases) (ticket_run events (array_answers s events))

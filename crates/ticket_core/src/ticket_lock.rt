@@ -1,8 +1,7 @@
 //! The ticket lock of Mellor-Crummey and Scott (1991).
 //!
-//! Who wants in draws the next ticket of a counter, waits until a second counter serves that
-//! ticket, and moves the second counter on when it leaves. So places enter in the order in which
-//! they drew.
+//! A thread that wants the lock draws the next ticket of a counter, and waits until a second counter serves that
+//! ticket. It moves the second counter on when it leaves. So places enter in the order in which they drew.
 
 ghost use Rattle.std.specs.Prelude.{◌≡◌, [], IfOk, IsOk, OnErr, OnOk};
 ghost use Rattle.ticket_core.specs.TicketLock.{phase_at};
@@ -58,10 +57,9 @@ pub enum Outcome {
 
 /// The ticket lock of Mellor-Crummey and Scott (1991), as a state machine.
 ///
-/// Contracts see a lock as its state: the ticket that is drawn next, the ticket that is served,
-/// and the phase of each place. That state is always lawful: tickets out are distinct, they are
-/// the numbers from the served ticket up to but not including the next one, and the ticket of a
-/// place that is inside is the served one.
+/// Contracts see a lock as its state: the ticket that is drawn next, the ticket that is served, and the phase of each
+/// place. That state is always lawful: the tickets that are out are distinct, and they are the numbers from the served
+/// ticket up to, but not including, the next one. The ticket of a place that is inside is the served one.
 #[derive(Clone, Drop)]
 #[derive_where(Debug)]
 pub struct Lock<A: Allocator = Global> {
@@ -81,8 +79,9 @@ impl<A: Allocator> Model for Lock<A> {
 }
 
 impl<A: Allocator> Lock<A> {
-    /// A lock with this many places, all of them away, that serves ticket 0 and has ticket 0 to
-    /// draw. It fails where there is no memory for the places; no places need none.
+    /// A lock with this many places, all of them away. It serves ticket 0, and ticket 0 is next to draw.
+    ///
+    /// It fails where there is no memory for the places. No places need none.
     pub fn new(alloc: A, places: usize) -> Result<Lock<A>, Memory>
         ensures made { IfOk result (λ lock. lock ≡ new_lock places) }
         ensures succeeds { places ≡ 0 → IsOk result }
@@ -112,18 +111,18 @@ impl<A: Allocator> Lock<A> {
         self.serving
     }
 
-    /// The phase of a place, and `Away` where there is no such place.
+    /// The phase of a place; `Away` where there is no such place.
     pub fn phase(&self, place: usize) -> Phase
         ensures { result ≡ phase_at self.now.phases place }
     {
         self.phases.get(place).copied().unwrap_or(Phase::Away)
     }
 
-    /// Does one event, and says what came of it.
+    /// Does one event, and returns its outcome.
     ///
-    /// A draw acts on a place that is away, a look on one that waits, a leave on one that is
-    /// inside. Any other event, one of a place that is not there, and a draw where the next ticket
-    /// is the greatest `u64`, answers `Nothing` and changes nothing.
+    /// A draw acts on a place that is away, a look on one that waits, and a leave on one that is inside. Any other
+    /// event returns `Nothing` and changes nothing. So does an event of a place that is not there, and a draw where the
+    /// next ticket is the greatest `u64`.
     pub fn step(&mut self, event: Event) -> Outcome
         ensures state { self.new ≡ (answer self.old event).0 }
         ensures outcome { result ≡ (answer self.old event).1 }
@@ -137,7 +136,7 @@ impl<A: Allocator> Lock<A> {
 
     /// Does the events in turn, each as [`Lock::step`] does it, and lists their outcomes.
     ///
-    /// Room for the outcomes is taken first. Where that is refused, no event is done.
+    /// Memory for the outcomes is asked for first. Where that is refused, no event is done.
     pub fn run(&mut self, events: &[Event]) -> Result<Vec<Outcome, A>, Memory>
     where
         A: Copy,

@@ -9,20 +9,20 @@ use memchr::memchr;
 /// The record type of an acknowledged transaction, its three bytes as one number.
 const ACK: u32 = 0x41_43_4b;
 
-/// How many bytes of an ACK record stand before the registry's number of the work.
+/// The number of bytes of an ACK record before the registry's number of the work.
 const BEFORE_WORK: usize = 129;
 
 /// As many, with the eight digits of that number.
 const WITH_WORK: usize = 137;
 
-/// A digest of the lines of an acknowledgement, without the registry's number of the work in each ACK record, which depends
-/// on which file was decided first. In whatever pieces they come, the same lines give the same digest.
+/// A digest of the lines of an acknowledgement, without the registry's number of the work in each ACK record, which
+/// depends on which file was decided first. The same lines give the same digest, however they are cut into pieces.
 #[derive(Clone, Copy, Debug)]
 pub(crate) struct AckDigest {
     digest: Digest,
     /// The first three bytes of the line, or as many as there were, as one number.
     kind: u32,
-    /// How many bytes of the line there were.
+    /// The number of bytes of the line so far.
     column: usize,
 }
 
@@ -37,7 +37,7 @@ impl AckDigest {
         }
     }
 
-    /// What all that was taken comes to.
+    /// The digest of all that was taken.
     pub(crate) fn sum(&self) -> u64 {
         self.digest.sum()
     }
@@ -75,7 +75,7 @@ impl AckDigest {
         }
     }
 
-    /// Takes what lacks of the record type, and answers what is behind it.
+    /// Takes the bytes that are missing from the record type, and returns what is behind them.
     fn typed<'a>(&mut self, part: &'a [u8]) -> &'a [u8]
         ensures { self.new.digest.failed ≡ self.old.digest.failed }
     {
@@ -92,7 +92,8 @@ impl AckDigest {
         rest
     }
 
-    /// Passes the bytes before this column, which count or do not, and answers what is behind them.
+    /// Skips the bytes before this column, and returns what is behind them. `counts` says whether they go into the
+    /// digest.
     fn front<'a>(&mut self, part: &'a [u8], column: usize, counts: bool) -> &'a [u8]
         ensures { self.new.digest.failed ≡ self.old.digest.failed }
     {

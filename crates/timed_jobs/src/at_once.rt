@@ -7,17 +7,17 @@ use crate::answers::AckDigest;
 use crate::catalogue::{Style, file, new_works};
 use crate::chance::Chance;
 use crate::digest::Digest;
-use crate::nights::{MOST_FILES, PIECE, stamp, take_outcome};
+use crate::nights::{CHUNK, MAX_FILES, stamp, take_outcome};
 use byte_streams::Feed;
 use cwr_desk::{Book, Entry, Fault, Job, OpenGate, serve};
 use cwr_field::Memory;
-use kept_register::new_book;
+use register_store::new_book;
 use std::alloc::Global;
 use std::sync::Wait;
 use std::thread::Threads;
 
-/// Some runs, each of sixty-three files at an empty book, of as many works as a size says, and of four times as many in
-/// one run of eight. Each file has works of its own, so that what becomes of them is the same in every order.
+/// Some runs of sixty-three files, each at an empty book: of `size` works in each run, and of four times as many in one
+/// run of eight. Each file has works of its own, so that its outcome is the same in every order.
 pub(crate) fn at_once<R: Threads + Wait + Sync>(
     rt: &R,
     alloc: Global,
@@ -52,7 +52,8 @@ fn files_of(alloc: Global, works: u32, chance: &mut Chance) -> Result<Vec<Vec<u8
     Ok(files)
 }
 
-/// Works files at once, and takes what holds in every order.
+/// Works files at once, and takes what holds in every order. `rt` starts threads and waits, `alloc` allocates, and
+/// `files` are worked into `book`. `digest` takes the result.
 fn run<R: Threads + Wait + Sync>(
     rt: &R,
     alloc: Global,
@@ -73,12 +74,12 @@ fn run<R: Threads + Wait + Sync>(
     take_entries(alloc, run.book.history(), digest)
 }
 
-/// A job for each of these files, at most as many as a run takes.
+/// A job for each of these files, at most the number that a run takes.
 fn jobs_of<'a>(alloc: Global, files: &'a [Vec<u8>]) -> Result<Vec<Job<Feed<'a>, AckDigest>>, Memory>
     ensures few { IfOk result (λ jobs. vec_len jobs < 64) }
     ensures works { IfOk result (λ jobs. All (λ j. (j.reader.has_failed ≡ false) × (j.writer.digest.failed ≡ false)) jobs.items) }
 {
-    let files = &files[..files.len().min(MOST_FILES)];
+    let files = &files[..files.len().min(MAX_FILES)];
     let mut jobs = Vec::new(alloc);
     for file in files {
         jobs.push(job_of(file))?;
@@ -91,14 +92,15 @@ fn job_of<'a>(text: &'a [u8]) -> Job<Feed<'a>, AckDigest>
     ensures { (result.reader.has_failed ≡ false) × (result.writer.digest.failed ≡ false) }
 {
     Job {
-        reader: Feed::new(text, PIECE, None),
+        reader: Feed::new(text, CHUNK, None),
         writer: AckDigest::new(),
     }
 }
 
-/// Takes the entries of each file in the order of the file, and of each all that holds in every order of the files.
+/// Takes the entries of each file in the order of the file. What is taken of an entry holds in every order of the
+/// files.
 fn take_entries(alloc: Global, entries: &[Entry], digest: &mut Digest) -> Result<(), Memory> {
-    let mut files = vec![in alloc; Digest::new(); MOST_FILES + 1]?;
+    let mut files = vec![in alloc; Digest::new(); MAX_FILES + 1]?;
     for entry in entries {
         if let Some(file) = files.get_mut(entry.session() as usize) {
             take_entry(entry, file);

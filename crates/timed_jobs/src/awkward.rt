@@ -14,32 +14,32 @@ use std::alloc::Global;
 /// A text with what JSON escapes, in short and as `\u001b`, and with a letter of two bytes.
 const SAID: &str = "\"CAFÉ SONG\" \\ AND MORE OF THIS KIND\x1b";
 
-/// Reports of works of which each breaks a rule or is remarked on, of files that are refused, and small and large
-/// files against a register.
+/// Reports on works of which each breaks a rule or has a remark, on files that are refused, and small and large files
+/// against a register.
 pub(crate) fn awkward(alloc: Global, size: u32, chance: &mut Chance) -> Result<Digest, Memory> {
     let mut digest = Digest::new();
     for _ in 0..8 {
         let text = refused_file(alloc, size, 0, chance)?;
-        tell(alloc, &text, &mut digest)?;
-        tell_with(alloc, &text, &mut digest)?;
+        digest_reports(alloc, &text, &mut digest)?;
+        digest_reports_with_member(alloc, &text, &mut digest)?;
     }
     for fault in 1..=12u32 {
         let text = refused_file(alloc, size / 4, fault, chance)?;
-        tell(alloc, &text, &mut digest)?;
-        tell_with(alloc, &text, &mut digest)?;
+        digest_reports(alloc, &text, &mut digest)?;
+        digest_reports_with_member(alloc, &text, &mut digest)?;
     }
     verified(alloc, size, chance, &mut digest)?;
     Ok(digest)
 }
 
-/// The report on a file, for a program and for a person.
-fn tell(alloc: Global, text: &[u8], digest: &mut Digest) -> Result<(), Memory> {
+/// The reports on a file, for a program and for a person.
+fn digest_reports(alloc: Global, text: &[u8], digest: &mut Digest) -> Result<(), Memory> {
     take(remarked_json(alloc, text)?, digest);
     take_unquoted(alloc, &remarked_long(alloc, text)?, digest)
 }
 
-/// What is told to a person, each line up to its first quote. What is quoted is taken from the report for a program; how a
-/// byte that is not printed is shown between quotes differs from build to build.
+/// The report for a person, each line up to its first quote. What is quoted is taken from the report for a program; how
+/// a byte that is not printed is shown between quotes differs from build to build.
 fn take_unquoted(alloc: Global, told: &Checked, digest: &mut Digest) -> Result<(), Memory> {
     let mut unquoted = Vec::with_capacity(alloc, told.text.len())?;
     let mut quoted = false;
@@ -58,8 +58,12 @@ fn take_unquoted(alloc: Global, told: &Checked, digest: &mut Digest) -> Result<(
     Ok(())
 }
 
-/// The report on a file, with a member of its own before, between, in place of and behind those that it has.
-fn tell_with(alloc: Global, text: &[u8], digest: &mut Digest) -> Result<(), Memory> {
+/// The report on a file, with one more member before, between, in place of and behind those that it has.
+fn digest_reports_with_member(
+    alloc: Global,
+    text: &[u8],
+    digest: &mut Digest,
+) -> Result<(), Memory> {
     let report = report_on(alloc, text)?;
     for name in ["a", "found", "refused", "z"] {
         let value = text_value(alloc, SAID.as_bytes())?;

@@ -60,7 +60,7 @@ fn work_of(chance: &mut Chance, number: u32) -> Work {
     }
 }
 
-/// What a work has wrong or not: one in sixty has no title, and so is rejected.
+/// The work, or in one case of sixty the work without its title, so that it is rejected.
 fn spoiled(chance: &mut Chance, work: Work) -> Work {
     if chance.is_one_in(60) {
         Work {
@@ -72,7 +72,7 @@ fn spoiled(chance: &mut Chance, work: Work) -> Work {
     }
 }
 
-/// The number of the next work: one in twenty has that of the one before.
+/// The number of the next work: one in twenty repeats that of the one before.
 fn next_number(chance: &mut Chance, number: u32) -> u32 {
     if chance.is_one_in(20) {
         number

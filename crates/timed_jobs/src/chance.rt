@@ -21,7 +21,7 @@ impl Chance {
         mixed ^ (mixed >> 31)
     }
 
-    /// The next number below a bound; 0 where the bound is 0.
+    /// The next number below a bound; 0 if the bound is 0.
     pub(crate) fn below(&mut self, bound: u32) -> u32
         ensures { 0 < bound → result < bound }
     {
@@ -31,7 +31,7 @@ impl Chance {
         (self.number() % bound as u64) as u32
     }
 
-    /// Whether what happens once in so many times happens now.
+    /// Whether what happens once in `times` times happens now.
     pub(crate) fn is_one_in(&mut self, times: u32) -> bool {
         self.below(times) == 0
     }

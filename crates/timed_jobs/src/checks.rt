@@ -6,11 +6,11 @@ use crate::crowds::{crowd, crowd_without_parties};
 use crate::digest::Digest;
 use crate::digits::{put, work_number};
 use crate::form::LF;
-use crate::nights::PIECE;
+use crate::nights::CHUNK;
 use crate::titles::title;
 use byte_streams::Feed;
 use cwr_check::check_source;
-use cwr_desk::MOST_BYTES;
+use cwr_desk::MAX_BYTES;
 use cwr_field::Memory;
 use cwr_source::WINDOW;
 use std::alloc::Global;
@@ -40,7 +40,8 @@ pub(crate) fn checks(alloc: Global, size: u32, chance: &mut Chance) -> Result<Di
     Ok(digest)
 }
 
-/// Makes a catalogue, and checks it so many times, each time changed.
+/// Makes a catalogue and checks it `times` times, changed each time. `alloc` allocates, `order` says what the catalogue
+/// is like, `chance` gives the numbers, and `digest` takes the results.
 fn catalogue(
     alloc: Global,
     order: &Order,
@@ -56,7 +57,7 @@ fn catalogue(
     Ok(())
 }
 
-/// Gives one in four works of a catalogue another title and another number, and takes some of their titles away.
+/// Gives one in four works of a catalogue another title and another number, and removes some of their titles.
 pub(crate) fn change(text: &mut [u8], places: &[usize], chance: &mut Chance) {
     for place in places {
         if chance.is_one_in(4) {
@@ -74,8 +75,8 @@ pub(crate) fn change(text: &mut [u8], places: &[usize], chance: &mut Chance) {
 
 /// Checks a file as it comes through a window.
 fn check(alloc: Global, text: &[u8], digest: &mut Digest) -> Result<(), Memory> {
-    let mut feed = Feed::new(text, PIECE, None);
-    match check_source(alloc, &mut feed, MOST_BYTES, WINDOW) {
+    let mut feed = Feed::new(text, CHUNK, None);
+    match check_source(alloc, &mut feed, MAX_BYTES, WINDOW) {
         Ok(checked) => {
             digest.text(&checked.text);
             digest.number(checked.clean as u64);

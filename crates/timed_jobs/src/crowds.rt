@@ -8,8 +8,8 @@ use crate::titles::title;
 use cwr_field::Memory;
 use std::alloc::Global;
 
-/// A file of one work without a fault: so many publishers of as many parties, a writer, and a link to each of them, in
-/// another order, and territories of some codes.
+/// A file of one work without a fault: `parties` publishers of different parties, a writer, a link to each publisher,
+/// in another order, and territories of some codes.
 pub(crate) fn crowd(alloc: Global, parties: u32, chance: &mut Chance) -> Result<Vec<u8>, Memory> {
     let mut form = Form::new(alloc, b"NWR", CRLF)?;
     for party in shuffled(alloc, parties, chance)? {
@@ -39,7 +39,7 @@ pub(crate) fn crowd(alloc: Global, parties: u32, chance: &mut Chance) -> Result<
     file_of(alloc, &form, chance)
 }
 
-/// A file of one work of so many records, each with a fault of its own: publishers and writers without a party.
+/// A file of one work of `records` records, each with a fault of its own: publishers and writers without a party.
 pub(crate) fn crowd_without_parties(
     alloc: Global,
     records: u32,

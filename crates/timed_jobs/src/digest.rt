@@ -6,13 +6,14 @@ use byte_streams::{Failed, Sink};
 
 const PRIME: u64 = 0x0000_0100_0000_01b3;
 
-/// A digest of bytes and numbers: the same ones in the same order give the same digest, in whatever pieces they come.
+/// A digest of bytes and numbers: the same ones in the same order give the same digest, however they are cut into
+/// pieces.
 #[derive(Clone, Copy, Debug)]
 pub(crate) struct Digest {
     sum: u64,
-    /// The bytes that make no word yet.
+    /// The bytes that are no complete word yet.
     held: u64,
-    /// How many these are.
+    /// The number of these bytes.
     count: u8,
     failed: bool,
 }
@@ -45,7 +46,7 @@ impl Digest {
         }
     }
 
-    /// What all that was taken comes to.
+    /// The digest of all that was taken.
     pub(crate) fn sum(&self) -> u64 {
         let mut whole = *self;
         whole.word(self.held);
@@ -53,7 +54,7 @@ impl Digest {
         whole.sum
     }
 
-    /// Takes the bytes that the held ones lack for a word, and answers what is behind them.
+    /// Takes the bytes that are missing from the held ones for a word, and returns what is behind them.
     fn filled_up<'a>(&mut self, text: &'a [u8]) -> &'a [u8]
         ensures { self.new.failed ≡ self.old.failed }
     {
@@ -68,7 +69,7 @@ impl Digest {
         rest
     }
 
-    /// Takes the whole words, and answers what is behind them.
+    /// Takes the complete words, and returns what is behind them.
     fn words<'a>(&mut self, text: &'a [u8]) -> &'a [u8]
         ensures { self.new.failed ≡ self.old.failed }
     {

@@ -1,6 +1,6 @@
 //! Fields of a fixed width.
 
-/// A number in so many digits, the last ones where there are more.
+/// A number in `N` digits, the last ones if it has more.
 fn digits<const N: usize>(number: u32) -> [u8; N] {
     let mut digits = [b'0'; N];
     let mut left = number;
@@ -55,7 +55,7 @@ pub(crate) fn work_number(number: u32) -> [u8; 14] {
     field
 }
 
-/// Puts a field into a text, from a place on, where there is room for it.
+/// Puts a field into a text at a position, from 0, if it fits there.
 pub(crate) fn put(text: &mut [u8], at: usize, field: &[u8]) {
     if at <= text.len() && field.len() <= text.len() - at {
         text[at..at + field.len()].copy_from_slice(field);

@@ -1,4 +1,4 @@
-//! Works that break a rule, or that are remarked on.
+//! Works that break a rule, or that have a remark.
 
 use crate::chance::Chance;
 use crate::digits::{five, iswc, nine, work_number};
@@ -16,9 +16,9 @@ const STRANGE_ISWC: [u8; 11] = [
     b'T', b'"', b'3', b'4', 0xc3, 0x89, b'\\', b'4', b'6', b'8', b'0',
 ];
 
-/// The forms of the works, by number: 1 to 15 break the rule with this number, J1 to J15, J2 to J4 by what [`work`] fills in
-/// and the others by their records; 16 to 18 are remarked on, in 19 the shares of many writers do not add up (J11 to J13),
-/// and 0 has no fault.
+/// The forms of the works, by number. 1 to 15 break the rule with this number, J1 to J15: J2 to J4 by what [`work`]
+/// fills in, and the others by their records. 16 to 18 have a remark. In 19 the shares of many writers do not add up
+/// (J11 to J13), and 0 has no fault.
 pub(crate) fn forms(alloc: Global) -> Result<Vec<Form>, Memory> {
     let mut forms = Vec::new(alloc);
     for number in 0..20 {
@@ -92,7 +92,7 @@ fn behind_a_writer(alloc: Global, number: u32) -> Result<Form, Memory> {
     Ok(form)
 }
 
-/// So many writers with these shares each.
+/// A form with `count` writers with these shares each.
 fn writers(alloc: Global, count: u32, shares: [u32; 3]) -> Result<Form, Memory> {
     let mut form = Form::new(alloc, b"NWR", CRLF)?;
     let [performing, mechanical, synchronisation] = shares;
@@ -143,8 +143,8 @@ fn any_title(chance: &mut Chance) -> [u8; 60] {
     }
 }
 
-/// What is filled in of the work with this number, of the form with that one: a blank title (J2), a blank number (J3), an
-/// ISWC that is not valid (J4).
+/// The work with this number, to be filled into the form with number `form`: with a blank title (J2), a blank number
+/// (J3), or an ISWC that is not valid (J4).
 pub(crate) fn work(chance: &mut Chance, number: u32, form: u32) -> Work {
     let work = Work {
         title: any_title(chance),

@@ -10,7 +10,7 @@ pub(crate) type LineEnd = &'static [u8];
 /// The end of a line as CWR has it.
 pub(crate) const CRLF: LineEnd = b"\r\n";
 
-/// The end of a line as many programs write it.
+/// The end of a line as many programs write it, without CR.
 pub(crate) const LF: LineEnd = b"\n";
 
 /// A field of a record: its first column, from 1, and its bytes.
@@ -22,7 +22,7 @@ pub(crate) struct Form {
     text: Vec<u8>,
     /// Where each record begins.
     starts: Vec<usize>,
-    /// How many records there are.
+    /// The number of records.
     records: u32,
     line_end: LineEnd,
 }
@@ -33,7 +33,8 @@ impl Form {
         Form::dated(alloc, kind, line_end, b"20010203", b"000330")
     }
 
-    /// The same, with this copyright date and duration.
+    /// The same, with a copyright date and duration. `alloc` allocates, `kind` is the record type of the header, and
+    /// `line_end` ends each line. `date` and `duration` are the bytes of these fields.
     pub(crate) fn dated<'f>(
         alloc: Global,
         kind: &[u8],
@@ -61,7 +62,7 @@ impl Form {
         &self.starts
     }
 
-    /// How many records there are.
+    /// The number of records.
     pub(crate) fn records(&self) -> u32 {
         self.records
     }
@@ -95,7 +96,7 @@ impl Form {
         put(self.text.as_mut_slice(), at, field);
     }
 
-    /// Appends a publisher with this share of each right, and where it collects that.
+    /// Appends a publisher with this share of each right, and the territory where it collects that.
     fn push_publisher(&mut self, party: u32, share: u32) -> Result<(), Memory> {
         self.push_publisher_alone(&nine(party), &five(share))?;
         self.push_publisher_territory(&nine(party), &five(share))
@@ -167,13 +168,14 @@ impl Form {
         )
     }
 
-    /// Appends where a writer collects this share, and who is the writer's publisher.
+    /// Appends the territory where a writer collects this share, and the link to the writer's publisher.
     fn push_collection(&mut self, party: u32, share: u32, publisher: u32) -> Result<(), Memory> {
         self.push_writer_territory(&nine(party), &five(share), b"I2136")?;
         self.push_link(&nine(party), &nine(publisher))
     }
 
-    /// Appends what a writer collects in a territory, which has its indicator in front of it.
+    /// Appends a writer's territory: the party, the share of each right that is collected, and the TIS code with its
+    /// indicator in front of it.
     pub(crate) fn push_writer_territory<'f>(
         &mut self,
         party: &'f [u8; 9],
@@ -223,9 +225,9 @@ pub(crate) fn part(
     Ok(form)
 }
 
-/// A work of 3 to 20 records: publishers, writers, where they collect, other titles and cross-references. How many of each
-/// follows from a number: any sixteen numbers in a row give each count of publishers, none to three, with each count of
-/// writers, one to four.
+/// A work of 3 to 20 records: publishers, writers, where they collect, other titles and cross-references. The number of
+/// each follows from `number`: any sixteen numbers in a row give each count of publishers, none to three, with each
+/// count of writers, one to four.
 pub(crate) fn mixed(
     alloc: Global,
     number: u32,

@@ -1,5 +1,5 @@
-//! The jobs that people wait for, on inputs that follow from a seed: `timed_jobs JOB SIZE SEED` does one of them through
-//! the calls of the libraries, and prints a digest of all that it leaves. `bench/` times them.
+//! The jobs that people wait for, on inputs that follow from a seed: `timed_jobs JOB SIZE SEED` does one of them
+//! through the calls of the libraries, and prints a digest of all that it leaves. `bench/` times them.
 #![tactic(auto)]
 
 mod answers;
@@ -33,7 +33,7 @@ use std::thread::Threads;
 
 fn main(rt: HostRuntime) -> ExitCode {
     match words_of(&rt) {
-        Some((job, size, seed)) => told(&rt, job.as_str(), size, seed),
+        Some((job, size, seed)) => run_jobs(&rt, job.as_str(), size, seed),
         None => ExitCode::FAILURE,
     }
 }
@@ -63,8 +63,8 @@ const JOBS: [&str; 7] = [
     "awkward",
 ];
 
-/// Does a job, or each of them for `all`, and tells the digest.
-fn told<R: AllocGlobal + Print + Eprint + Threads + Wait + Sync>(
+/// Does a job, or each of them for `all`, and prints the digest.
+fn run_jobs<R: AllocGlobal + Print + Eprint + Threads + Wait + Sync>(
     rt: &R,
     job: &str,
     size: u32,
@@ -74,7 +74,7 @@ fn told<R: AllocGlobal + Print + Eprint + Threads + Wait + Sync>(
     for name in JOBS {
         if job == name || job == "all" {
             some = true;
-            if !is_told(rt, name, size, seed) {
+            if !run_and_print(rt, name, size, seed) {
                 return ExitCode::FAILURE;
             }
         }
@@ -86,8 +86,8 @@ fn told<R: AllocGlobal + Print + Eprint + Threads + Wait + Sync>(
     }
 }
 
-/// Does the job of this name, and answers whether its digest is told.
-fn is_told<R: AllocGlobal + Print + Eprint + Threads + Wait + Sync>(
+/// Does the job of this name, and returns whether its digest was printed.
+fn run_and_print<R: AllocGlobal + Print + Eprint + Threads + Wait + Sync>(
     rt: &R,
     name: &str,
     size: u32,

@@ -11,14 +11,14 @@ use cwr_desk::{
     Book, FileOutcome, Job, Run, Stamp, Why, cut, date, serve_in_turn, time, work_alone,
 };
 use cwr_field::Memory;
-use kept_register::{new_book, read_book};
+use register_store::{new_book, read_book};
 use std::alloc::Global;
 
-/// How many bytes a file or a register gives in a read.
-pub(crate) const PIECE: usize = 65_536;
+/// The number of bytes that a read of a file or a register gives.
+pub(crate) const CHUNK: usize = 65_536;
 
-/// The most files of a run.
-pub(crate) const MOST_FILES: usize = 63;
+/// The greatest number of files of a run.
+pub(crate) const MAX_FILES: usize = 63;
 
 type DigestJob<'a> = Job<Feed<'a>, Digest>;
 
@@ -34,14 +34,14 @@ pub(crate) fn stamp() -> Result<Stamp, Memory> {
 
 /// Two nights, one after the other, each from the register of the night before, and then small files one at a time.
 ///
-/// The first night has eighteen large files of new works. The second has sixty-three smaller ones: new works, revisions,
-/// and works that other submitters have claimed.
+/// The first night has eighteen large files of new works. The second has sixty-three smaller ones: new works,
+/// revisions, and works that other submitters have claimed.
 pub(crate) fn nights(alloc: Global, size: u32, chance: &mut Chance) -> Result<Digest, Memory> {
     let mut digest = Digest::new();
     let files = large_files(alloc, size, chance)?;
     let book = run(alloc, new_book(alloc), &files, &mut digest)?;
     let register = register_of(alloc, &book, &mut digest)?;
-    let Ok(book) = read_book(alloc, &mut Feed::new(&register, PIECE, None)) else {
+    let Ok(book) = read_book(alloc, &mut Feed::new(&register, CHUNK, None)) else {
         return Err(Memory);
     };
     let files = small_files(alloc, size, chance)?;
@@ -51,8 +51,8 @@ pub(crate) fn nights(alloc: Global, size: u32, chance: &mut Chance) -> Result<Di
     Ok(digest)
 }
 
-/// The new works of sixteen submitters, a file each. Two submitters' works have many records each, and come in two files of
-/// half the works: all in one would be longer than a file may be.
+/// The new works of sixteen submitters, a file each. The works of two submitters have many records each, and come in
+/// two files of half the works: one file would be longer than the limit.
 fn large_files(alloc: Global, size: u32, chance: &mut Chance) -> Result<Vec<Vec<u8>>, Memory> {
     let mut files = Vec::new(alloc);
     for number in 0..16u32 {
@@ -76,8 +76,8 @@ fn large_files(alloc: Global, size: u32, chance: &mut Chance) -> Result<Vec<Vec<
     Ok(files)
 }
 
-/// Sixty-three files of a tenth of the size, or a fortieth of works of many records: revisions of works of the night before,
-/// works of theirs that another submitter claims, and new ones.
+/// Sixty-three files of a tenth of the size, or a fortieth for works of many records. They have revisions of works of
+/// the night before, works of these that another submitter claims, and new works.
 fn small_files(alloc: Global, size: u32, chance: &mut Chance) -> Result<Vec<Vec<u8>>, Memory> {
     let mut files = Vec::new(alloc);
     for number in 0..63u32 {
@@ -109,7 +109,9 @@ fn small_order(size: u32, number: u32) -> Order {
     }
 }
 
-/// Files of twenty works, each worked alone at the book, after all that came before.
+/// Files of twenty works, each worked alone at the book, after all that came before. `alloc` allocates, `size` sets the
+/// number of files, and `chance` gives the numbers. `book` is the one that they are worked into, and `digest` takes the
+/// results.
 fn one_at_a_time(
     alloc: Global,
     size: u32,
@@ -129,7 +131,7 @@ fn one_at_a_time(
     Ok(book)
 }
 
-/// Works files in turn at a book, and answers it as one whose entries are all of its opening.
+/// Works files in turn at a book, and returns it as one whose entries are all of its opening.
 fn run(alloc: Global, book: Book, files: &[Vec<u8>], digest: &mut Digest) -> Result<Book, Memory>
     requires { is_opening book.history ≡ true }
 {
@@ -143,12 +145,12 @@ fn run(alloc: Global, book: Book, files: &[Vec<u8>], digest: &mut Digest) -> Res
     }
 }
 
-/// A job for each of these files, at most as many as a run takes.
+/// A job for each of these files, at most the number that a run takes.
 fn jobs_of<'a>(alloc: Global, files: &'a [Vec<u8>]) -> Result<Vec<DigestJob<'a>>, Memory>
     ensures few { IfOk result (λ jobs. vec_len jobs < 64) }
     ensures works { IfOk result (λ jobs. All (λ j. (j.reader.has_failed ≡ false) × (j.writer.failed ≡ false)) jobs.items) }
 {
-    let files = &files[..files.len().min(MOST_FILES)];
+    let files = &files[..files.len().min(MAX_FILES)];
     let mut jobs = Vec::new(alloc);
     for file in files {
         jobs.push(job_of(file))?;
@@ -161,7 +163,7 @@ pub(crate) fn job_of<'a>(text: &'a [u8]) -> DigestJob<'a>
     ensures { (result.reader.has_failed ≡ false) × (result.writer.failed ≡ false) }
 {
     Job {
-        reader: Feed::new(text, PIECE, None),
+        reader: Feed::new(text, CHUNK, None),
         writer: Digest::new(),
     }
 }
@@ -218,13 +220,13 @@ pub(crate) fn register_of(
     digest: &mut Digest,
 ) -> Result<Vec<u8>, Memory> {
     let mut register = Vec::new(alloc);
-    let mut pieces = book.register_pieces(alloc, PIECE)?;
+    let mut chunks = book.register_chunks(alloc, CHUNK)?;
     for _ in 0..=u32::MAX {
-        pieces.advance();
-        if pieces.piece().is_empty() {
+        chunks.advance();
+        if chunks.chunk().is_empty() {
             break;
         }
-        register.extend_from_slice(pieces.piece())?;
+        register.extend_from_slice(chunks.chunk())?;
     }
     digest.text(&register);
     Ok(register)

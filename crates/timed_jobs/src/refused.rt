@@ -11,11 +11,11 @@ use std::alloc::Global;
 /// Where GRH begins, behind HDR and its line end.
 const GROUP: usize = 88;
 
-/// How many bytes GRT and TRL have, each with its line end.
+/// The number of bytes of GRT and of TRL, each with its line end.
 const TRAILER: usize = 26;
 
-/// A file of so many works, most of them with a fault or a remark, whose first fault is the one with this number, F1 to F12:
-/// near its end, where the rule allows that. With another number it has none.
+/// A file of `works` works, most of them with a fault or a remark. Its first fault is the one with number `fault`, F1
+/// to F12: near its end, if the rule allows that. With another number it has none.
 pub(crate) fn refused_file(
     alloc: Global,
     works: u32,

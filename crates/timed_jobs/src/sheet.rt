@@ -50,7 +50,7 @@ impl Sheet {
         })
     }
 
-    /// Appends a work, and answers where its header begins.
+    /// Appends a work, and returns the position, from 0, where its header begins.
     pub(crate) fn push(&mut self, form: &Form, work: &Work) -> Result<usize, Memory> {
         let start = self.text.len();
         self.text.extend_from_slice(form.text())?;
@@ -92,7 +92,7 @@ fn push_parts(text: &mut Vec<u8>, parts: &[&[u8]]) -> Result<(), Memory> {
     Ok(())
 }
 
-/// Fills in a work whose header begins there.
+/// Fills in a work whose header begins at `start`.
 pub(crate) fn fill(text: &mut [u8], start: usize, work: &Work) {
     put(text, start.saturating_add(19), &work.title);
     put(text, start.saturating_add(81), &work.number);

@@ -1,18 +1,18 @@
-//! A register audited, and told as tables and as a summary.
+//! A register audited, and printed as tables and as a summary.
 
 use crate::chance::Chance;
 use crate::digest::Digest;
 use crate::digits::{nine, work_number};
-use crate::nights::{PIECE, register_of};
+use crate::nights::{CHUNK, register_of};
 use crate::titles::{quoted_title, title};
 use byte_streams::Feed;
 use cwr_field::Memory;
-use kept_register::{MOST_REGISTER_BYTES, REGISTER_WINDOW, audit_source, new_book, read_book};
-use register_tables::{Unwritten, Wanted, claims_text, history_text, summary_text, works_text};
+use register_store::{MAX_REGISTER_BYTES, REGISTER_WINDOW, audit_source, new_book, read_book};
+use register_tables::{TableError, Wanted, claims_text, history_text, summary_text, works_text};
 use std::alloc::Global;
 use work_registry::{Book, Call, Fault, Faults, WorkKind};
 
-/// Registers of so many entries, each audited or told in another way.
+/// Registers of `size` entries, each audited or printed in another way.
 pub(crate) fn tables(alloc: Global, size: u32, chance: &mut Chance) -> Result<Digest, Memory> {
     let mut digest = Digest::new();
     audit(alloc, size, chance, &mut digest)?;
@@ -23,11 +23,11 @@ pub(crate) fn tables(alloc: Global, size: u32, chance: &mut Chance) -> Result<Di
     Ok(digest)
 }
 
-/// Audits a register of twice as many entries.
+/// Audits a register of twice `size` entries.
 fn audit(alloc: Global, size: u32, chance: &mut Chance, digest: &mut Digest) -> Result<(), Memory> {
     let register = new_register(alloc, size.saturating_mul(2), chance)?;
-    let mut feed = Feed::new(&register, PIECE, None);
-    match audit_source(alloc, &mut feed, MOST_REGISTER_BYTES, REGISTER_WINDOW) {
+    let mut feed = Feed::new(&register, CHUNK, None);
+    match audit_source(alloc, &mut feed, MAX_REGISTER_BYTES, REGISTER_WINDOW) {
         Ok(entries) => {
             digest.number(entries);
             Ok(())
@@ -36,7 +36,7 @@ fn audit(alloc: Global, size: u32, chance: &mut Chance, digest: &mut Digest) -> 
     }
 }
 
-/// Tells the claims of a register, all of them, and those of one submitter.
+/// Makes tables of the claims of a register: all of them, and those of one submitter.
 fn claims(
     alloc: Global,
     size: u32,
@@ -55,7 +55,7 @@ fn claims(
     take(claims_text(alloc, Vec::new(alloc), &book, &wanted), digest)
 }
 
-/// Tells the works of a register.
+/// Makes a table of the works of a register.
 fn works(alloc: Global, size: u32, chance: &mut Chance, digest: &mut Digest) -> Result<(), Memory> {
     let book = new_book_read(alloc, size, chance)?;
     take(
@@ -64,7 +64,7 @@ fn works(alloc: Global, size: u32, chance: &mut Chance, digest: &mut Digest) -> 
     )
 }
 
-/// Tells the history of a register, all of it, and that of one work.
+/// Makes tables of the history of a register: all of it, and that of one work.
 fn history(
     alloc: Global,
     size: u32,
@@ -83,7 +83,7 @@ fn history(
     take(history_text(alloc, Vec::new(alloc), &book, &wanted), digest)
 }
 
-/// Tells how much of what is in a register.
+/// Makes the summaries of a register.
 fn summary(
     alloc: Global,
     size: u32,
@@ -94,8 +94,8 @@ fn summary(
     take(summary_text(alloc, Vec::new(alloc), &book), digest)
 }
 
-/// Takes a table that is whole.
-fn take(table: Result<Vec<u8>, Unwritten>, digest: &mut Digest) -> Result<(), Memory> {
+/// Takes a complete table.
+fn take(table: Result<Vec<u8>, TableError>, digest: &mut Digest) -> Result<(), Memory> {
     match table {
         Ok(text) => {
             digest.text(&text);
@@ -105,13 +105,13 @@ fn take(table: Result<Vec<u8>, Unwritten>, digest: &mut Digest) -> Result<(), Me
     }
 }
 
-/// The book that is read from a register of so many entries.
+/// The book that is read from a register of `size` entries.
 fn new_book_read(alloc: Global, size: u32, chance: &mut Chance) -> Result<Book, Memory> {
     let register = new_register(alloc, size, chance)?;
-    read_book(alloc, &mut Feed::new(&register, PIECE, None)).map_err(|_| Memory)
+    read_book(alloc, &mut Feed::new(&register, CHUNK, None)).map_err(|_| Memory)
 }
 
-/// A register of so many entries: new works, revisions, duplicates, conflicts and rejections, in no order of their keys.
+/// A register of `size` entries: new works, revisions, duplicates, conflicts and rejections, in no order of their keys.
 fn new_register(alloc: Global, size: u32, chance: &mut Chance) -> Result<Vec<u8>, Memory> {
     let mut book = new_book(alloc);
     for _ in 0..size {
@@ -124,7 +124,7 @@ fn new_register(alloc: Global, size: u32, chance: &mut Chance) -> Result<Vec<u8>
     register_of(alloc, &book, &mut Digest::new())
 }
 
-/// A call of one of some submitters, on one of the works of a register of so many entries.
+/// A call of one of some submitters, on one of the works of a register of `size` entries.
 fn new_call(alloc: Global, size: u32, chance: &mut Chance) -> Result<Option<Call>, Memory> {
     let number = chance.below(size / 3 + 1);
     let kind = if chance.is_one_in(3) {
@@ -167,7 +167,7 @@ fn faults(alloc: Global, chance: &mut Chance) -> Result<Faults, Memory> {
     Ok(Faults::new(faults))
 }
 
-/// How many submitters there are.
+/// The number of submitters.
 const SUBMITTERS: u32 = 250;
 
 /// A submitter.

@@ -3,17 +3,17 @@
 use crate::catalogue::{Order, Style, file, new_works};
 use crate::chance::Chance;
 use crate::digest::Digest;
-use crate::nights::{PIECE, register_of};
+use crate::nights::{CHUNK, register_of};
 use crate::verifying::{Sent, spoil, verify_all, worked};
 use byte_streams::Feed;
 use cwr_desk::Book;
 use cwr_field::Memory;
-use kept_register::{new_book, read_book};
+use register_store::{new_book, read_book};
 use std::alloc::Global;
 
-/// Verifies files of one work and of thousands: new works, their revisions, catalogues that are sent again, and one work
-/// that is revised again and again, whose files are given from the last to the first. Then once more with an acknowledgement
-/// that tells something else.
+/// Verifies files of one work and of thousands: new works, their revisions, catalogues that are sent again, and one
+/// work that is revised again and again, whose files are given from the last to the first. Then once more with a
+/// changed acknowledgement.
 pub(crate) fn verified(
     alloc: Global,
     size: u32,
@@ -26,7 +26,7 @@ pub(crate) fn verified(
     let book = large(alloc, size, chance, book, &mut sent)?;
     let book = again_and_again(alloc, size / 4, chance, book, &mut sent)?;
     let register = register_of(alloc, &book.reopened(), digest)?;
-    let Ok(book) = read_book(alloc, &mut Feed::new(&register, PIECE, None)) else {
+    let Ok(book) = read_book(alloc, &mut Feed::new(&register, CHUNK, None)) else {
         return Err(Memory);
     };
     verify_all(alloc, &book, &sent, digest)?;
@@ -34,7 +34,8 @@ pub(crate) fn verified(
     verify_all(alloc, &book, &sent, digest)
 }
 
-/// So many files of one work each, of some submitters.
+/// `size` files of one work each, of some submitters. `alloc` allocates, and `chance` gives the numbers. The files are
+/// worked into `book`, and put behind `sent` with their acknowledgements.
 fn small(
     alloc: Global,
     size: u32,
@@ -50,7 +51,9 @@ fn small(
     Ok(book)
 }
 
-/// Three catalogues, each sent, sent again as it is, and then revised.
+/// Three catalogues, each sent, sent again as it is, and then revised. `alloc` allocates, `size` sets the number of
+/// works, and `chance` gives the numbers. The files are worked into `book`, and put behind `sent` with their
+/// acknowledgements.
 fn large(
     alloc: Global,
     size: u32,
@@ -75,7 +78,8 @@ fn large(
     Ok(book)
 }
 
-/// So many files of one work, the last ones in front.
+/// `files` files of one work, the last ones in front. `alloc` allocates, and `chance` gives the numbers. The files are
+/// worked into `book`, and put in `sent` with their acknowledgements.
 fn again_and_again(
     alloc: Global,
     files: u32,

@@ -5,12 +5,12 @@ ghost use Rattle.std.specs.Prelude.{◌≡◌, IfOk, false};
 use crate::catalogue::{Style, file, new_works};
 use crate::chance::Chance;
 use crate::digest::Digest;
-use crate::nights::{PIECE, register_of, stamp};
+use crate::nights::{CHUNK, register_of, stamp};
 use byte_streams::{Feed, Spool};
 use cwr_desk::{Book, Job, work_alone};
 use cwr_field::Memory;
-use cwr_verify::{SentFile, Unverified, verify};
-use kept_register::{new_book, read_book};
+use cwr_verify::{SentFile, VerifyError, verify};
+use register_store::{new_book, read_book};
 use std::alloc::Global;
 
 /// A file that was sent, and its acknowledgement.
@@ -20,14 +20,14 @@ pub(crate) struct Sent {
     acknowledgement: Vec<u8>,
 }
 
-/// The files of a year: each was answered by the registry in its turn. They are verified against its register, and once
-/// more with one acknowledgement that tells something else.
+/// The files of a year, each answered by the registry in its turn. They are verified against its register, and once
+/// more with one changed acknowledgement.
 pub(crate) fn verifying(alloc: Global, size: u32, chance: &mut Chance) -> Result<Digest, Memory> {
     let mut digest = Digest::new();
     let mut sent = Vec::new(alloc);
     let book = year(alloc, size, chance, &mut sent)?;
     let register = register_of(alloc, &book, &mut digest)?;
-    let Ok(book) = read_book(alloc, &mut Feed::new(&register, PIECE, None)) else {
+    let Ok(book) = read_book(alloc, &mut Feed::new(&register, CHUNK, None)) else {
         return Err(Memory);
     };
     verify_all(alloc, &book, &sent, &mut digest)?;
@@ -36,7 +36,7 @@ pub(crate) fn verifying(alloc: Global, size: u32, chance: &mut Chance) -> Result
     Ok(digest)
 }
 
-/// Works so many files of a hundred works one after the other.
+/// Works `size` files of a hundred works one after the other.
 fn year(
     alloc: Global,
     size: u32,
@@ -73,7 +73,7 @@ pub(crate) fn worked(
     Ok(book)
 }
 
-/// Works a file at a book, and answers that with the acknowledgement.
+/// Works a file at a book, and returns that with the acknowledgement.
 fn worked_alone(alloc: Global, book: Book, text: &[u8]) -> Result<(Book, Vec<u8>), Memory> {
     let (book, job, _) = work_alone(alloc, book, 1, spool_job(alloc, text), &stamp()?);
     Ok((book, job.writer.into_bytes()))
@@ -84,7 +84,7 @@ fn spool_job<'a>(alloc: Global, text: &'a [u8]) -> Job<Feed<'a>, Spool>
     ensures { (result.reader.has_failed ≡ false) × (result.writer.has_failed ≡ false) }
 {
     Job {
-        reader: Feed::new(text, PIECE, None),
+        reader: Feed::new(text, CHUNK, None),
         writer: Spool::new(alloc),
     }
 }
@@ -102,7 +102,7 @@ pub(crate) fn spoil(sent: &mut Vec<Sent>, chance: &mut Chance) {
     }
 }
 
-/// Verifies all files, and takes which entries answer them, or what does not fit.
+/// Verifies all files, and takes the entries that answer them, or what does not fit.
 pub(crate) fn verify_all(
     alloc: Global,
     book: &Book,
@@ -126,7 +126,7 @@ pub(crate) fn verify_all(
             }
             Ok(())
         }
-        Err(Unverified::Memory) => Err(Memory),
+        Err(VerifyError::Memory) => Err(Memory),
         Err(unverified) => {
             take_unverified(unverified, digest);
             Ok(())
@@ -135,16 +135,16 @@ pub(crate) fn verify_all(
 }
 
 /// Takes what does not fit.
-fn take_unverified(unverified: Unverified, digest: &mut Digest) {
+fn take_unverified(unverified: VerifyError, digest: &mut Digest) {
     match unverified {
-        Unverified::Memory => digest.text(b"memory"),
-        Unverified::TooLong { file } => digest.number(file as u64),
-        Unverified::Refused { file, number, line } => {
+        VerifyError::Memory => digest.text(b"memory"),
+        VerifyError::TooLong { file } => digest.number(file as u64),
+        VerifyError::Refused { file, number, line } => {
             digest.number(file as u64);
             digest.number(number as u64);
             digest.number(line);
         }
-        Unverified::Transaction {
+        VerifyError::Transaction {
             file,
             group,
             sequence,
@@ -153,7 +153,7 @@ fn take_unverified(unverified: Unverified, digest: &mut Digest) {
             digest.number(group as u64);
             digest.number(sequence as u64);
         }
-        Unverified::Acknowledgement { file, line } => {
+        VerifyError::Acknowledgement { file, line } => {
             digest.number(file as u64);
             digest.number(line as u64);
         }

@@ -8,7 +8,7 @@ use Rattle.std.proofs.lemmas.List.Elements.{All-from_get_or}
 use Rattle.std.proofs.lemmas.Bool.Decides.{nat_tests}
 use Rattle.std.proofs.lemmas.Bool.{cases_lt}
 use Rattle.cwr_call.specs.Lawful.{is_clean}
-use Rattle.cwr_field.specs.Layout.{field, least_printable, is_control, is_printable}
+use Rattle.cwr_field.specs.Layout.{field, min_printable, is_control, is_printable}
 use Rattle.cwr_field.proofs.lemmas.Tests.{both}
 use Rattle.cwr_record.specs.Columns.{field_at}
 use Rattle.work_registry.specs.RegisterColumns as column
@@ -37,13 +37,13 @@ three_blocks text one two three long =
 
 -- ---- texts
 
-printable_byte : (b : ℕ) → is_control b ≡ false → leb least_printable b ≡ true
+printable_byte : (b : ℕ) → is_control b ≡ false → leb min_printable b ≡ true
 printable_byte b e = grind (arith, nat_tests)
 
 each_printable : (xs : List ℕ) → ((i : ℕ) → i < length xs → is_control (get_or xs i 0) ≡ false) → is_printable xs ≡ true
 each_printable [] each = refl
 each_printable (x ∷ xs) each =
-    both (leb least_printable x) (is_printable xs) (printable_byte x (each 0 (omega arith))) (each_printable xs (λ i lt. each (suc i) (omega (arith, lt))))
+    both (leb min_printable x) (is_printable xs) (printable_byte x (each 0 (omega arith))) (each_printable xs (λ i lt. each (suc i) (omega (arith, lt))))
 
 clean_field : (line : List ℕ) (start n : ℕ) → (start - 1) + n ≤ 100 → 100 ≤ length line → ((k : ℕ) → k < 100 → is_control (get_or line k 0) ≡ false) → is_printable (field line start n) ≡ true
 clean_field line start n within long each =

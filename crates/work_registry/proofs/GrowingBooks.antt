@@ -7,13 +7,13 @@ use Rattle.std.specs.HashMap.{HashMap, get, Updates, IsUnchanged}
 use Rattle.cwr_call.specs.CallValue.{CallValue}
 use Rattle.cwr_call.specs.Lawful as lawful
 use Rattle.work_registry.specs.declared.key.Key.{Key}
-use Rattle.work_registry.specs.declared.indexes.KeptClaim.{KeptClaim}
-use Rattle.work_registry.specs.declared.indexes.KeptWork.{KeptWork}
+use Rattle.work_registry.specs.declared.indexes.IndexedClaim.{IndexedClaim}
+use Rattle.work_registry.specs.declared.indexes.IndexedWork.{IndexedWork}
 use Rattle.work_registry.specs.declared.indexes.Decision.{Decision}
 use Rattle.work_registry.specs.EntryValue.{EntryValue, entry_of}
 use Rattle.work_registry.specs.Rows.{Row, key_of, rows_of, rows_of_entry, same_key}
 use Rattle.work_registry.specs.Reply.{reply_to}
-use Rattle.work_registry.specs.Numbers.{most_entries}
+use Rattle.work_registry.specs.Numbers.{max_entries}
 use Rattle.work_registry.specs.History.{IsHistory}
 use Rattle.work_registry.specs.Replay.{entry_for, replay, is_opening}
 use Rattle.work_registry.specs.Indexes.{AreIndexes, IsBook, decision_on, written}
@@ -21,7 +21,7 @@ use Rattle.work_registry.proofs.SoundHistories.{Follows, follows-rest, history-n
 use Rattle.work_registry.proofs.KeptRows.{indexes-step, indexes-room}
 use Rattle.work_registry.proofs.Decided.{decided-change}
 
-pub book-none : (limit : ℕ) → 1 ≤ limit → limit ≤ most_entries → IsBook [] limit
+pub book-none : (limit : ℕ) → 1 ≤ limit → limit ≤ max_entries → IsBook [] limit
 book-none limit least most = record { lawful = history-none; fits = omega arith; least = least; most = most }
 
 pub book-push : (h : List EntryValue) (e : EntryValue) (limit : ℕ) → IsBook h limit → length h < limit → e.reply ≡ reply_to (rows_of h) e.call → IsBook (h ++ e ∷ []) limit
@@ -30,13 +30,13 @@ book-push h e limit b lt is = record { lawful = history-push h e b.lawful is; fi
 pub opening-push : (h : List EntryValue) (e : EntryValue) → is_opening (h ++ e ∷ []) ≡ (is_opening h && (e.session == 0))
 opening-push h e = list_all-append (λ (x : EntryValue). x.session == 0) h (e ∷ []) ∙ ap (λ b. is_opening h && b) (and-true (e.session == 0))
 
-pub indexes-none : {S T : Type 0} (claims : HashMap Key KeptClaim S) (iswcs : HashMap ℕ ℕ T) (works : List KeptWork) → claims.entries ≡ [] → iswcs.entries ≡ [] → works ≡ [] →
+pub indexes-none : {S T : Type 0} (claims : HashMap Key IndexedClaim S) (iswcs : HashMap ℕ ℕ T) (works : List IndexedWork) → claims.entries ≡ [] → iswcs.entries ≡ [] → works ≡ [] →
     AreIndexes [] (get same_key claims) (get nat_eq iswcs) works
 indexes-none claims iswcs works a b c = rw (a, b, c) (record { claim = (λ k. refl); named = (λ i. refl); nine_digits = (λ i lt. refl); count = refl; work = (λ w d lt. absurd (omega (arith, lt))) })
 
 -- after an entry more: room was made, and then what the decision leaves was written
 pub indexes-push : {S T : Type 0} (h : List EntryValue) (session : ℕ) (call : CallValue) (d : Decision)
-    (claims room_claims new_claims : HashMap Key KeptClaim S) (iswcs room_iswcs new_iswcs : HashMap ℕ ℕ T) (works room_works new_works : List KeptWork) →
+    (claims room_claims new_claims : HashMap Key IndexedClaim S) (iswcs room_iswcs new_iswcs : HashMap ℕ ℕ T) (works room_works new_works : List IndexedWork) →
     IsHistory h → IsTrue (lawful.is_iswc call.iswc) → d ≡ decision_on (rows_of h) call →
     AreIndexes (rows_of h) (get same_key claims) (get nat_eq iswcs) works →
     IsUnchanged claims room_claims → IsUnchanged iswcs room_iswcs → room_works ≡ works →

@@ -6,16 +6,16 @@ use Rattle.std.proofs.lemmas.Grind.{common_steps}
 use Rattle.std.proofs.lemmas.List.{get_or-set_same, get_or-set_other}
 use Rattle.std.proofs.lemmas.List.Sums.{sum_by-append, sum_by-cons}
 use Rattle.work_registry.specs.declared.key.Key.{Key}
-use Rattle.cwr_field.specs.Iswc.{most_code}
+use Rattle.cwr_field.specs.Iswc.{max_code}
 use Rattle.cwr_call.specs.CallValue.{CallValue}
 use Rattle.cwr_call.specs.Lawful as lawful
-use Rattle.work_registry.specs.declared.indexes.KeptClaim.{KeptClaim}
-use Rattle.work_registry.specs.declared.indexes.KeptWork.{KeptWork}
+use Rattle.work_registry.specs.declared.indexes.IndexedClaim.{IndexedClaim}
+use Rattle.work_registry.specs.declared.indexes.IndexedWork.{IndexedWork}
 use Rattle.work_registry.specs.declared.reply.Reply.{Reply}
 use Rattle.work_registry.specs.declared.reply.Reply.TheVariants.{Accepted, Duplicate, Conflict, Rejected}
 use Rattle.work_registry.specs.declared.indexes.Change.{Change}
 use Rattle.work_registry.specs.Claims.{versions_of}
-use Rattle.work_registry.specs.Indexes.{AreIndexes, change_of, kept_claim, kept_from, kept_work, written}
+use Rattle.work_registry.specs.Indexes.{AreIndexes, change_of, indexed_claim, kept_from, indexed_work, written}
 use Rattle.work_registry.specs.Reply.{reply_to}
 use Rattle.work_registry.specs.Rows.{Row, key_of, last_of_key, last_such, or_else, row_of, rows_of_entry, same_key}
 use Rattle.work_registry.specs.Works.{control_in, has_work, is_iswc, iswc_of, others_in, share_in, work_count, work_of_iswc}
@@ -24,16 +24,16 @@ use Rattle.work_registry.proofs.OneMoreRow.{eq-sym, sum-current-split, sum-curre
 use Rattle.work_registry.proofs.SoundRows.{IsSound, Takes, takes-from}
 
 -- one more row, at a key
-pub kept_claim-push : (k : Key) (rows : List Row) (r : Row) →
-    kept_claim k (rows ++ r ∷ []) ≡ (if same_key r.key k then Some (kept_from (versions_of k rows + 1) r) else kept_claim k rows)
-kept_claim-push k rows r = by (same_key r.key k) (last_such-push (λ x. same_key x.key k) rows r) more
+pub indexed_claim-push : (k : Key) (rows : List Row) (r : Row) →
+    indexed_claim k (rows ++ r ∷ []) ≡ (if same_key r.key k then Some (kept_from (versions_of k rows + 1) r) else indexed_claim k rows)
+indexed_claim-push k rows r = by (same_key r.key k) (last_such-push (λ x. same_key x.key k) rows r) more
   where
     more : versions_of k (rows ++ r ∷ []) ≡ versions_of k rows + (if same_key r.key k then 1 else 0)
     more = sum_by-append (λ x. if same_key x.key k then 1 else 0) rows (r ∷ []) ∙ ap (λ n. versions_of k rows + n) (zero-add (if same_key r.key k then 1 else 0))
 
     by : (b : Bool) → last_of_key k (rows ++ r ∷ []) ≡ (if b then Some r else last_of_key k rows) →
         versions_of k (rows ++ r ∷ []) ≡ versions_of k rows + (if b then 1 else 0) →
-        kept_claim k (rows ++ r ∷ []) ≡ (if b then Some (kept_from (versions_of k rows + 1) r) else kept_claim k rows)
+        indexed_claim k (rows ++ r ∷ []) ≡ (if b then Some (kept_from (versions_of k rows + 1) r) else indexed_claim k rows)
     by true p q = rw (p, q) refl
     by false p q = rw (p, q, add-zero) refl
 
@@ -54,8 +54,8 @@ control-other i w rows r t e = by (last_of_key r.key rows) refl (sum-current-spl
         let none : share_in i w q ≡ 0 = ap (λ b. if b then slice_index q.control i else 0) f in
         omega (arith, own, grown, s, none)
 
-pub kept_work-other : (w : ℕ) (rows : List Row) (r : Row) → Takes rows r → (r.work == w) ≡ false → kept_work w (rows ++ r ∷ []) ≡ kept_work w rows
-kept_work-other w rows r t e =
+pub indexed_work-other : (w : ℕ) (rows : List Row) (r : Row) → Takes rows r → (r.work == w) ≡ false → indexed_work w (rows ++ r ∷ []) ≡ indexed_work w rows
+indexed_work-other w rows r t e =
     let named : iswc_of w (rows ++ r ∷ []) ≡ iswc_of w rows = iswc_of-push w rows r ∙ ap (λ b. if b && is_some r.iswc then r.iswc else iswc_of w rows) e in
     rw (named, control-other 0 w rows r t e, control-other 1 w rows r t e, control-other 2 w rows r t e) refl
 
@@ -87,29 +87,29 @@ place-positive rows r s t = by (has_work r.work rows) refl
     by true h = (s.numbered r.work h).0
     by false h = let p = t.place h in omega arith
 
-pub works-push : (rows : List Row) (r : Row) (works : List KeptWork) → IsSound rows → Takes rows r → length works ≡ work_count rows →
-    ((w : ℕ) (d : KeptWork) → w < length works → slice_index_or works w d ≡ kept_work (w + 1) rows) →
-    (length (written r.work (kept_work r.work (rows ++ r ∷ [])) works) ≡ work_count (rows ++ r ∷ []))
-    × ((w : ℕ) (d : KeptWork) → w < length (written r.work (kept_work r.work (rows ++ r ∷ [])) works) →
-    slice_index_or (written r.work (kept_work r.work (rows ++ r ∷ [])) works) w d ≡ kept_work (w + 1) (rows ++ r ∷ []))
+pub works-push : (rows : List Row) (r : Row) (works : List IndexedWork) → IsSound rows → Takes rows r → length works ≡ work_count rows →
+    ((w : ℕ) (d : IndexedWork) → w < length works → slice_index_or works w d ≡ indexed_work (w + 1) rows) →
+    (length (written r.work (indexed_work r.work (rows ++ r ∷ [])) works) ≡ work_count (rows ++ r ∷ []))
+    × ((w : ℕ) (d : IndexedWork) → w < length (written r.work (indexed_work r.work (rows ++ r ∷ [])) works) →
+    slice_index_or (written r.work (indexed_work r.work (rows ++ r ∷ [])) works) w d ≡ indexed_work (w + 1) (rows ++ r ∷ []))
 works-push rows r works s t count old = by (nat_lt (r.work - 1) (length works)) refl
   where
     positive : 1 ≤ r.work
     positive = place-positive rows r s t
 
-    next : KeptWork
-    next = kept_work r.work (rows ++ r ∷ [])
+    next : IndexedWork
+    next = indexed_work r.work (rows ++ r ∷ [])
 
-    same : (w : ℕ) → w + 1 ≡ r.work → next ≡ kept_work (w + 1) (rows ++ r ∷ [])
-    same w e = ap (λ n. kept_work n (rows ++ r ∷ [])) (sym e)
+    same : (w : ℕ) → w + 1 ≡ r.work → next ≡ indexed_work (w + 1) (rows ++ r ∷ [])
+    same w e = ap (λ n. indexed_work n (rows ++ r ∷ [])) (sym e)
 
-    other : (w : ℕ) (d : KeptWork) → w < length works → (r.work == (w + 1)) ≡ false → slice_index_or works w d ≡ kept_work (w + 1) (rows ++ r ∷ [])
-    other w d lt e = old w d lt ∙ sym (kept_work-other (w + 1) rows r t e)
+    other : (w : ℕ) (d : IndexedWork) → w < length works → (r.work == (w + 1)) ≡ false → slice_index_or works w d ≡ indexed_work (w + 1) (rows ++ r ∷ [])
+    other w d lt e = old w d lt ∙ sym (indexed_work-other (w + 1) rows r t e)
 
     by : (b : Bool) → nat_lt (r.work - 1) (length works) ≡ b →
         (length (if b then slice_set works (r.work - 1) next else works ++ next ∷ []) ≡ work_count (rows ++ r ∷ []))
-        × ((w : ℕ) (d : KeptWork) → w < length (if b then slice_set works (r.work - 1) next else works ++ next ∷ []) →
-        slice_index_or (if b then slice_set works (r.work - 1) next else works ++ next ∷ []) w d ≡ kept_work (w + 1) (rows ++ r ∷ []))
+        × ((w : ℕ) (d : IndexedWork) → w < length (if b then slice_set works (r.work - 1) next else works ++ next ∷ []) →
+        slice_index_or (if b then slice_set works (r.work - 1) next else works ++ next ∷ []) w d ≡ indexed_work (w + 1) (rows ++ r ∷ []))
     by true e =
         let there : has_work r.work rows ≡ true = place-old rows r s t (length works) count e in
         let grown : work_count (rows ++ r ∷ []) ≡ work_count rows + 0 = work_count-push rows r ∙ ap (λ b. work_count rows + (if b then 0 else 1)) there in
@@ -119,7 +119,7 @@ works-push rows r works s t count old = by (nat_lt (r.work - 1) (length works)) 
           λ w d l. (let l' : w < length works = omega (arith, l, len) in here lt w d l' (r.work == (w + 1)) refl),
         )
       where
-        here : r.work - 1 < length works → (w : ℕ) (d : KeptWork) → w < length works → (b : Bool) → (r.work == (w + 1)) ≡ b → slice_index_or (slice_set works (r.work - 1) next) w d ≡ kept_work (w + 1) (rows ++ r ∷ [])
+        here : r.work - 1 < length works → (w : ℕ) (d : IndexedWork) → w < length works → (b : Bool) → (r.work == (w + 1)) ≡ b → slice_index_or (slice_set works (r.work - 1) next) w d ≡ indexed_work (w + 1) (rows ++ r ∷ [])
         here lt w d l true f =
             let e : r.work ≡ w + 1 = eqb-true _ _ f in
             let at : r.work - 1 ≡ w = omega arith in
@@ -137,7 +137,7 @@ works-push rows r works s t count old = by (nat_lt (r.work - 1) (length works)) 
           λ w d l. (let l' : w < length works + 1 = omega (arith, l, len) in here place w d l' (nat_lt w (length works)) refl),
         )
       where
-        here : r.work ≡ work_count rows + 1 → (w : ℕ) (d : KeptWork) → w < length works + 1 → (b : Bool) → nat_lt w (length works) ≡ b → slice_index_or (works ++ next ∷ []) w d ≡ kept_work (w + 1) (rows ++ r ∷ [])
+        here : r.work ≡ work_count rows + 1 → (w : ℕ) (d : IndexedWork) → w < length works + 1 → (b : Bool) → nat_lt w (length works) ≡ b → slice_index_or (works ++ next ∷ []) w d ≡ indexed_work (w + 1) (rows ++ r ∷ [])
         here place w d l true f =
             let lt : w < length works = grind (arith, common_steps) in
             let got : slice_index_or (works ++ next ∷ []) w d ≡ slice_index_or works w d = grind (arith, common_steps) in
@@ -160,31 +160,31 @@ named-push rows r old new kept step i = by r.iswc step ∙ sym (work_of_iswc-pus
     by (Some j) h = h i ∙ ap (λ b. cond b (Some r.work) (old i)) (eq-sym j i) ∙ ap (λ o. if i == j then Some r.work else o) (kept i)
 
 -- a row of a call has an ISWC of nine digits, or none
-pub nine_digits-push : (rows : List Row) (r : Row) → IsTrue (lawful.is_iswc r.iswc) → ((i : ℕ) → most_code < i → work_of_iswc i rows ≡ None) →
-    (i : ℕ) → most_code < i → work_of_iswc i (rows ++ r ∷ []) ≡ None
+pub nine_digits-push : (rows : List Row) (r : Row) → IsTrue (lawful.is_iswc r.iswc) → ((i : ℕ) → max_code < i → work_of_iswc i rows ≡ None) →
+    (i : ℕ) → max_code < i → work_of_iswc i (rows ++ r ∷ []) ≡ None
 nine_digits-push rows r few old i lt = work_of_iswc-push i rows r ∙ by r.iswc few
   where
     by : (o : Option ℕ) → IsTrue (lawful.is_iswc o) → (if is_iswc i o then Some r.work else work_of_iswc i rows) ≡ None
     by None h = old i lt
     by (Some j) h =
-        let le : j ≤ most_code = grind (arith, common_steps) in
+        let le : j ≤ max_code = grind (arith, common_steps) in
         let apart : (i == j) ≡ false = grind (arith, common_steps) in
         ap (λ b. if b then Some r.work else work_of_iswc i rows) apart ∙ old i lt
 
-pub claims-push : (rows : List Row) (r : Row) (old new : Key → Option KeptClaim) → ((k : Key) → old k ≡ kept_claim k rows) →
+pub claims-push : (rows : List Row) (r : Row) (old new : Key → Option IndexedClaim) → ((k : Key) → old k ≡ indexed_claim k rows) →
     ((k : Key) → new k ≡ cond (same_key r.key k) (Some (kept_from (versions_of r.key rows + 1) r)) (old k)) →
-    (k : Key) → new k ≡ kept_claim k (rows ++ r ∷ [])
-claims-push rows r old new kept step k = step k ∙ by (same_key r.key k) refl ∙ sym (kept_claim-push k rows r)
+    (k : Key) → new k ≡ indexed_claim k (rows ++ r ∷ [])
+claims-push rows r old new kept step k = step k ∙ by (same_key r.key k) refl ∙ sym (indexed_claim-push k rows r)
   where
     by : (b : Bool) → same_key r.key k ≡ b →
         cond b (Some (kept_from (versions_of r.key rows + 1) r)) (old k)
-        ≡ (if b then Some (kept_from (versions_of k rows + 1) r) else kept_claim k rows)
+        ≡ (if b then Some (kept_from (versions_of k rows + 1) r) else indexed_claim k rows)
     by true e = ap (λ n. Some (kept_from (versions_of n rows + 1) r)) (same_key-true _ _ e)
     by false e = kept k
 
 -- what is kept after one more entry, from what the maps and the list say of the write
 pub indexes-step : {S T : Type 0} (rows : List Row) (call : CallValue) (reply : Reply) (step : Option Change)
-    (old_claims new_claims : HashMap Key KeptClaim S) (old_iswcs new_iswcs : HashMap ℕ ℕ T) (old_works new_works : List KeptWork) →
+    (old_claims new_claims : HashMap Key IndexedClaim S) (old_iswcs new_iswcs : HashMap ℕ ℕ T) (old_works new_works : List IndexedWork) →
     IsSound rows → IsTrue (lawful.is_iswc call.iswc) → reply ≡ reply_to rows call → step ≡ change_of rows call reply →
     AreIndexes rows (get same_key old_claims) (get nat_eq old_iswcs) old_works →
     MatchOption step (IsUnchanged old_claims new_claims) (λ s. Updates same_key old_claims new_claims (key_of call) (Some s.claim)) →
@@ -224,14 +224,14 @@ indexes-step {S} {T} rows call reply step oc nc oi ni ow nw sound few is e kept 
     by Rejected is e = same (rw e at claims) (rw e at iswcs) (rw e at works)
 
 -- the control of the other keys of a work, from that of the work and what is kept of the key
-pub control-none_of_key : (i w : ℕ) (k : Key) (rows : List Row) → None ≡ kept_claim k rows → control_in i w rows ≡ others_in i w k rows
+pub control-none_of_key : (i w : ℕ) (k : Key) (rows : List Row) → None ≡ indexed_claim k rows → control_in i w rows ≡ others_in i w k rows
 control-none_of_key i w k rows e = by (last_of_key k rows) refl e
   where
-    by : (o : Option Row) → last_of_key k rows ≡ o → (let n : Option KeptClaim = None in n ≡ option_map (kept_from (versions_of k rows)) o) → control_in i w rows ≡ others_in i w k rows
+    by : (o : Option Row) → last_of_key k rows ≡ o → (let n : Option IndexedClaim = None in n ≡ option_map (kept_from (versions_of k rows)) o) → control_in i w rows ≡ others_in i w k rows
     by None p e = omega (arith, sum-current-split (share_in i w) k rows, ap (λ o. option_map_or (share_in i w) o 0) p)
     by (Some r) p e = absurd (cc)
 
-pub control-some_of_key : (i w : ℕ) (k : Key) (rows : List Row) (c : KeptClaim) → Some c ≡ kept_claim k rows →
+pub control-some_of_key : (i w : ℕ) (k : Key) (rows : List Row) (c : IndexedClaim) → Some c ≡ indexed_claim k rows →
     control_in i w rows ≡ others_in i w k rows + (if c.work == w then slice_index c.control i else 0)
 control-some_of_key i w k rows c e = by (last_of_key k rows) refl e
   where
@@ -242,7 +242,7 @@ control-some_of_key i w k rows c e = by (last_of_key k rows) refl e
         let same : c ≡ kept_from (versions_of k rows) r = cc in
         rw same (sum-current-split (share_in i w) k rows ∙ ap (λ o. others_in i w k rows + option_map_or (share_in i w) o 0) p)
 
-pub versions_some : (k : Key) (rows : List Row) (c : KeptClaim) → Some c ≡ kept_claim k rows → c.version ≡ versions_of k rows
+pub versions_some : (k : Key) (rows : List Row) (c : IndexedClaim) → Some c ≡ indexed_claim k rows → c.version ≡ versions_of k rows
 versions_some k rows c e = by (last_of_key k rows) e
   where
     by : (o : Option Row) → Some c ≡ option_map (kept_from (versions_of k rows)) o → c.version ≡ versions_of k rows
@@ -260,15 +260,15 @@ count_none p (x ∷ xs) e = by (count_none p xs) (last_such p xs) refl (p x) ref
         let own : (let n : ℕ = if p x then 1 else 0 in n ≡ 0) = ap (λ b. if b then 1 else 0) f in
         omega (arith, own, sum_by-cons (λ x. if p x then 1 else 0) x xs, rest q)
 
-pub versions_none : (k : Key) (rows : List Row) → None ≡ kept_claim k rows → versions_of k rows ≡ 0
+pub versions_none : (k : Key) (rows : List Row) → None ≡ indexed_claim k rows → versions_of k rows ≡ 0
 versions_none k rows e = by (last_of_key k rows) refl e
   where
-    by : (o : Option Row) → last_of_key k rows ≡ o → (let n : Option KeptClaim = None in n ≡ option_map (kept_from (versions_of k rows)) o) → versions_of k rows ≡ 0
+    by : (o : Option Row) → last_of_key k rows ≡ o → (let n : Option IndexedClaim = None in n ≡ option_map (kept_from (versions_of k rows)) o) → versions_of k rows ≡ 0
     by None q e = count_none (λ r. same_key r.key k) rows q
     by (Some r) q e = absurd (cc)
 
 -- making room changes nothing
-pub indexes-room : {S T : Type 0} (rows : List Row) (a a' : HashMap Key KeptClaim S) (b b' : HashMap ℕ ℕ T) (w w' : List KeptWork) →
+pub indexes-room : {S T : Type 0} (rows : List Row) (a a' : HashMap Key IndexedClaim S) (b b' : HashMap ℕ ℕ T) (w w' : List IndexedWork) →
     AreIndexes rows (get same_key a) (get nat_eq b) w → IsUnchanged a a' → IsUnchanged b b' → w' ≡ w → AreIndexes rows (get same_key a') (get nat_eq b') w'
 indexes-room rows a a' b b' w w' kept p q r = rw (p, q, r) kept
 

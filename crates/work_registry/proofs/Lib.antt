@@ -18,7 +18,7 @@ pub mod RegisterSteps
 pub mod EachOfList
 pub mod RegisterFaultTexts
 pub mod RegisterEntries
-pub mod RegisterInPieces
+pub mod RegisterInChunks
 pub mod RegisterLines
 pub mod RegisterFirstLine
 pub mod RegisterNextLine

@@ -20,7 +20,7 @@ use Rattle.cwr_field.proofs.lemmas.Printable.{printable-append}
 use Rattle.cwr_field.proofs.lemmas.Tests.{both, parts}
 use Rattle.cwr_call.specs.Lawful.{is_clean, is_fault, rises}
 use Rattle.work_registry.specs.declared.register.head.Head.{Head}
-use Rattle.cwr_field.specs.Layout.{padded, least_printable}
+use Rattle.cwr_field.specs.Layout.{padded, min_printable}
 use Rattle.cwr_record.specs.Layout.{Part}
 use Rattle.cwr_record.specs.Lines.{text_of, code_text, line_of, IsWhole}
 use Rattle.cwr_record.proofs.lemmas.Codes.{length-work_kind_code, length-status_text}
@@ -34,15 +34,15 @@ use Rattle.work_registry.proofs.RegisterEntries.{said, same_head}
 
 -- ---- no LF stands in a line before its end
 
-digit_clean : (b : ℕ) → is_ascii_digit b ≡ true → leb least_printable b ≡ true
+digit_clean : (b : ℕ) → is_ascii_digit b ≡ true → leb min_printable b ≡ true
 digit_clean b h = grind (arith, nat_tests)
 
-capital_clean : (b : ℕ) → is_ascii_uppercase b ≡ true → leb least_printable b ≡ true
+capital_clean : (b : ℕ) → is_ascii_uppercase b ≡ true → leb min_printable b ≡ true
 capital_clean b h = grind (arith, nat_tests)
 
-each_clean : (p : ℕ → Bool) → ((b : ℕ) → p b ≡ true → leb least_printable b ≡ true) → (xs : List ℕ) → list_all p xs ≡ true → is_clean xs ≡ true
+each_clean : (p : ℕ → Bool) → ((b : ℕ) → p b ≡ true → leb min_printable b ≡ true) → (xs : List ℕ) → list_all p xs ≡ true → is_clean xs ≡ true
 each_clean p f [] h = refl
-each_clean p f (x ∷ xs) h = let q = parts (p x) (list_all p xs) h in both (leb least_printable x) (is_clean xs) (f x q.0) (each_clean p f xs q.1)
+each_clean p f (x ∷ xs) h = let q = parts (p x) (list_all p xs) h in both (leb min_printable x) (is_clean xs) (f x q.0) (each_clean p f xs q.1)
 
 number_clean : (width n : ℕ) → is_clean (number_text width n) ≡ true
 number_clean width n = each_clean is_ascii_digit digit_clean (number_text width n) (all_digits width n)
@@ -68,12 +68,12 @@ status_clean status.Duplicate = refl
 status_clean status.Conflict = refl
 status_clean status.Rejected = refl
 
-check_clean : (n : ℕ) → leb least_printable (48 + n) ≡ true
+check_clean : (n : ℕ) → leb min_printable (48 + n) ≡ true
 check_clean n = grind (arith, nat_tests)
 
 code_clean : (o : Option ℕ) → is_clean (code_text 11 o) ≡ true
 code_clean None = refl
-code_clean (Some n) = printable-append (84 ∷ number_text 9 n) ((48 + check_digit n) ∷ []) (number_clean 9 n) (both (leb least_printable (48 + check_digit n)) true (check_clean (check_digit n)) refl)
+code_clean (Some n) = printable-append (84 ∷ number_text 9 n) ((48 + check_digit n) ∷ []) (number_clean 9 n) (both (leb min_printable (48 + check_digit n)) true (check_clean (check_digit n)) refl)
 
 fault_clean : (f : Fault) → length f.rtype ≡ 3 → is_fault f ≡ true → is_clean (line_of fault f) ≡ true
 fault_clean f typed h =
@@ -89,7 +89,7 @@ faults_clean (f ∷ fs) typed h =
 clean_has_none : (xs : List ℕ) → is_clean xs ≡ true → has_end xs ≡ false
 clean_has_none [] h = refl
 clean_has_none (x ∷ xs) h =
-    let p = parts (leb least_printable x) (is_clean xs) h in
+    let p = parts (leb min_printable x) (is_clean xs) h in
     let first : (x == 10) ≡ false = (let q = p.0 in grind (arith, nat_tests)) in
     rw first (clean_has_none xs p.1)
 

@@ -6,9 +6,9 @@ use Rattle.std.specs.Char.{is_ascii_uppercase}
 use Rattle.std.proofs.lemmas.Bool.Decides.{nat_tests}
 use Rattle.cwr_call.specs.declared.transaction_fault.Fault.{Fault}
 use Rattle.cwr_call.specs.CallValue.{CallValue}
-use Rattle.cwr_call.specs.Lawful.{most_faults, most_sum, is_lawful, is_clean, is_iswc, are_at_most, is_whole, is_fault, are_faults, rises}
-use Rattle.cwr_field.specs.Iswc.{most_code}
-use Rattle.cwr_field.specs.Number.{most_count}
+use Rattle.cwr_call.specs.Lawful.{max_faults, max_sum, is_lawful, is_clean, is_iswc, are_at_most, is_whole, is_fault, are_faults, rises}
+use Rattle.cwr_field.specs.Iswc.{max_code}
+use Rattle.cwr_field.specs.Number.{max_count}
 use Rattle.cwr_field.proofs.lemmas.Tests.{parts}
 use Rattle.work_registry.specs.declared.reply.Reply.{Reply}
 use Rattle.work_registry.specs.declared.reply.Reply.TheVariants.{Accepted, Duplicate, Conflict, Rejected}
@@ -29,7 +29,7 @@ pub record LawfulParts (c : CallValue) : Type 0 where
   pub title : is_clean c.title ≡ true
   pub number : is_clean c.number ≡ true
   pub iswc : is_iswc c.iswc ≡ true
-  pub control : are_at_most most_sum c.control ≡ true
+  pub control : are_at_most max_sum c.control ≡ true
   pub whole : is_whole c.faults c.control ≡ true
   pub faults : are_faults c.faults ≡ true
 
@@ -37,7 +37,7 @@ pub lawful_parts : (c : CallValue) → IsTrue (is_lawful c) → LawfulParts c
 lawful_parts c h =
     let a = parts _ (are_faults c.faults) h in
     let b = parts _ (is_whole c.faults c.control) a.0 in
-    let d = parts _ (are_at_most most_sum c.control) b.0 in
+    let d = parts _ (are_at_most max_sum c.control) b.0 in
     let e = parts _ (is_iswc c.iswc) d.0 in
     let f = parts _ (is_clean c.number) e.0 in
     let g = parts (is_clean c.submitter) (is_clean c.title) f.0 in
@@ -50,13 +50,13 @@ control_at limit (x ∷ xs) (suc i) h = control_at limit xs i (parts (leb x limi
 
 iswc_fits : (n : Option ℕ) → is_iswc n ≡ true → FitsCode n
 iswc_fits None h = tt
-iswc_fits (Some n) h = let le = le_of n most_code h in omega (arith, le)
+iswc_fits (Some n) h = let le = le_of n max_code h in omega (arith, le)
 
 fault_fits : (f : Fault) → is_fault f ≡ true → Fits fault f
 fault_fits f h =
     let a = parts _ (list_all is_ascii_uppercase f.rtype) h in
-    let b = parts (leb f.sequence most_count) (leb 1 f.number && leb f.number 15) a.0 in
-    let sequence = le_of f.sequence most_count b.0 in
+    let b = parts (leb f.sequence max_count) (leb 1 f.number && leb f.number 15) a.0 in
+    let sequence = le_of f.sequence max_count b.0 in
     let number = le_of f.number 15 (parts (leb 1 f.number) (leb f.number 15) b.1).1 in
     (omega (arith, sequence), (omega (arith, number), tt))
 
@@ -65,16 +65,16 @@ all_fit [] h = tt
 all_fit (f ∷ fs) h = let p = parts (is_fault f) (list_all is_fault fs) h in (fault_fits f p.0, all_fit fs p.1)
 
 -- how many faults there are, and what each is
-pub faults_few : (fs : List Fault) → are_faults fs ≡ true → length fs ≤ most_faults
-faults_few fs h = le_of (length fs) most_faults (parts (leb (length fs) most_faults) (list_all is_fault fs) (parts _ (rises fs) h).0).0
+pub faults_few : (fs : List Fault) → are_faults fs ≡ true → length fs ≤ max_faults
+faults_few fs h = le_of (length fs) max_faults (parts (leb (length fs) max_faults) (list_all is_fault fs) (parts _ (rises fs) h).0).0
 
 pub faults_fit : (fs : List Fault) → are_faults fs ≡ true → AllByRecursion (Fits fault) fs
-faults_fit fs h = all_fit fs (parts (leb (length fs) most_faults) (list_all is_fault fs) (parts _ (rises fs) h).0).1
+faults_fit fs h = all_fit fs (parts (leb (length fs) max_faults) (list_all is_fault fs) (parts _ (rises fs) h).0).1
 
 pub line_fits : (x : EntryLine) → x.index < 10 ^ 8 → x.work < 10 ^ 8 → x.version < 10 ^ 8 → IsTrue (is_lawful x.call) → Fits head (head_of x)
 line_fits x index work version lawful =
     let p = lawful_parts x.call lawful in
-    let rights : (i : ℕ) → slice_index x.call.control i < 10 ^ 12 = λ i. let le = control_at most_sum x.call.control i p.control in omega (arith, le) in
+    let rights : (i : ℕ) → slice_index x.call.control i < 10 ^ 12 = λ i. let le = control_at max_sum x.call.control i p.control in omega (arith, le) in
     let few = faults_few x.call.faults p.faults in
     (tt, (index, (iswc_fits x.call.iswc p.iswc, (rights 0, (rights 1, (rights 2, (work, (version, (omega (arith, few), tt)))))))))
 

@@ -13,13 +13,13 @@ use Rattle.work_registry.specs.declared.register.refusal.RegisterRefusal.TheVari
 use Rattle.work_registry.specs.declared.reply.Reply.{Reply}
 use Rattle.work_registry.specs.EntryValue.{EntryValue, entry_of}
 use Rattle.work_registry.specs.History.{IsHistory}
-use Rattle.work_registry.specs.Numbers.{most_entries}
+use Rattle.work_registry.specs.Numbers.{max_entries}
 use Rattle.work_registry.specs.Rows.{Row, rows_of}
 use Rattle.work_registry.specs.Reply.{reply_to}
 use Rattle.work_registry.specs.Replay.{is_opening}
 use Rattle.work_registry.specs.RegisterLine.{entry_count, IsEntryLine}
 use Rattle.cwr_record.specs.Lines.{line_of}
-use Rattle.work_registry.specs.Told.{status_in}
+use Rattle.work_registry.specs.ReplyParts.{status_in}
 use Rattle.work_registry.specs.Register.{work_of, version_of, line_for, entry_lines, count_line, register_text, opened, IsWholeEntry}
 use Rattle.work_registry.specs.RegisterFaults.{lines, IsFault, IsRefusal}
 use Rattle.work_registry.specs.RegisterReading.{IsReadTo}
@@ -132,18 +132,18 @@ opened_is (e ∷ h) is =
 
 -- ---- what a reader answers of a register that was written
 
-pub read_history : (limit : ℕ) (text : List ℕ) (g h : List EntryValue) → limit ≤ most_entries → length g ≤ limit → is_opening g ≡ true → AllByRecursion IsWholeEntry g → text ≡ register_text g
+pub read_history : (limit : ℕ) (text : List ℕ) (g h : List EntryValue) → limit ≤ max_entries → length g ≤ limit → is_opening g ≡ true → AllByRecursion IsWholeEntry g → text ≡ register_text g
     → AllByRecursion IsWholeEntry h → length h ≤ limit → text ≡ register_text h → g ≡ map opened h
 read_history limit text g h most few opening whole is whole' few' is' =
     sym (opened_is g opening) ∙ one_history g h (omega (arith, few, most)) (omega (arith, few', most)) whole whole' (sym is ∙ is')
 
-memory_alone : (limit : ℕ) (text : List ℕ) (h : List EntryValue) (e : RegisterRefusal) → limit ≤ most_entries → IsRefusal limit text e → IsHistory h → AllByRecursion IsWholeEntry h → length h ≤ limit → text ≡ register_text h → e ≡ Memory
+memory_alone : (limit : ℕ) (text : List ℕ) (h : List EntryValue) (e : RegisterRefusal) → limit ≤ max_entries → IsRefusal limit text e → IsHistory h → AllByRecursion IsWholeEntry h → length h ≤ limit → text ≡ register_text h → e ≡ Memory
 memory_alone limit text h Memory most refusal is whole few e = refl
 memory_alone limit text h (Fault number line) most refusal is whole few e =
     let P : List ℕ → Type 0 = λ xs. IsFault limit xs line number in
     absurd (no_fault limit h line number is whole few (omega (arith, few, most)) (subst P e refusal.has))
 
-pub refused_history : {B : Type 0} (limit : ℕ) (text : List ℕ) (h : List EntryValue) (r : Result B RegisterRefusal) (e : RegisterRefusal) (P : B → Type 0) → limit ≤ most_entries
+pub refused_history : {B : Type 0} (limit : ℕ) (text : List ℕ) (h : List EntryValue) (r : Result B RegisterRefusal) (e : RegisterRefusal) (P : B → Type 0) → limit ≤ max_entries
     → IsErrAnd r (λ x. x ≡ e) → IsRefusal limit text e → IsHistory h → AllByRecursion IsWholeEntry h → length h ≤ limit → text ≡ register_text h → MatchResult r P (λ x. x ≡ Memory)
 refused_history limit text h (Ok b) e P most is refusal hist whole few t = absurd is
 refused_history limit text h (Err x) e P most is refusal hist whole few t = is ∙ memory_alone limit text h e most refusal hist whole few t

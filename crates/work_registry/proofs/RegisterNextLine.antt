@@ -16,7 +16,7 @@ use Rattle.work_registry.specs.Rows.{rows_of}
 use Rattle.work_registry.specs.Reply.{reply_to}
 use Rattle.work_registry.specs.Replay.{is_opening}
 use Rattle.work_registry.specs.RegisterLine.{EntryLine, IsEntryLine, head, head_of, fault}
-use Rattle.work_registry.specs.Told.{status_in}
+use Rattle.work_registry.specs.ReplyParts.{status_in}
 use Rattle.work_registry.specs.Register.{work_of, version_of, line_for, entry_line, entry_lines, count_line, register_text, IsWholeEntry}
 use Rattle.work_registry.specs.RegisterFaults.{in_front, lines, has_end, IsNoEntry, Tells, HasNumber, HasFaultAfter, IsFault, IsLeastFault, IsRefusal}
 use Rattle.work_registry.specs.RegisterReading.{IsReadTo}

@@ -5,8 +5,8 @@ use Rattle.std.proofs.lemmas.List.Sums.{sum_by-cons, count_by-le-length}
 use Rattle.std.specs.Option.{option_map, is_some}
 use Rattle.work_registry.specs.declared.key.Key.{Key}
 use Rattle.cwr_call.specs.declared.transaction_fault.Fault.{Fault}
-use Rattle.work_registry.specs.declared.indexes.KeptClaim.{KeptClaim}
-use Rattle.work_registry.specs.declared.indexes.KeptWork.{KeptWork}
+use Rattle.work_registry.specs.declared.indexes.IndexedClaim.{IndexedClaim}
+use Rattle.work_registry.specs.declared.indexes.IndexedWork.{IndexedWork}
 use Rattle.work_registry.specs.declared.indexes.Change.{Change}
 use Rattle.cwr_record.specs.declared.works.WorkKind.{WorkKind}
 use Rattle.cwr_record.specs.declared.works.WorkKind.TheVariants.{Nwr, Rev}
@@ -16,9 +16,9 @@ use Rattle.work_registry.specs.declared.reply.Reply.{Reply}
 use Rattle.work_registry.specs.declared.reply.Reply.TheVariants.{Accepted, Duplicate, Conflict, Rejected}
 use Rattle.work_registry.specs.Claims.{versions_of}
 use Rattle.work_registry.specs.History.{IsHistory, IsNamedOnce, KeepsNames}
-use Rattle.work_registry.specs.Indexes.{change_of, kept_claim, kept_from, kept_work, newer}
-use Rattle.work_registry.specs.Numbers.{IsNumbered, most_entries}
-use Rattle.work_registry.specs.Reply.{clashes, is_over, most_control, reply_after, reply_after_row, reply_for_work, reply_to, reply_unless, work_for}
+use Rattle.work_registry.specs.Indexes.{change_of, indexed_claim, kept_from, indexed_work, newer}
+use Rattle.work_registry.specs.Numbers.{IsNumbered, max_entries}
+use Rattle.work_registry.specs.Reply.{clashes, is_over, max_control, reply_after, reply_after_row, reply_for_work, reply_to, reply_unless, work_for}
 use Rattle.work_registry.specs.Rows.{Row, current, key_of, last_of_key, row_of, rows_of, rows_of_entry, same_key}
 use Rattle.work_registry.specs.Works.{control_in, has_work, iswc_of, others_in, share_in, work_count, work_of_iswc}
 use Rattle.work_registry.proofs.OneMoreRow.{work_count-le, sum-current-split, sum-current-push, iswc_of-push}
@@ -136,12 +136,12 @@ count-le h = omega (arith, work_count-le (rows_of h), rows_of-le h)
 pub versions-le : (k : Key) (h : List EntryValue) → versions_of k (rows_of h) ≤ length h
 versions-le k h = omega (arith, count_by-le-length (λ r. same_key r.key k) (rows_of h), rows_of-le h)
 
-pub others-small : (i w : ℕ) (k : Key) (rows : List Row) → IsSound rows → i < 3 → others_in i w k rows ≤ most_control
+pub others-small : (i w : ℕ) (k : Key) (rows : List Row) → IsSound rows → i < 3 → others_in i w k rows ≤ max_control
 others-small i w k rows s lt = omega (arith, sum-current-split (share_in i w) k rows, s.small i w lt)
 
 -- a work with no row has no ISWC and no control
-pub kept_work-none : (w : ℕ) (rows : List Row) → has_work w rows ≡ false → (let k : KeptWork = record { iswc = None; control = 0 ∷ 0 ∷ 0 ∷ [] } in k ≡ kept_work w rows)
-kept_work-none w rows e = rw (iswc-none w rows e, control-none 0 w rows e, control-none 1 w rows e, control-none 2 w rows e) refl
+pub indexed_work-none : (w : ℕ) (rows : List Row) → has_work w rows ≡ false → (let k : IndexedWork = record { iswc = None; control = 0 ∷ 0 ∷ 0 ∷ [] } in k ≡ indexed_work w rows)
+indexed_work-none w rows e = rw (iswc-none w rows e, control-none 0 w rows e, control-none 1 w rows e, control-none 2 w rows e) refl
 
 -- the work of a reply is one of the works, or a new one
 abbrev pub IsPlaced : ℕ → Reply → Type 0
@@ -184,7 +184,7 @@ placed rows call s = by_faults call.faults
     by_faults [] = by_row (last_of_key (key_of call) rows) refl
     by_faults (f ∷ fs) = tt
 
-pub reply-within : (h : List EntryValue) (call : CallValue) → IsHistory h → length h < most_entries → IsNumbered (reply_to (rows_of h) call)
+pub reply-within : (h : List EntryValue) (call : CallValue) → IsHistory h → length h < max_entries → IsNumbered (reply_to (rows_of h) call)
 reply-within h call is lt = by (reply_to (rows_of h) call) refl (placed (rows_of h) call (sound h is))
   where
     by : (r : Reply) → reply_to (rows_of h) call ≡ r → IsPlaced (work_count (rows_of h) + 1) r → IsNumbered r
@@ -208,18 +208,18 @@ step-iswc rows call w = iswc_of-push w rows (row_of call w) ∙ ap (λ b. if b &
     by None = refl
     by (Some i) = refl
 
-pub last_none : (k : Key) (rows : List Row) → None ≡ kept_claim k rows → last_of_key k rows ≡ None
+pub last_none : (k : Key) (rows : List Row) → None ≡ indexed_claim k rows → last_of_key k rows ≡ None
 last_none k rows e = by (last_of_key k rows) e
   where
-    by : (o : Option Row) → (let n : Option KeptClaim = None in n ≡ option_map (kept_from (versions_of k rows)) o) → o ≡ None
+    by : (o : Option Row) → (let n : Option IndexedClaim = None in n ≡ option_map (kept_from (versions_of k rows)) o) → o ≡ None
     by None e = refl
     by (Some r) e = absurd (cc)
 
-pub reply-new : (rows : List Row) (call : CallValue) → call.faults ≡ [] → None ≡ kept_claim (key_of call) rows → reply_to rows call ≡ reply_for_work rows call (work_for call.iswc rows)
+pub reply-new : (rows : List Row) (call : CallValue) → call.faults ≡ [] → None ≡ indexed_claim (key_of call) rows → reply_to rows call ≡ reply_for_work rows call (work_for call.iswc rows)
 reply-new rows call f e =
     ap (λ fs. reply_unless fs rows call) f ∙ ap (λ o. reply_after o rows call) (last_none (key_of call) rows e)
 
-pub reply-old : (rows : List Row) (call : CallValue) (c : KeptClaim) → call.faults ≡ [] → Some c ≡ kept_claim (key_of call) rows → call.kind ≡ Rev →
+pub reply-old : (rows : List Row) (call : CallValue) (c : IndexedClaim) → call.faults ≡ [] → Some c ≡ indexed_claim (key_of call) rows → call.kind ≡ Rev →
     reply_to rows call ≡ (if clashes call.iswc c.work rows then Conflict c.work else reply_for_work rows call c.work)
 reply-old rows call c f e k = ap (λ fs. reply_unless fs rows call) f ∙ by (last_of_key (key_of call) rows) e
   where
@@ -240,5 +240,5 @@ pub nil-from : {X : Type 0} (xs : List X) → (let t : Bool = true in (length xs
 nil-from [] e = refl
 nil-from (x ∷ xs) e = absurd (omega (arith, eqb-true _ _ e))
 
-pub step-fits : (i : ℕ) (rows : List Row) (call : CallValue) (w v : ℕ) → IsSound rows → i < 3 → reply_to rows call ≡ Accepted w v → others_in i w (key_of call) rows + slice_index call.control i ≤ most_control
+pub step-fits : (i : ℕ) (rows : List Row) (call : CallValue) (w v : ℕ) → IsSound rows → i < 3 → reply_to rows call ≡ Accepted w v → others_in i w (key_of call) rows + slice_index call.control i ≤ max_control
 step-fits i rows call w v s lt e = (takes-from rows call w v s e).0.fits i lt

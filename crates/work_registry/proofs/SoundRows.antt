@@ -12,14 +12,14 @@ use Rattle.work_registry.specs.declared.reply.Reply.{Reply}
 use Rattle.work_registry.specs.declared.reply.Reply.TheVariants.{Accepted, Conflict}
 use Rattle.work_registry.specs.Claims.{versions_of}
 use Rattle.work_registry.specs.History.{Agrees, KeepsNames}
-use Rattle.work_registry.specs.Reply.{clashes, differs, is_over, is_over_in, most_control, reply_after, reply_after_row, reply_for_work, reply_to, reply_unless, work_for}
+use Rattle.work_registry.specs.Reply.{clashes, differs, is_over, is_over_in, max_control, reply_after, reply_after_row, reply_for_work, reply_to, reply_unless, work_for}
 use Rattle.work_registry.specs.Rows.{Row, key_of, last_of_key, last_such, row_of, same_key}
 use Rattle.work_registry.specs.Works.{control_in, has_work, is_iswc, iswc_in, iswc_of, others_in, share_in, work_count, work_of_iswc}
 use Rattle.work_registry.proofs.OneMoreRow.{last_such-is, last_such-in, list_any-push, sum-current-push, sum-current-split, work_count-push, iswc_of-push, work_of_iswc-push}
 use Rattle.cwr_field.proofs.lemmas.Tests.{neither}
 
 pub record IsSound (rows : List Row) : Type 0 where
-  pub small : (i w : ℕ) → i < 3 → control_in i w rows ≤ most_control
+  pub small : (i w : ℕ) → i < 3 → control_in i w rows ≤ max_control
   pub numbered : (w : ℕ) → has_work w rows ≡ true → (1 ≤ w) × (w ≤ work_count rows)
   pub agrees : Agrees rows
 
@@ -28,16 +28,16 @@ pub record Takes (rows : List Row) (r : Row) : Type 0 where
   pub apart : clashes r.iswc r.work rows ≡ false
   pub place : has_work r.work rows ≡ false → r.work ≡ work_count rows + 1
   pub mine : (q : Row) → last_of_key r.key rows ≡ Some q → q.work ≡ r.work
-  pub fits : (i : ℕ) → i < 3 → others_in i r.work r.key rows + slice_index r.control i ≤ most_control
+  pub fits : (i : ℕ) → i < 3 → others_in i r.work r.key rows + slice_index r.control i ≤ max_control
 
 pub fits-each : (rows : List Row) (w : ℕ) (k : Key) (control : List ℕ) → is_over w k control rows ≡ false →
-    (i : ℕ) → i < 3 → others_in i w k rows + slice_index control i ≤ most_control
+    (i : ℕ) → i < 3 → others_in i w k rows + slice_index control i ≤ max_control
 fits-each rows w k control e = by (neither _ _ e)
   where
-    le : (n : ℕ) → nat_lt most_control n ≡ false → n ≤ most_control
+    le : (n : ℕ) → nat_lt max_control n ≡ false → n ≤ max_control
     le n h = grind (arith, common_steps)
 
-    by : (is_over_in 0 w k control rows ≡ false) × ((is_over_in 1 w k control rows || is_over_in 2 w k control rows) ≡ false) → (i : ℕ) → i < 3 → others_in i w k rows + slice_index control i ≤ most_control
+    by : (is_over_in 0 w k control rows ≡ false) × ((is_over_in 1 w k control rows || is_over_in 2 w k control rows) ≡ false) → (i : ℕ) → i < 3 → others_in i w k rows + slice_index control i ≤ max_control
     by h zero lt = le _ h.0
     by h (suc zero) lt = le _ (neither _ _ h.1).0
     by h (suc (suc zero)) lt = le _ (neither _ _ h.1).1
@@ -138,7 +138,7 @@ takes-from rows call w v s e = by_faults call.faults e
     by_faults [] e = by_row (last_of_key (key_of call) rows) refl e
     by_faults (f ∷ fs) e = absurd (cc)
 
-pub small-push : (rows : List Row) (r : Row) → IsSound rows → Takes rows r → (i w : ℕ) → i < 3 → control_in i w (rows ++ r ∷ []) ≤ most_control
+pub small-push : (rows : List Row) (r : Row) → IsSound rows → Takes rows r → (i w : ℕ) → i < 3 → control_in i w (rows ++ r ∷ []) ≤ max_control
 small-push rows r s t i w lt = by (r.work == w) refl
   where
     grown : control_in i w (rows ++ r ∷ []) ≡ others_in i w r.key rows + share_in i w r
@@ -147,10 +147,10 @@ small-push rows r s t i w lt = by (r.work == w) refl
     parts : control_in i w rows ≡ others_in i w r.key rows + option_map_or (share_in i w) (last_of_key r.key rows) 0
     parts = sum-current-split (share_in i w) r.key rows
 
-    by : (b : Bool) → (r.work == w) ≡ b → control_in i w (rows ++ r ∷ []) ≤ most_control
+    by : (b : Bool) → (r.work == w) ≡ b → control_in i w (rows ++ r ∷ []) ≤ max_control
     by true e =
         let own : share_in i w r ≡ slice_index r.control i = ap (λ b. if b then slice_index r.control i else 0) e in
-        let fit : others_in i w r.key rows + slice_index r.control i ≤ most_control = rw (eqb-true _ _ e) at (t.fits i lt) in
+        let fit : others_in i w r.key rows + slice_index r.control i ≤ max_control = rw (eqb-true _ _ e) at (t.fits i lt) in
         omega (arith, grown, own, fit)
     by false e =
         let own : share_in i w r ≡ 0 = ap (λ b. if b then slice_index r.control i else 0) e in

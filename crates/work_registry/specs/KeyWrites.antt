@@ -1,4 +1,4 @@
--- What a key gives to a hasher: its two texts, each whole.
+-- What a key gives to a hasher: its two texts, each in one write.
 use Rattle.std.specs.Prelude.{◌≡◌, ◌&&◌, ℕ, Bool, true, false, IsTrue, List, [], ◌∷◌}
 use Rattle.std.proofs.Common.{ap, refl, sym, ◌∙◌, true≢false}
 use Rattle.std.specs.Cmp.Lexicographic.{bytes_decides}
@@ -6,6 +6,7 @@ use Rattle.std.specs.Str.{bytes_eq}
 use Rattle.work_registry.specs.declared.key.Key.{Key}
 use Rattle.work_registry.specs.Rows.{same_key}
 
+-- the texts that a key gives to a hasher, in order
 abbrev pub key_writes : Key → List (List ℕ)
 key_writes k = k.submitter ∷ k.number ∷ []
 

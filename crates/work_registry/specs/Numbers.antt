@@ -1,18 +1,18 @@
 -- The numbers that a registry gives.
 use Rattle.std.specs.Prelude.{ℕ, ◌≤◌}
-use Rattle.cwr_field.specs.Number.{most_count}
+use Rattle.cwr_field.specs.Number.{max_count}
 use Rattle.work_registry.specs.declared.reply.Reply.{Reply}
 use Rattle.work_registry.specs.declared.reply.Reply.TheVariants.{Accepted, Duplicate, Conflict, Rejected}
 
--- the most entries of a book: as many as eight digits tell
-abbrev pub most_entries : ℕ
-most_entries = most_count
+-- the most entries of a book: the greatest number of eight digits
+abbrev pub max_entries : ℕ
+max_entries = max_count
 
--- from 1 to 99,999,999, so that eight digits tell it
+-- a number from 1 to 99,999,999, which eight digits can hold
 abbrev pub IsNumber : ℕ → Type 0
-IsNumber n = (1 ≤ n) × (n ≤ most_entries)
+IsNumber n = (1 ≤ n) × (n ≤ max_entries)
 
--- the work and the version in a reply are such numbers
+-- the work and the version in a reply are numbers from 1 to 99,999,999
 abbrev pub IsNumbered : Reply → Type 0
 IsNumbered (Accepted w v) = IsNumber w × IsNumber v
 IsNumbered (Duplicate w) = IsNumber w

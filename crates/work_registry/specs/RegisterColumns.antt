@@ -3,7 +3,7 @@ use Rattle.std.specs.Prelude.{ℕ, ◌+◌, ◌-◌}
 use Rattle.cwr_record.specs.Columns.{from}
 use Rattle.cwr_record.specs.declared.columns.Column.{Column}
 
--- every line: what it tells, in three capitals
+-- every line: its kind, in three capitals
 abbrev pub mark : Column
 mark = from 1 3
 
@@ -11,7 +11,7 @@ mark = from 1 3
 abbrev pub count : Column
 count = from 4 8
 
--- the bytes that its fields take
+-- the width of the first line, without LF
 abbrev pub count_width : ℕ
 count_width = count.start + count.width - 1
 
@@ -55,7 +55,7 @@ version = from 157 8
 abbrev pub faults : Column
 faults = from 165 9
 
--- the bytes that its fields of fixed place take
+-- the width of the fields in the line of an entry that stand before its faults
 abbrev pub head_width : ℕ
 head_width = faults.start + faults.width - 1
 
@@ -69,6 +69,6 @@ fault_number = from 9 2
 abbrev pub fault_record_type : Column
 fault_record_type = from 11 3
 
--- the bytes that it takes
+-- the width of one fault in the line of an entry
 abbrev pub fault_width : ℕ
 fault_width = fault_record_type.start + fault_record_type.width - 1

@@ -1,4 +1,5 @@
--- The lines of a register: their layouts, in the words of the layouts of records, and what the line of an entry says.
+-- The lines of a register: their layouts, in the words of the layouts of records, and what the line of an entry
+-- contains.
 use Rattle.std.specs.Prelude.{◌≡◌, ℕ, ◌<◌, ◌^◌, IsTrue, List, [], ◌∷◌, ◌++◌, length, codes, slice_index}
 use Rattle.std.specs.List.{flat_map, AllByRecursion}
 use Rattle.cwr_record.specs.Layout.{Part}
@@ -12,14 +13,14 @@ use Rattle.cwr_call.specs.Lawful.{is_lawful}
 use Rattle.work_registry.specs.declared.register.head.Head.{Head}
 use Rattle.work_registry.specs.RegisterColumns as column
 
--- the first line, with the number of entries
+-- the layout of the first line, which has the number of entries
 abbrev pub entry_count : List (Part ℕ)
 entry_count =
     named column.mark (codes "REG")
     ∷ number column.count (λ n. n)
     ∷ []
 
--- the fields of fixed place in the line of an entry
+-- the layout of an entry's line up to its faults
 abbrev pub head : List (Part Head)
 head =
     named column.mark (codes "ENT")
@@ -38,7 +39,7 @@ head =
     ∷ number column.faults (λ x. x.faults)
     ∷ []
 
--- a fault
+-- the layout of one fault in an entry's line
 abbrev pub fault : List (Part Fault)
 fault =
     number column.fault_sequence (λ x. x.sequence)
@@ -46,16 +47,17 @@ fault =
     ∷ text column.fault_record_type (λ x. x.rtype)
     ∷ []
 
--- what a line says of an entry
+-- what the line of an entry contains
 pub record EntryLine : Type 0 where
   -- the place of the entry in the register, from 1
   pub index : ℕ
   pub call : CallValue
-  -- what it tells of the reply
+  -- the status, the work and the version of the reply; 0 for a work or a version that it does not have
   pub status : Status
   pub work : ℕ
   pub version : ℕ
 
+-- the fields of an entry's line that stand before its faults
 abbrev pub head_of : EntryLine → Head
 head_of x = record {
   index = x.index;
@@ -71,7 +73,7 @@ head_of x = record {
   faults = length x.call.faults;
 }
 
--- what a line with these fields of fixed place and these faults says
+-- what a line with these fields and these faults contains
 abbrev pub line_from : Head → List Fault → EntryLine
 line_from x faults = record {
   index = x.index;
@@ -89,11 +91,11 @@ line_from x faults = record {
   version = x.version;
 }
 
--- the bytes of a line, LF at its end
+-- the bytes of an entry's line, with its LF
 abbrev pub line_text : EntryLine → List ℕ
 line_text x = line_of head (head_of x) ++ flat_map (line_of fault) x.call.faults ++ 10 ∷ []
 
--- a fault whose record type is three bytes
+-- the record type of a fault is three bytes
 abbrev pub IsTyped : Fault → Type 0
 IsTyped f = length f.rtype ≡ 3
 
@@ -106,7 +108,7 @@ pub record IsWholeCall (c : CallValue) : Type 0 where
   pub control : length c.control ≡ 3
   pub types : AllByRecursion IsTyped c.faults
 
--- the line says this of an entry: of a call, and numbers that fit their fields
+-- the line is that of an entry: its numbers fit their fields, and its call is one that a program can have
 pub record IsEntryLine (line : List ℕ) (x : EntryLine) : Type 0 where
   pub text : line ≡ line_text x
   pub index : x.index < 10 ^ 8

@@ -5,22 +5,22 @@ ghost use Rattle.work_registry.specs.Rows.{rows_of};
 ghost use Rattle.work_registry.specs.Works.{work_of_iswc, control_of};
 ghost use Rattle.work_registry.specs.Claims.{claim_of};
 ghost use Rattle.work_registry.specs.Reply.{reply_to};
-ghost use Rattle.work_registry.specs.Numbers.{most_entries, IsNumbered};
+ghost use Rattle.work_registry.specs.Numbers.{max_entries, IsNumbered};
 ghost use Rattle.work_registry.specs.History.{IsHistory, IsShared, IsNamedOnce};
 ghost use Rattle.work_registry.specs.Replay.{is_opening};
 ghost use Rattle.work_registry.specs.Register.{opened};
 ghost use Rattle.work_registry.specs.Refusals.{is_full};
 ghost use Rattle.work_registry.specs.Indexes.{decision_on};
-ghost use Rattle.work_registry.specs.declared.refused.WhyRefused.TheVariants.{Memory};
+ghost use Rattle.work_registry.specs.declared.refused.HandInError.TheVariants.{Memory};
 
 use crate::claim::Claim;
-use crate::deciding::{self, Known};
+use crate::deciding::{self, DecisionIndex};
 use crate::entry::Entry;
+use crate::history_index::HistoryIndex;
 use crate::indexes::{Decision, Indexes};
 use crate::key::Key;
-use crate::ledger::Ledger;
 use crate::past::Past;
-use crate::refused::{Refused, WhyRefused};
+use crate::refused::{HandInError, Refused};
 use crate::reply::Reply;
 use cwr_call::Call;
 use std::alloc::{Allocator, Global};
@@ -36,7 +36,7 @@ pub struct Book<A: Allocator + Copy + Drop = Global> {
     history: Vec<Entry<A>, A>,
     kept: Indexes<A>,
     limit: u32,
-    /// Whether every entry is of the opening.
+    /// Whether every entry is of the opening (session 0).
     opening: bool,
 }
 
@@ -59,47 +59,57 @@ impl<A: Allocator + Copy + Drop> Model for Book<A> {
 
 impl<A: Allocator + Copy + Drop> Book<A> {
     /// A book without entries. No memory is asked for.
+    ///
+    /// # Examples
+    ///
+    /// ```rust
+    /// let book = Book::new(alloc, 1000);
+    /// ```
     pub fn new(alloc: A, limit: u32) -> Book<A>
         requires least { 1 ≤ limit }
-        requires most { limit ≤ most_entries }
+        requires most { limit ≤ max_entries }
         ensures { result ≡ record { history = []; limit = limit } }
     {
-        Book::opening_of(Vec::new(alloc), Ledger::new(alloc), limit)
+        Book::opening_of(Vec::new(alloc), HistoryIndex::new(alloc), limit)
     }
 
-    /// The book of these entries, all of the opening, with this limit, from their ledger. No memory is asked for.
-    pub(crate) fn opening_of(history: Vec<Entry<A>, A>, ledger: Ledger<A>, limit: u32) -> Book<A>
-        requires same { history.items ≡ ledger }
-        requires opening { is_opening ledger ≡ true }
-        requires fits { length ledger ≤ limit }
+    /// The book of these entries, all of the opening, with their indexes and this limit. No memory is asked for.
+    pub(crate) fn opening_of(
+        history: Vec<Entry<A>, A>,
+        history_index: HistoryIndex<A>,
+        limit: u32,
+    ) -> Book<A>
+        requires same { history.items ≡ history_index }
+        requires opening { is_opening history_index ≡ true }
+        requires fits { length history_index ≤ limit }
         requires least { 1 ≤ limit }
-        requires most { limit ≤ most_entries }
-        ensures { result ≡ record { history = ledger; limit = limit } }
+        requires most { limit ≤ max_entries }
+        ensures { result ≡ record { history = history_index; limit = limit } }
     {
         Book {
             history,
-            kept: ledger.kept,
+            kept: history_index.kept,
             limit,
             opening: true,
         }
     }
 
-    /// What its indexes know of its history.
+    /// Its indexes, by which it decides on the next call.
     #[inline(always)]
-    fn known(&self) -> Known<'_, A>
+    fn known(&self) -> DecisionIndex<'_, A>
         ensures { result ≡ self.now.history }
     {
-        Known {
+        DecisionIndex {
             past: Snapshot::of(&Past::of(&self.history)),
             kept: &self.kept,
         }
     }
 
-    /// Answers a call that a session hands in, and keeps it with its reply as the last entry.
+    /// Answers a call that a session hands in, and keeps it with its reply as the last entry. Sessions are numbered
+    /// from 0, the opening, to 63.
     ///
-    /// Two refusals hand the call back and change nothing: `Full` exactly where the history holds as many entries as
-    /// the limit, which is tested first, and `Memory`, with which the system refused room for the entry. Sessions are
-    /// numbered from 0, the opening, to 63.
+    /// A refusal returns the call and changes nothing. It is `Full` exactly where the history holds as many entries as
+    /// the limit, which is tested first. It is `Memory` where the system refused memory for the entry.
     pub fn apply(&mut self, session: u32, call: Call<A>) -> Result<Reply, Refused<A>>
         requires { session ≤ 63 }
         ensures reply { IfOk result (λ r. r ≡ reply_to (rows_of self.old.history) call) }
@@ -113,7 +123,7 @@ impl<A: Allocator + Copy + Drop> Book<A> {
         if self.history.len() >= self.limit as usize {
             return Err(Refused {
                 call,
-                why: WhyRefused::Full,
+                why: HandInError::Full,
             });
         }
         let decision = self.known().decide(&call);
@@ -121,7 +131,7 @@ impl<A: Allocator + Copy + Drop> Book<A> {
         Ok(decision.reply)
     }
 
-    /// Adds an entry: a call with what is decided on it. All room is made before anything is written.
+    /// Adds an entry: a call with what is decided on it. All memory is asked for before anything is written.
     #[inline(always)]
     fn append(&mut self, session: u32, call: Call<A>, decision: Decision) -> Result<(), Refused<A>>
         requires decided { decision ≡ decision_on (rows_of self.old.history) call }
@@ -134,13 +144,13 @@ impl<A: Allocator + Copy + Drop> Book<A> {
         let Ok(()) = self.history.reserve(1) else {
             return Err(Refused {
                 call,
-                why: WhyRefused::Memory,
+                why: HandInError::Memory,
             });
         };
         let Ok(()) = self.kept.make_room() else {
             return Err(Refused {
                 call,
-                why: WhyRefused::Memory,
+                why: HandInError::Memory,
             });
         };
         self.kept.store(deciding::key(&call), deciding::iswc(&call), decision.change);
@@ -165,12 +175,12 @@ impl<A: Allocator + Copy + Drop> Book<A> {
         ensures named_once { IsNamedOnce (rows_of self.now.history) }
         ensures fits { length self.now.history ≤ self.now.limit }
         ensures least { 1 ≤ self.now.limit }
-        ensures most { self.now.limit ≤ most_entries }
+        ensures most { self.now.limit ≤ max_entries }
     {
         &self.history
     }
 
-    /// Does nothing: a proof has from it what holds in every book.
+    /// Does nothing. Its contract gives a proof what holds in every book.
     #[inline(always)]
     pub fn recall(&self)
         ensures lawful { IsHistory self.now.history }
@@ -187,11 +197,11 @@ impl<A: Allocator + Copy + Drop> Book<A> {
         self.history.len()
     }
 
-    /// How many entries there can be.
+    /// The greatest number of entries that there can be.
     pub fn limit(&self) -> u32
         ensures value { result ≡ self.now.limit }
         ensures least { 1 ≤ result }
-        ensures most { result ≤ most_entries }
+        ensures most { result ≤ max_entries }
     {
         self.limit
     }
@@ -203,7 +213,7 @@ impl<A: Allocator + Copy + Drop> Book<A> {
         self.opening
     }
 
-    /// The same book with every entry of the opening, session 0, so that it serves one run more.
+    /// The same book with every entry of the opening, session 0, so that it serves one more run.
     ///
     /// Nothing is copied, and no memory is asked for.
     pub fn reopened(mut self) -> Book<A>
@@ -216,8 +226,19 @@ impl<A: Allocator + Copy + Drop> Book<A> {
 
     /// What is registered under a submitter's number of a work; `None` where no call under it was accepted.
     ///
-    /// The submitter is sender type and sender id of HDR, and the number the submitter work number of NWR or REV, each as it
-    /// stands.
+    /// `submitter` is sender type and sender id of HDR, and `number` is the submitter work number of NWR or REV, each
+    /// byte for byte.
+    ///
+    /// # Examples
+    ///
+    /// ```rust
+    /// /// Prints the claim that the book has under the number of the first work.
+    /// fn print_claim<R: Print>(rt: &R, book: &Book) {
+    ///     if let Some(claim) = book.claim(b"PB000000123", b"A-1           ") {
+    ///         let _ = println!(rt; "work {}, version {}", claim.work, claim.version);
+    ///     }
+    /// }
+    /// ```
     pub fn claim(&self, submitter: &[u8; 11], number: &[u8; 14]) -> Option<Claim>
         ensures { result ≡ claim_of (record { submitter = submitter.now; number = number.now }) (rows_of self.now.history) }
     {
@@ -225,7 +246,7 @@ impl<A: Allocator + Copy + Drop> Book<A> {
             submitter: *submitter,
             number: *number,
         })?;
-        Some(kept.told())
+        Some(kept.to_claim())
     }
 
     /// The work that has an ISWC, given as the number of its nine digits.
@@ -236,7 +257,7 @@ impl<A: Allocator + Copy + Drop> Book<A> {
     }
 
     /// The control of a work: what all submitters' claims on it own together of the performing, the mechanical and the
-    /// synchronization right, in hundredths of one per cent. It is 0 of each for a work that there is not.
+    /// synchronization right, in hundredths of one per cent. For a work that does not exist it is 0 of each.
     pub fn control_of(&self, work: u32) -> [u64; 3]
         ensures { result ≡ control_of work (rows_of self.now.history) }
     {
@@ -244,7 +265,7 @@ impl<A: Allocator + Copy + Drop> Book<A> {
     }
 }
 
-/// Whether every entry is of the opening, with an entry more of a session.
+/// Whether every entry is of the opening once an entry of a session was added.
 fn is_still_opening(opening: bool, session: u32) -> bool
     ensures { result ≡ (opening && (session == 0)) }
 {
@@ -260,7 +281,7 @@ fn open_entries<A: Allocator>(history: &mut [Entry<A>])
     }
 }
 
-/// Writes an entry as the last. No memory is asked for.
+/// Appends an entry, for which there is room. No memory is asked for.
 #[inline(always)]
 pub(crate) fn store_entry<A: Allocator>(history: &mut Vec<Entry<A>, A>, entry: Entry<A>)
     requires { vec_len history.old < vec_capacity history.old }

@@ -3,52 +3,52 @@ ghost use Rattle.cwr_call.specs.Lawful.{is_iswc};
 ghost use Rattle.work_registry.specs.History.{IsHistory};
 ghost use Rattle.work_registry.specs.Rows.{rows_of, key_of};
 ghost use Rattle.work_registry.specs.Works.{others_of, work_count, work_of_iswc};
-ghost use Rattle.work_registry.specs.Reply.{reply_to, reply_for_work, is_over, work_for, clashes, differs, most_control};
-ghost use Rattle.work_registry.specs.Numbers.{most_entries};
-ghost use Rattle.work_registry.specs.Indexes.{kept_claim, kept_work, change_of, decision_on, newer};
+ghost use Rattle.work_registry.specs.Reply.{reply_to, reply_for_work, is_over, work_for, clashes, differs, max_control};
+ghost use Rattle.work_registry.specs.Numbers.{max_entries};
+ghost use Rattle.work_registry.specs.Indexes.{indexed_claim, indexed_work, change_of, decision_on, newer};
 
-use crate::indexes::{Change, Decision, Indexes, KeptClaim, KeptWork, narrow};
+use crate::indexes::{Change, Decision, IndexedClaim, IndexedWork, Indexes, narrow};
 use crate::key::Key;
 use crate::past::Past;
 use crate::reply::Reply;
 use cwr_call::{Call, WorkKind};
-use cwr_field::MOST_WHOLE;
+use cwr_field::MAX_WHOLE;
 use std::alloc::Allocator;
 use std::marker::Model;
 use std::snapshot::Snapshot;
 
-/// What indexes know of a history: who keeps no entry decides by it as a book does.
+/// The indexes of a history. They suffice to decide on a call as a book with that history does.
 ///
 /// A contract sees the history.
 #[derive(Drop)]
-pub(crate) struct Known<'a, A: Allocator + Copy + Drop> {
+pub(crate) struct DecisionIndex<'a, A: Allocator + Copy + Drop> {
     pub(crate) past: Snapshot<Past<A>>,
     pub(crate) kept: &'a Indexes<A>,
 }
 
-impl<'a, A: Allocator + Copy + Drop> Model for Known<'a, A> {
+impl<'a, A: Allocator + Copy + Drop> Model for DecisionIndex<'a, A> {
     ghost use Rattle.std.specs.Prelude.{◌≤◌, List, length, nat_eq};
     ghost use Rattle.indexmap.specs.IndexMap.{get};
     ghost use Rattle.work_registry.specs.EntryValue.{EntryValue};
     ghost use Rattle.work_registry.specs.History.{IsHistory};
     ghost use Rattle.work_registry.specs.Indexes.{AreIndexes};
-    ghost use Rattle.work_registry.specs.Numbers.{most_entries};
+    ghost use Rattle.work_registry.specs.Numbers.{max_entries};
     ghost use Rattle.work_registry.specs.Rows.{rows_of, same_key};
 
     ghost Value = { List EntryValue };
 
     ghost view = { λ k. k.past.value };
 
-    ghost invariant = { λ k. IsHistory k.past.value × (length k.past.value ≤ most_entries)
+    ghost invariant = { λ k. IsHistory k.past.value × (length k.past.value ≤ max_entries)
         × AreIndexes (rows_of k.past.value) (get same_key k.kept.now.claims) (get nat_eq k.kept.now.iswcs) k.kept.now.works.items };
 }
 
-impl<'a, A: Allocator + Copy + Drop> Known<'a, A> {
-    /// Does nothing: a proof has from it what holds of the history.
+impl<'a, A: Allocator + Copy + Drop> DecisionIndex<'a, A> {
+    /// Does nothing. Its contract gives a proof what holds of the history.
     #[inline(always)]
     fn recall(&self)
         ensures lawful { IsHistory self.now }
-        ensures few { length self.now ≤ most_entries }
+        ensures few { length self.now ≤ max_entries }
     {
         let _ = &self.past;
     }
@@ -64,10 +64,10 @@ impl<'a, A: Allocator + Copy + Drop> Known<'a, A> {
         Decision { reply, change }
     }
 
-    /// What is kept of the claim under a key.
+    /// What is kept of the claim under a key; `None` where there is no claim.
     #[inline(always)]
-    pub(crate) fn claim_under(&self, key: &Key) -> Option<KeptClaim>
-        ensures { result ≡ kept_claim key.now (rows_of self.now) }
+    pub(crate) fn claim_under(&self, key: &Key) -> Option<IndexedClaim>
+        ensures { result ≡ indexed_claim key.now (rows_of self.now) }
     {
         self.kept.claims.get(key).copied()
     }
@@ -82,11 +82,11 @@ impl<'a, A: Allocator + Copy + Drop> Known<'a, A> {
         iswcs.get(&iswc).copied()
     }
 
-    /// The reply to a call, from the claim under its key.
+    /// The reply to a call. `key` is the call's, and `claim` is the claim under it, or `None`.
     #[inline(always)]
-    fn reply(&self, call: &Call<A>, key: &Key, claim: Option<KeptClaim>) -> Reply
+    fn reply(&self, call: &Call<A>, key: &Key, claim: Option<IndexedClaim>) -> Reply
         requires own { key.now ≡ key_of call.now }
-        requires known { claim ≡ kept_claim (key_of call.now) (rows_of self.now) }
+        requires known { claim ≡ indexed_claim (key_of call.now) (rows_of self.now) }
         ensures { result ≡ reply_to (rows_of self.now) call.now }
     {
         if !call.faults().is_empty() {
@@ -107,17 +107,19 @@ impl<'a, A: Allocator + Copy + Drop> Known<'a, A> {
         }
     }
 
-    /// The reply to a call for a work: it is accepted, unless a right would be owned beyond the whole.
+    /// The reply to a call for a work: it is accepted, unless more than the whole of a right would be claimed.
+    ///
+    /// `key` is the call's, and `claim` is the claim under it, or `None`.
     #[inline(always)]
     fn reply_for_work(
         &self,
         call: &Call<A>,
         key: &Key,
-        claim: Option<KeptClaim>,
+        claim: Option<IndexedClaim>,
         work: u32,
     ) -> Reply
         requires own { key.now ≡ key_of call.now }
-        requires known { claim ≡ kept_claim (key_of call.now) (rows_of self.now) }
+        requires known { claim ≡ indexed_claim (key_of call.now) (rows_of self.now) }
         ensures { result ≡ reply_for_work (rows_of self.now) call.now work }
     {
         self.recall();
@@ -133,20 +135,23 @@ impl<'a, A: Allocator + Copy + Drop> Known<'a, A> {
         }
     }
 
-    /// Whether some right of a work would be owned beyond the whole, by a call under a key, whose claim is given.
+    /// Whether more than the whole of some right of a work would be claimed, where a call with this control is accepted
+    /// under a key.
+    ///
+    /// `claim` is the claim under the key, or `None`.
     #[inline(always)]
-    fn is_over(&self, key: &Key, claim: Option<KeptClaim>, work: u32, control: [u64; 3]) -> bool
-        requires { claim ≡ kept_claim key.now (rows_of self.now) }
+    fn is_over(&self, key: &Key, claim: Option<IndexedClaim>, work: u32, control: [u64; 3]) -> bool
+        requires { claim ≡ indexed_claim key.now (rows_of self.now) }
         ensures { result ≡ is_over work key.now control (rows_of self.now) }
     {
         self.recall();
         are_over_whole(self.others(key, claim, work), control)
     }
 
-    /// The control of a work under other keys than one, whose claim is given.
+    /// The control of a work under all keys but this one. `claim` is the claim under this key, or `None`.
     #[inline(always)]
-    fn others(&self, key: &Key, claim: Option<KeptClaim>, work: u32) -> [u16; 3]
-        requires { claim ≡ kept_claim key.now (rows_of self.now) }
+    fn others(&self, key: &Key, claim: Option<IndexedClaim>, work: u32) -> [u16; 3]
+        requires { claim ≡ indexed_claim key.now (rows_of self.now) }
         ensures { result ≡ others_of work key.now (rows_of self.now) }
     {
         let all = self.work(work).control;
@@ -169,33 +174,33 @@ impl<'a, A: Allocator + Copy + Drop> Known<'a, A> {
     /// The number of works.
     fn works(&self) -> u32
         ensures count { result ≡ work_count (rows_of self.now) }
-        ensures few { result ≤ most_entries }
+        ensures few { result ≤ max_entries }
     {
         self.kept.works.len() as u32
     }
 
-    /// What is kept of a work; nothing of one that there is not.
+    /// What is kept of a work. A work that does not exist has no ISWC and no control.
     #[inline(always)]
-    pub(crate) fn work(&self, work: u32) -> KeptWork
-        ensures { result ≡ kept_work work (rows_of self.now) }
+    pub(crate) fn work(&self, work: u32) -> IndexedWork
+        ensures { result ≡ indexed_work work (rows_of self.now) }
     {
         self.recall();
         if work == 0 {
-            return KeptWork {
+            return IndexedWork {
                 iswc: None,
                 control: [0; 3],
             };
         }
         match self.kept.works.get(work as usize - 1) {
             Some(kept) => *kept,
-            None => KeptWork {
+            None => IndexedWork {
                 iswc: None,
                 control: [0; 3],
             },
         }
     }
 
-    /// The work of a call under a key without claim: the one that has its ISWC, else a new one.
+    /// The work of a call whose key has no claim: the one that has its ISWC, else a new one.
     #[inline(always)]
     fn work_for(&self, iswc: Option<u64>) -> u32
         ensures { result ≡ work_for iswc (rows_of self.now) }
@@ -209,7 +214,7 @@ impl<'a, A: Allocator + Copy + Drop> Known<'a, A> {
         }
     }
 
-    /// Whether the ISWC is that of another work, or the work has another.
+    /// Whether the ISWC is that of another work, or the work has another one.
     #[inline(always)]
     fn clashes(&self, iswc: Option<u64>, work: u32) -> bool
         ensures { result ≡ clashes iswc work (rows_of self.now) }
@@ -223,17 +228,19 @@ impl<'a, A: Allocator + Copy + Drop> Known<'a, A> {
         }
     }
 
-    /// What a call with this reply leaves, from the claim under its key.
+    /// What a call with this reply changes in the indexes; `None` where it is not accepted.
+    ///
+    /// `key` is the call's, and `claim` is the claim under it, or `None`.
     #[inline(always)]
     fn change(
         &self,
         call: &Call<A>,
         key: &Key,
-        claim: Option<KeptClaim>,
+        claim: Option<IndexedClaim>,
         reply: Reply,
     ) -> Option<Change>
         requires own { key.now ≡ key_of call.now }
-        requires known { claim ≡ kept_claim (key_of call.now) (rows_of self.now) }
+        requires known { claim ≡ indexed_claim (key_of call.now) (rows_of self.now) }
         requires decided { reply ≡ reply_to (rows_of self.now) call.now }
         ensures { result ≡ change_of (rows_of self.now) call.now reply }
     {
@@ -245,12 +252,12 @@ impl<'a, A: Allocator + Copy + Drop> Known<'a, A> {
         let others = self.others(key, claim, work);
         let iswc = newer(iswc(call), self.work(work).iswc);
         Some(Change {
-            claim: KeptClaim {
+            claim: IndexedClaim {
                 work,
                 version,
                 control,
             },
-            work: KeptWork {
+            work: IndexedWork {
                 iswc,
                 control: [
                     others[0] + control[0],
@@ -273,7 +280,7 @@ pub(crate) fn key<A: Allocator>(call: &Call<A>) -> Key
     }
 }
 
-/// The ISWC of a call, as it is kept.
+/// The ISWC of a call, in the type in which it is kept.
 #[inline(always)]
 pub(crate) fn iswc<A: Allocator>(call: &Call<A>) -> Option<u32>
     ensures value { result ≡ call.now.iswc }
@@ -285,20 +292,20 @@ pub(crate) fn iswc<A: Allocator>(call: &Call<A>) -> Option<u32>
     }
 }
 
-/// Whether the controls of some right are together beyond the whole.
+/// Whether the controls of some right together are more than the whole.
 #[inline(always)]
 fn are_over_whole(others: [u16; 3], control: [u64; 3]) -> bool
-    requires performing { slice_index others 0 ≤ most_control }
-    requires mechanical { slice_index others 1 ≤ most_control }
-    requires synchronization { slice_index others 2 ≤ most_control }
-    ensures { result ≡ (nat_lt most_control (slice_index others 0 + slice_index control 0) || (nat_lt most_control (slice_index others 1 + slice_index control 1) || nat_lt most_control (slice_index others 2 + slice_index control 2))) }
+    requires performing { slice_index others 0 ≤ max_control }
+    requires mechanical { slice_index others 1 ≤ max_control }
+    requires synchronization { slice_index others 2 ≤ max_control }
+    ensures { result ≡ (nat_lt max_control (slice_index others 0 + slice_index control 0) || (nat_lt max_control (slice_index others 1 + slice_index control 1) || nat_lt max_control (slice_index others 2 + slice_index control 2))) }
 {
-    control[0] > MOST_WHOLE - others[0] as u64
-        || control[1] > MOST_WHOLE - others[1] as u64
-        || control[2] > MOST_WHOLE - others[2] as u64
+    control[0] > MAX_WHOLE - others[0] as u64
+        || control[1] > MAX_WHOLE - others[1] as u64
+        || control[2] > MAX_WHOLE - others[2] as u64
 }
 
-/// The ISWC of a call, else the one that its work had.
+/// The ISWC of a call, or where it has none, the one that its work had.
 #[inline(always)]
 fn newer(iswc: Option<u32>, kept: Option<u32>) -> Option<u32>
     ensures { result ≡ newer iswc kept }
@@ -309,7 +316,7 @@ fn newer(iswc: Option<u32>, kept: Option<u32>) -> Option<u32>
     }
 }
 
-/// Whether there is a work and it is another.
+/// Whether a work was found that is another one.
 #[inline(always)]
 fn is_other_work(work: u32, found: Option<u32>) -> bool
     ensures { result ≡ differs work found }
@@ -320,7 +327,7 @@ fn is_other_work(work: u32, found: Option<u32>) -> bool
     }
 }
 
-/// Whether there is an ISWC and it is another.
+/// Whether an ISWC was found that is another one.
 #[inline(always)]
 fn is_other_iswc(iswc: u64, found: Option<u32>) -> bool
     ensures { result ≡ differs iswc found }

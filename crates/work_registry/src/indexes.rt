@@ -1,7 +1,7 @@
 ghost use Rattle.std.specs.Prelude.{◌≡◌, ◌≤◌, ◌<◌, ◌+◌, ◌-◌, [], OnOk, vec_len, vec_capacity, nat_eq, slice_index, Some, MatchOption, IfSome};
 ghost use Rattle.indexmap.specs.IndexMap.{get, IsUnchanged, Updates, spare};
 ghost use Rattle.work_registry.specs.Rows.{same_key};
-ghost use Rattle.work_registry.specs.Reply.{most_control};
+ghost use Rattle.work_registry.specs.Reply.{max_control};
 ghost use Rattle.work_registry.specs.Indexes.{written};
 
 use crate::claim::Claim;
@@ -11,9 +11,9 @@ use indexmap::IndexMap;
 use std::alloc::{AllocError, Allocator};
 use std::hash::{BuildHasherDefault, FoldHasher};
 
-/// What a book keeps of a claim. No control that it keeps is above 10,006.
+/// What a book keeps of a claim. None of its controls is above 10,006.
 #[derive(Clone, Copy, Debug, PartialEq, Eq)]
-pub(crate) struct KeptClaim {
+pub(crate) struct IndexedClaim {
     pub(crate) work: u32,
     pub(crate) version: u32,
     pub(crate) control: [u16; 3],
@@ -21,39 +21,39 @@ pub(crate) struct KeptClaim {
 
 /// What a book keeps of a work: the nine digits of its ISWC as a number, and its control of each right, at most 10,006.
 #[derive(Clone, Copy, Debug, PartialEq, Eq)]
-pub(crate) struct KeptWork {
+pub(crate) struct IndexedWork {
     pub(crate) iswc: Option<u32>,
     pub(crate) control: [u16; 3],
 }
 
-/// What an accepted call leaves: the claim of its key, and what is kept of its work.
+/// What an accepted call changes: the claim of its key, and what is kept of its work.
 #[derive(Clone, Copy)]
 pub(crate) struct Change {
-    pub(crate) claim: KeptClaim,
-    pub(crate) work: KeptWork,
+    pub(crate) claim: IndexedClaim,
+    pub(crate) work: IndexedWork,
 }
 
-/// What is decided on a call: the reply, and what the call leaves where it is accepted.
+/// What is decided on a call: the reply, and what the call changes where it is accepted.
 #[derive(Clone, Copy)]
 pub(crate) struct Decision {
     pub(crate) reply: Reply,
     pub(crate) change: Option<Change>,
 }
 
-/// What a book keeps beside its history, to answer without going through it. The hasher's seed is fixed.
+/// What a book keeps besides its history, to answer without going through it. The hasher's seed is fixed.
 #[derive(Drop)]
 pub(crate) struct Indexes<A: Allocator + Copy + Drop> {
     /// The claim in force under each key.
-    pub(crate) claims: IndexMap<Key, KeptClaim, BuildHasherDefault<FoldHasher>, A>,
+    pub(crate) claims: IndexMap<Key, IndexedClaim, BuildHasherDefault<FoldHasher>, A>,
     /// The work that has each ISWC.
     pub(crate) iswcs: IndexMap<u32, u32, BuildHasherDefault<FoldHasher>, A>,
-    /// The works, work 1 first.
-    pub(crate) works: Vec<KeptWork, A>,
+    /// The works, in the order of their numbers, work 1 first.
+    pub(crate) works: Vec<IndexedWork, A>,
 }
 
-impl KeptClaim {
-    /// The claim as it is told.
-    pub(crate) fn told(self) -> Claim
+impl IndexedClaim {
+    /// The claim, in the type in which a book returns it.
+    pub(crate) fn to_claim(self) -> Claim
         ensures { result ≡ record { work = self.work; version = self.version; control = self.control } }
     {
         Claim {
@@ -64,8 +64,8 @@ impl KeptClaim {
     }
 }
 
-impl KeptWork {
-    /// Its control of each right as it is told.
+impl IndexedWork {
+    /// Its control of each right, in the type in which a book returns it.
     pub(crate) fn control(self) -> [u64; 3]
         ensures { result ≡ self.control }
     {
@@ -73,7 +73,7 @@ impl KeptWork {
     }
 }
 
-/// The same controls, as they are told.
+/// The same controls, in the type in which a book returns them.
 fn wide(control: [u16; 3]) -> [u64; 3]
     ensures { result ≡ control }
 {
@@ -81,12 +81,12 @@ fn wide(control: [u16; 3]) -> [u64; 3]
     [performing as u64, mechanical as u64, synchronization as u64]
 }
 
-/// The same controls, as they are kept.
+/// The same controls, in the type in which they are kept.
 #[inline(always)]
 pub(crate) fn narrow(control: [u64; 3]) -> [u16; 3]
-    requires performing { slice_index control 0 ≤ most_control }
-    requires mechanical { slice_index control 1 ≤ most_control }
-    requires synchronization { slice_index control 2 ≤ most_control }
+    requires performing { slice_index control 0 ≤ max_control }
+    requires mechanical { slice_index control 1 ≤ max_control }
+    requires synchronization { slice_index control 2 ≤ max_control }
     ensures { result ≡ control }
 {
     let [performing, mechanical, synchronization] = control;
@@ -94,7 +94,7 @@ pub(crate) fn narrow(control: [u64; 3]) -> [u16; 3]
 }
 
 impl<A: Allocator + Copy + Drop> Indexes<A> {
-    /// Those of no history. No memory is asked for.
+    /// The indexes of no history. No memory is asked for.
     pub(crate) fn new(alloc: A) -> Indexes<A>
         ensures claims { result.claims.entries ≡ [] }
         ensures iswcs { result.iswcs.entries ≡ [] }
@@ -107,7 +107,7 @@ impl<A: Allocator + Copy + Drop> Indexes<A> {
         }
     }
 
-    /// Makes room for one more of each. What is kept stays as it is, also where memory is refused.
+    /// Makes room for one more of each. What is kept does not change, even where memory is refused.
     #[inline(always)]
     pub(crate) fn make_room(&mut self) -> Result<(), AllocError>
         ensures claims { IsUnchanged self.old.claims self.new.claims }
@@ -123,7 +123,7 @@ impl<A: Allocator + Copy + Drop> Indexes<A> {
         Ok(())
     }
 
-    /// Writes what a call leaves, if it leaves anything. No memory is asked for.
+    /// Stores what a call changes, if it changes anything. No memory is asked for.
     pub(crate) fn store(&mut self, key: Key, iswc: Option<u32>, change: Option<Change>)
         requires claims_room { 0 < spare self.old.claims }
         requires iswcs_room { 0 < spare self.old.iswcs }
@@ -161,7 +161,7 @@ impl<A: Allocator + Copy + Drop> Indexes<A> {
     }
 }
 
-/// Writes that a work has the ISWC, if there is one.
+/// Stores that a work has this ISWC, if there is one.
 #[inline(always)]
 fn store_iswc<A: Allocator + Copy + Drop>(
     iswcs: &mut IndexMap<u32, u32, BuildHasherDefault<FoldHasher>, A>,
@@ -178,9 +178,13 @@ fn store_iswc<A: Allocator + Copy + Drop>(
     }
 }
 
-/// Writes what is kept of a work, in its place or as one more.
+/// Stores what is kept of a work: replaces what was kept of it, or adds it as a new one.
 #[inline(always)]
-fn store_work<A: Allocator + Copy + Drop>(works: &mut Vec<KeptWork, A>, work: u32, kept: KeptWork)
+fn store_work<A: Allocator + Copy + Drop>(
+    works: &mut Vec<IndexedWork, A>,
+    work: u32,
+    kept: IndexedWork,
+)
     requires room { vec_len works.old < vec_capacity works.old }
     requires place { 1 ≤ work }
     ensures { works.new.items ≡ written work kept works.old.items }

@@ -2,7 +2,7 @@ ghost use Rattle.work_registry.specs.KeyWrites.{key_writes, same-writes};
 
 use std::hash::{Hash, Hasher};
 
-/// A submitter and the submitter's number of a work: what the registry knows a claim by.
+/// A submitter and the submitter's number of a work: the key of a claim.
 #[derive(Clone, Copy, Debug, PartialEq, Eq)]
 pub(crate) struct Key {
     /// Sender type and sender id of the file's HDR.
@@ -11,7 +11,7 @@ pub(crate) struct Key {
     pub(crate) number: [u8; 14],
 }
 
-/// Both texts are hashed whole, not byte by byte.
+/// Each text is hashed as one, not byte by byte.
 impl Hash for Key {
     ghost hash_input = { key_writes };
 

@@ -4,7 +4,7 @@
 
 ghost use Rattle.std.specs.Prelude.{◌≡◌, ◌≤◌, ℕ, List, [], ◌∷◌, ◌++◌, length, map};
 ghost use Rattle.std.specs.List.{AllByRecursion};
-ghost use Rattle.work_registry.specs.Numbers.{most_entries};
+ghost use Rattle.work_registry.specs.Numbers.{max_entries};
 ghost use Rattle.work_registry.specs.Register.{register_text, opened, IsWholeEntry};
 ghost use Rattle.work_registry.specs.RegisterFaults.{IsFault};
 ghost use Rattle.cwr_call.specs.CallValue.{CallValue};
@@ -18,7 +18,7 @@ pub fn works_keep_their_iswc()
     ensures { (history later : List EntryValue) → IsHistory (history ++ later) → KeepsNames (rows_of history) (rows_of (history ++ later)) }
 {}
 
-/// No work is claimed beyond the whole, no two works have the same ISWC, and the work of an ISWC is the one that has
+/// No work is claimed beyond the whole, and no two works have the same ISWC. The work of an ISWC is the one that has
 /// it.
 pub fn histories_are_sound()
     ensures shared { (history : List EntryValue) → IsHistory history → IsShared (rows_of history) }
@@ -34,14 +34,14 @@ pub fn histories_grow()
     ensures beginning { (history later : List EntryValue) → IsHistory (history ++ later) → IsHistory history }
 {}
 
-/// The register of a history of one registry has no fault, where the limit holds it.
+/// The register of a history of one registry has no fault, where the history is within the limit.
 pub fn registers_have_no_fault()
-    ensures { (history : List EntryValue) (limit line number : ℕ) → IsHistory history → AllByRecursion IsWholeEntry history → length history ≤ limit → length history ≤ most_entries
+    ensures { (history : List EntryValue) (limit line number : ℕ) → IsHistory history → AllByRecursion IsWholeEntry history → length history ≤ limit → length history ≤ max_entries
         → IsFault limit (register_text history) line number → ⊥ }
 {}
 
-/// One register, one history, but for its sessions.
+/// A register has one history, up to the sessions of its entries.
 pub fn one_register_one_history()
-    ensures { (one other : List EntryValue) → length one ≤ most_entries → length other ≤ most_entries → AllByRecursion IsWholeEntry one → AllByRecursion IsWholeEntry other
+    ensures { (one other : List EntryValue) → length one ≤ max_entries → length other ≤ max_entries → AllByRecursion IsWholeEntry one → AllByRecursion IsWholeEntry other
         → register_text one ≡ register_text other → map opened one ≡ map opened other }
 {}

@@ -1,17 +1,17 @@
 //! The registry of works: who claims which work, and every decision that led there.
 //!
-//! A [`Book`] answers each [`Call`] by a [`Reply`] and keeps both as an [`Entry`] of its history. What the reply is
-//! follows from the entries before it alone. [`laws`] says what holds in every history.
+//! A [`Book`] answers each [`Call`] by a [`Reply`] and keeps both as an [`Entry`] of its history. The reply depends
+//! only on the call and the entries before it. [`laws`] says what holds in every history.
 #![tactic(auto)]
 
 mod book;
 mod claim;
 mod deciding;
 mod entry;
+mod history_index;
 mod indexes;
 mod key;
 pub mod laws;
-mod ledger;
 mod past;
 mod refused;
 mod register;
@@ -22,8 +22,8 @@ pub use claim::Claim;
 pub use cwr_call::{Call, Fault, Faults, Memory, WorkKind};
 pub use cwr_record::Status;
 pub use entry::Entry;
-pub use refused::{Refused, WhyRefused};
+pub use refused::{HandInError, Refused};
 pub use register::{
-    Auditor, RegisterPieces, RegisterReader, RegisterRefusal, audit, read_register,
+    Auditor, RegisterChunks, RegisterReader, RegisterRefusal, audit, read_register,
 };
 pub use reply::Reply;

@@ -18,9 +18,9 @@ pub(crate) struct Past<A: Allocator> {
 
 #[derive(Drop)]
 enum Entries<A: Allocator> {
-    /// Those of a list.
+    /// The entries of a list.
     Listed(Snapshot<Vec<Entry<A>, A>>),
-    /// One more, of the opening.
+    /// Those entries and one more, of the opening.
     After(Snapshot<Entries<A>>, Snapshot<Call<A>>, Snapshot<Reply>),
 }
 

@@ -4,7 +4,7 @@ use std::marker::Model;
 
 /// Why a book did not take a call.
 #[derive(Clone, Copy, Debug, PartialEq, Eq, Hash)]
-pub enum WhyRefused {
+pub enum HandInError {
     /// The book holds as many entries as its limit.
     Full,
     /// The system refused memory.
@@ -15,10 +15,10 @@ pub enum WhyRefused {
 #[derive_where(Debug)]
 #[derive(Drop)]
 pub struct Refused<A: Allocator = Global> {
-    /// The call, handed back.
+    /// The call, returned.
     pub call: Call<A>,
     /// Why it was not taken.
-    pub why: WhyRefused,
+    pub why: HandInError,
 }
 
 impl<A: Allocator> Model for Refused<A> {

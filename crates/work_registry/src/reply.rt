@@ -1,12 +1,12 @@
 ghost use Rattle.std.specs.Prelude.{◌≡◌};
-ghost use Rattle.work_registry.specs.Told.{status_in, work_in, version_in};
+ghost use Rattle.work_registry.specs.ReplyParts.{status_in, work_in, version_in};
 
 use cwr_record::Status;
 
 /// What the registry decided on a call.
 ///
-/// Works are numbered 1, 2, .. as they are first accepted. Each work and each version in a reply of a book is from 1
-/// to 99,999,999.
+/// Works are numbered 1, 2, and so on as they are first accepted. Each work and each version in a reply of a book is
+/// from 1 to 99,999,999.
 #[derive(Clone, Copy, Debug, PartialEq, Eq, Hash)]
 pub enum Reply {
     /// The claim is registered: Transaction Status AS.
@@ -31,7 +31,7 @@ pub enum Reply {
 }
 
 impl Reply {
-    /// The Transaction Status that tells it.
+    /// Its Transaction Status.
     pub fn status(self) -> Status
         ensures { result ≡ status_in self }
     {
@@ -46,7 +46,7 @@ impl Reply {
         }
     }
 
-    /// The registry's number of the work that it names.
+    /// The registry's number of the work that it names; `None` for a rejection.
     pub fn work(self) -> Option<u32>
         ensures { result ≡ work_in self }
     {
@@ -58,7 +58,7 @@ impl Reply {
         }
     }
 
-    /// The version of an accepted claim.
+    /// The version of an accepted claim; `None` for any other reply.
     pub fn version(self) -> Option<u32>
         ensures { result ≡ version_in self }
     {

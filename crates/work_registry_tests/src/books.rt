@@ -1,8 +1,8 @@
 //! Calls of two submitters, and the book that they are handed in to.
 
-use cwr_sheets::same;
 use std::alloc::Global;
 use std::test::Fail;
+use test_files::same;
 use work_registry::{Book, Call, Entry, Fault, Faults, Reply, WorkKind};
 
 /// The submitters of the sample files.
@@ -17,7 +17,9 @@ pub(crate) const TITLE: [u8; 60] = *b"SONG ONE                                  
 /// The nine digits of ISWC T0345246801.
 pub(crate) const ISWC: Option<u64> = Some(34524680);
 
-/// A call of a submitter for its number of a work, with the same control of each right.
+/// A call for a submitter's number of a work, with the same control of each right. `alloc` allocates, `submitter` has
+/// sender type and sender id, and `kind` is NWR or REV. `number` is the submitter's number of the work, and `iswc` the
+/// nine digits of its ISWC, if it has one. `control` is in hundredths of one per cent.
 pub(crate) fn call(
     alloc: Global,
     submitter: [u8; 11],
@@ -29,7 +31,9 @@ pub(crate) fn call(
     controlled(alloc, submitter, kind, number, iswc, [control; 3])
 }
 
-/// A call with a control of its own for each right.
+/// A call with a different control of each right. `alloc` allocates, `submitter` has sender type and sender id, and
+/// `kind` is NWR or REV. `number` is the submitter's number of the work, and `iswc` the nine digits of its ISWC, if it
+/// has one. `control` has the three rights, in hundredths of one per cent.
 pub(crate) fn controlled(
     alloc: Global,
     submitter: [u8; 11],

@@ -1,14 +1,16 @@
 //! Claims that are shared, in conflict, and registered twice.
 
 use crate::books::{ISWC, ONE, OTHER, W1, accepted, call, controlled, expect_reply, reply};
-use cwr_sheets::same;
 use std::alloc::Global;
 use std::test::Fail;
+use test_files::same;
 use work_registry::{Book, Reply, WorkKind};
 
 const CONFLICT: Reply = Reply::Conflict { work: 1 };
 
-/// The claim of one submitter to half of a work, and then another one's with this control, which gets this reply.
+/// The claim of one submitter to half of a work, and then another submitter's. `book` takes the calls, and `alloc`
+/// allocates. `iswc` is that of the work, if it has one. `control` is what the other submitter claims of each right,
+/// and `wanted` the reply to that.
 fn expect_after_half(
     book: &mut Book,
     alloc: Global,
@@ -38,7 +40,7 @@ fn shares_of_one_work(rt: HostRuntime) -> Result<(), Fail> {
     expect_shared(alloc, [0, 0, 5007], CONFLICT)
 }
 
-/// All submitters together control this much of each right of a work.
+/// All submitters together control this share of each right of a work.
 fn expect_control(book: &Book, work: u32, control: u64) -> Result<(), Fail> {
     same("what all control", &book.control_of(work), &[control; 3])
 }

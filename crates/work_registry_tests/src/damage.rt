@@ -1,9 +1,9 @@
 //! A register of one entry that is damaged.
 
 use crate::registers::{ONE_ENTRY, expect_fault, expect_fault_at};
-use cwr_sheets::same;
 use std::alloc::Global;
 use std::test::Fail;
+use test_files::same;
 use work_registry::{RegisterRefusal, read_register};
 
 /// The register of one entry, with a text in place of the bytes of line 2 from this position, counted from 1.
@@ -104,7 +104,7 @@ fn each_byte(rt: HostRuntime) -> Result<(), Fail> {
     Ok(())
 }
 
-/// The fault of the register's first bytes, so many of its 186.
+/// The fault of the first `len` of the register's 186 bytes.
 fn fault_of_front(len: usize) -> (u8, u64) {
     match len {
         0 => (2, 1),
@@ -132,7 +132,7 @@ fn expect_count(alloc: Global, first: &str, wanted: (u8, u64)) -> Result<(), Fai
     expect_fault(alloc, first, &text, Some(wanted))
 }
 
-/// More entries told than follow, and fewer.
+/// Line 1 counts more entries than follow, and fewer.
 #[test]
 fn wrong_counts(rt: HostRuntime) -> Result<(), Fail> {
     let alloc = rt.alloc();
@@ -143,7 +143,7 @@ fn wrong_counts(rt: HostRuntime) -> Result<(), Fail> {
     expect_count(alloc, "reg00000001\n", (1, 1))
 }
 
-/// More entries told than the limit.
+/// Line 1 counts more entries than the limit.
 #[test]
 fn count_above_the_limit(rt: HostRuntime) -> Result<(), Fail> {
     let refusal = read_register(rt.alloc(), b"REG00000003\n", 2).err();

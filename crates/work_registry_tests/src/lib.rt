@@ -1,8 +1,11 @@
-//! Tests of `work_registry`: calls that are handed in one after the other, what the book says of them, and its register.
+//! Tests of `work_registry`: calls that are handed in one after the other, what the book says of them, and its
+//! register.
 #![tactic(auto)]
 
 #[cfg(test)]
 mod books;
+#[cfg(test)]
+mod chunks;
 #[cfg(test)]
 mod conflicts;
 #[cfg(test)]
@@ -12,11 +15,9 @@ mod limits;
 #[cfg(test)]
 mod many_calls;
 #[cfg(test)]
-mod pieces;
-#[cfg(test)]
 mod plain;
 #[cfg(test)]
-mod register_pieces;
+mod register_chunks;
 #[cfg(test)]
 mod registers;
 #[cfg(test)]

@@ -1,14 +1,14 @@
-//! How many entries a book takes, and what they are.
+//! The number of entries that a book takes, and what they are.
 
 ghost use Rattle.std.specs.Prelude.{◌≤◌};
 
 use crate::books::{
     ONE, Said, W1, accepted, call, call_with_fault, expect_entry, expect_reply, reply,
 };
-use cwr_sheets::same;
 use std::alloc::Global;
 use std::test::Fail;
-use work_registry::{Book, Call, Fault, Reply, WhyRefused, WorkKind};
+use test_files::same;
+use work_registry::{Book, Call, Fault, HandInError, Reply, WorkKind};
 
 const W2: [u8; 14] = *b"W2            ";
 
@@ -22,7 +22,7 @@ fn whole(alloc: Global, number: [u8; 14]) -> Result<Call, Fail> {
 fn expect_full(book: &mut Book, call: Call, number: [u8; 14]) -> Result<(), Fail> {
     let answer = book.apply(1, call);
     let refused = answer.err().ok_or("a full book took a call")?;
-    same("why it is refused", &refused.why, &WhyRefused::Full)?;
+    same("why it is refused", &refused.why, &HandInError::Full)?;
     same("the call", &refused.call.number(), &number)
 }
 
@@ -108,7 +108,7 @@ fn openings(rt: HostRuntime) -> Result<(), Fail> {
     expect_openings(&mut book, rt.alloc())
 }
 
-/// It has three entries for the first work, all of the opening, and the room that it had.
+/// It has three entries for the first work, all of the opening, and the limit that it had.
 fn expect_reopened(book: &Book) -> Result<(), Fail> {
     same("the reopened book is an opening", &book.is_opening(), &true)?;
     same("the limit", &book.limit(), &3)?;

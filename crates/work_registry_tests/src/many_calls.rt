@@ -2,9 +2,9 @@
 
 use crate::books::{call, expect_reply};
 use crate::plain;
-use cwr_sheets::same;
 use std::alloc::Global;
 use std::test::Fail;
+use test_files::same;
 use work_registry::{Book, Call, WorkKind};
 
 fn digit(value: u64) -> u8 {
@@ -71,7 +71,7 @@ fn compare_iswcs(book: &Book) -> Result<(), Fail> {
     Ok(())
 }
 
-/// There is a work at most for each of the 150 keys.
+/// There is at most one work for each of the 150 keys.
 fn compare_works(book: &Book) -> Result<(), Fail> {
     for work in 0..152 {
         let wanted = plain::control_of(book.history(), work, None);

@@ -24,7 +24,7 @@ fn has_row(entries: &[Entry], submitter: &[u8; 11], number: &[u8; 14]) -> bool {
     false
 }
 
-/// The last entry accepted under a key, and how many there are.
+/// The last entry accepted under a key, and the number of such entries.
 pub(crate) fn claim(entries: &[Entry], submitter: &[u8; 11], number: &[u8; 14]) -> Option<Claim> {
     let mut found = None;
     let mut version: u32 = 0;
@@ -112,7 +112,7 @@ fn is_over(sum: [u64; 3]) -> bool {
     sum[0] > 10006 || sum[1] > 10006 || sum[2] > 10006
 }
 
-/// The reply to a call for a work, whose key has been accepted so often.
+/// The reply to a call for a work. Its key has been accepted `versions` times.
 fn reply_for_work(entries: &[Entry], call: &Call, work: u32, versions: u32) -> Reply {
     let mut sum = control_of(entries, work, Some(call));
     add(&mut sum, call.control());

@@ -1,9 +1,9 @@
 //! The register of one entry, and the faults of texts.
 
 use crate::books::{ONE, TITLE, W1, call};
-use cwr_sheets::same;
 use std::alloc::Global;
 use std::test::Fail;
+use test_files::same;
 use work_registry::{Call, Fault, Faults, RegisterRefusal, WorkKind, audit};
 
 /// The register of one entry: a work that the submitter calls W1 is registered.
@@ -39,7 +39,7 @@ pub(crate) fn faulty_call(alloc: Global) -> Result<Call, Fail> {
     .ok_or("no call")?)
 }
 
-/// The number and the line of the fault of a text, or nothing where it is a register.
+/// The number and the line of the fault of a text, or `None` if it is a register.
 pub(crate) fn fault_of(alloc: Global, text: &[u8]) -> Result<Option<(u8, u64)>, Fail> {
     match audit(alloc, text) {
         Ok(_entries) => Ok(None),
@@ -48,7 +48,7 @@ pub(crate) fn fault_of(alloc: Global, text: &[u8]) -> Result<Option<(u8, u64)>, 
     }
 }
 
-/// A text, which this names, must have this fault, or be a register where there is none.
+/// A text, which `what` names, must have this fault, or be a register if there is none.
 pub(crate) fn expect_fault(
     alloc: Global,
     what: &str,
@@ -58,7 +58,7 @@ pub(crate) fn expect_fault(
     same(what, &fault_of(alloc, text)?, &wanted)
 }
 
-/// The same of a text that was changed at this place.
+/// The same for a text that was changed at this place.
 pub(crate) fn expect_fault_at(
     alloc: Global,
     place: usize,

@@ -1,11 +1,11 @@
-//! What a reply tells.
+//! What a reply says.
 
 use crate::books::accepted;
-use cwr_sheets::same;
 use std::test::Fail;
+use test_files::same;
 use work_registry::Reply;
 
-/// The Transaction Status that a reply tells, the work that it names, and the version of an accepted claim.
+/// The Transaction Status of a reply, the work that it names, and the version of an accepted claim.
 fn expect_told(
     reply: Reply,
     code: &str,

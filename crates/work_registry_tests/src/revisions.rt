@@ -1,14 +1,16 @@
 //! Claims that are revised.
 
 use crate::books::{ISWC, ONE, OTHER, W1, accepted, call, call_with_fault, expect_reply};
-use cwr_sheets::same;
 use std::alloc::Global;
 use std::test::Fail;
+use test_files::same;
 use work_registry::{Book, Claim, Reply, WorkKind};
 
 const W7: [u8; 14] = *b"W7            ";
 
-/// One submitter revises its claim to the work, and another one claims half of it: the replies to both.
+/// One submitter revises its claim to the work, and another one claims half of it. `book` takes the calls, and `alloc`
+/// allocates. `control` is what the first submitter then claims of each right. `first` and `next` are the replies to
+/// both calls.
 fn expect_both(
     book: &mut Book,
     alloc: Global,

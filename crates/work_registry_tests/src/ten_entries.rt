@@ -1,13 +1,13 @@
-//! A register of ten entries, with each kind of reply, and what becomes of it where it is damaged.
+//! A register of ten entries, with each kind of reply, and its faults if it is damaged.
 
 ghost use Rattle.std.specs.Prelude.{◌<◌};
 
 use crate::books::{ISWC, ONE, W1, accepted, call, call_with_fault, expect_reply};
 use crate::registers::{expect_fault, expect_fault_at, whole_call};
 use crate::revisions::revise;
-use cwr_sheets::{same, same_bytes};
 use std::alloc::{AllocError, Global};
 use std::test::Fail;
+use test_files::{same, same_bytes};
 use work_registry::{Book, RegisterRefusal, Reply, WorkKind, read_register};
 
 /// Registers a work under a number, which must be new.
@@ -23,8 +23,8 @@ fn add_four(book: &mut Book, alloc: Global) -> Result<(), Fail> {
     add_work(book, alloc, *b"W5            ", 5)
 }
 
-/// Two submitters share a work, after four calls. Then one registers its part anew, its call with a fault is rejected,
-/// and it registers four works more.
+/// Two submitters share a work, after four calls. Then one registers its part again, its call with a fault is rejected,
+/// and it registers four more works.
 fn add_ten(book: &mut Book, alloc: Global) -> Result<(), Fail> {
     revise(book, alloc)?;
     let again = call(alloc, ONE, WorkKind::Nwr, W1, ISWC, 5000)?;
@@ -53,7 +53,8 @@ fn text_of_ten(alloc: Global) -> Result<Vec<u8>, Fail> {
     register_of_ten(&mut book, alloc)
 }
 
-/// The text with other bytes in place of so many from this index on.
+/// The text with other bytes in place of some. `alloc` allocates, and `text` is changed from index `at` on, from 0:
+/// `taken` bytes are removed, and `added` put there.
 fn changed(
     alloc: Global,
     text: &[u8],
@@ -94,7 +95,7 @@ fn expect_written(alloc: Global, book: &Book, text: &[u8]) -> Result<(), Fail> {
     same_bytes("what is written again", &book.write_register(alloc)?, text)
 }
 
-/// The fault of a text. Where it has none, and so is a register, it is written again as it was read.
+/// The fault of a text. If it has none, and so is a register, it is written again as it was read.
 fn fault_or_same(alloc: Global, text: &[u8]) -> Result<Option<(u8, u64)>, Fail> {
     match read_register(alloc, text, 99999999) {
         Ok(book) => expect_written(alloc, &book, text).map(|()| None),
@@ -125,8 +126,9 @@ fn expect_register_or_fault(alloc: Global, text: &[u8], first: u64) -> Result<()
     }
 }
 
-/// The text with other bytes in place of so many from this index on is the text itself, or has a fault in this line
-/// that shows that the line is not of its form.
+/// The text with other bytes in place of some is the text itself, or has a fault in that line, which shows that the
+/// line is not of its form. `alloc` allocates, and `text` is changed from index `at` on, from 0: `taken` bytes are
+/// removed, and `added` put there.
 fn expect_no_form(
     alloc: Global,
     text: &[u8],
@@ -164,8 +166,8 @@ fn each_byte_spoilt(rt: HostRuntime) -> Result<(), Fail> {
     Ok(())
 }
 
-/// Whether a byte is one of an entry's type, index, kind, title, reply or number of faults. What another byte in place
-/// of one of the rest makes of the line, the call tells.
+/// Whether a byte is one of an entry's type, index, kind, title, reply or number of faults. What another byte makes of
+/// the line in place of one of the rest depends on the call.
 fn is_certain(line: u64, column: usize) -> bool {
     line > 1 && matches!(column, 1..=11 | 23..=85 | 147..=173)
 }
@@ -196,7 +198,8 @@ fn each_other_byte_replaced(rt: HostRuntime) -> Result<(), Fail> {
     Ok(())
 }
 
-/// The number of the fault of an entry's line with another byte in such a column. Of the title each byte may be another.
+/// The number of the fault of an entry's line with another byte in such a column. Of the title each byte may be
+/// another.
 fn fault_in(column: usize, byte: u8) -> Option<u8> {
     match column {
         26..=85 => None,
@@ -206,7 +209,8 @@ fn fault_in(column: usize, byte: u8) -> Option<u8> {
     }
 }
 
-/// The text with other bytes in place of such a byte, which has this line and column.
+/// The text with other bytes in place of such a byte. `alloc` allocates, and `text` is changed at index `at`, from 0.
+/// `line` and `column` are those of the byte, from 1.
 fn expect_certain(
     alloc: Global,
     text: &[u8],
@@ -255,8 +259,8 @@ fn expect_counts(alloc: Global, text: &[u8]) -> Result<(), Fail> {
     expect_count(alloc, text, "99999999", 12)
 }
 
-/// Another number of entries than follow. One that is missing has the fault at the line after the last, one that is
-/// not counted at its own.
+/// Another number of entries than follow. A missing entry has the fault at the line after the last, and one that is not
+/// counted at its own line.
 #[test]
 fn other_counts(rt: HostRuntime) -> Result<(), Fail> {
     let text = text_of_ten(rt.alloc())?;
@@ -299,8 +303,8 @@ fn expect_doubled(alloc: Global, text: &[u8], line: u64) -> Result<(), Fail>
     expect_fault_at(alloc, at, &doubled, Some((2, line + 1)))
 }
 
-/// The line of an entry left out, so that the one after it has another index, or none is there; and the line of an
-/// entry twice, so that the second has another index, or is not counted.
+/// The line of an entry left out: the one after it has another index, or there is none. The line of an entry twice: the
+/// second has another index, or is not counted.
 #[test]
 fn each_line_left_out_or_doubled(rt: HostRuntime) -> Result<(), Fail> {
     let alloc = rt.alloc();

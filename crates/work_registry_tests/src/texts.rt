@@ -2,12 +2,12 @@
 
 use crate::books::{Said, W1, accepted, expect_entry, expect_reply, reply};
 use crate::registers::{ONE_ENTRY, expect_fault, faulty_call, whole_call};
-use cwr_sheets::{same, same_bytes, same_text};
 use std::alloc::{AllocError, Global};
 use std::test::Fail;
+use test_files::{same, same_bytes, same_text};
 use work_registry::{Book, Call, Fault, RegisterRefusal, Reply, audit, read_register};
 
-/// The audit of a register counts so many entries.
+/// The audit of a register counts `entries` entries.
 fn expect_audited(alloc: Global, text: &[u8], entries: u64) -> Result<(), Fail> {
     same(
         "the entries that are audited",
@@ -209,7 +209,7 @@ fn calls_after_reading(rt: HostRuntime) -> Result<(), Fail> {
     expect_five(&mut book, rt.alloc())
 }
 
-/// The text of a refusal, which this names.
+/// The text of a refusal, which `what` names.
 fn expect_told(
     alloc: Global,
     what: &str,

@@ -7,7 +7,7 @@ use Rattle.work_registry.specs.BookValue.{BookValue}
 use Rattle.cwr_engine.specs.Account.{JobAccount, ends_of, read_ends, write_ends}
 use Rattle.cwr_engine.specs.Handing.{IsWorked}
 use Rattle.cwr_engine.specs.JobSteps.{entries_at}
-use Rattle.cwr_engine.specs.Whole.{is_full, IsWorkedAlone}
+use Rattle.cwr_engine.specs.WholeRun.{is_full, IsWorkedAlone}
 use Rattle.cwr_engine.specs.declared.jobs.Job.{Job}
 use Rattle.cwr_engine.specs.declared.outcome.FileOutcome.{FileOutcome}
 

@@ -11,9 +11,9 @@ use Rattle.work_registry.specs.History.{IsHistory}
 use Rattle.work_registry.specs.Replay.{entry_for, replay, calls_of, made, is_opening}
 use Rattle.work_registry.specs.declared.reply.Reply.{Reply}
 use Rattle.cwr_engine.specs.Causes.{ends_full}
-use Rattle.cwr_engine.specs.Handing.{most_handed}
+use Rattle.cwr_engine.specs.Handing.{max_handed}
 use Rattle.cwr_engine.specs.declared.outcome.FileOutcome.{FileOutcome}
-use Rattle.cwr_engine.specs.Whole.{Accounts, is_full, IsRun, InTurn, IsWorkedAlone, TookTurns}
+use Rattle.cwr_engine.specs.WholeRun.{Accounts, is_full, IsRun, InTurn, IsWorkedAlone, TookTurns}
 use Rattle.work_registry.proofs.lemmas.Sessions.{none_made, all_inside}
 
 -- ---- the entries of a session
@@ -39,10 +39,10 @@ made_more s h h' c r is =
     ap (λ l. made l s) is ∙ (filter-append (λ e. e.session == s) h (entry_of s c r ∷ []) ∙ ap (λ (b : Bool). made h s ++ cond b (entry_of s c r ∷ []) []) own)
 
 -- a book that is lent takes the calls of each session that a book knows
-pub lent_turns : (session : ℕ) → session ≤ 63 → most_handed ≤ (if nat_le session 63 then 4294967295 else 0)
+pub lent_turns : (session : ℕ) → session ≤ 63 → max_handed ≤ (if nat_le session 63 then 4294967295 else 0)
 lent_turns session few =
     let known : nat_le session 63 ≡ true = grind (arith, nat_tests) in
-    subst (λ (b : Bool). most_handed ≤ (if b then 4294967295 else 0)) (sym known) (omega arith)
+    subst (λ (b : Bool). max_handed ≤ (if b then 4294967295 else 0)) (sym known) (omega arith)
 
 -- ---- a list of which the last is taken
 
@@ -95,7 +95,7 @@ module _ {J : Type 0} (P : J → J → FileOutcome → Bool → List EntryValue 
   took_other s t (j ∷ js) (k ∷ ks) [] b e r out = absurd r
   took_other s t (j ∷ js) (k ∷ ks) (o ∷ os) b e r out =
       let ne : t ≢ s = λ eq. out 0 (omega arith) (eq ∙ (omega arith)) in
-      took_other (s + 1) t js ks os r.0 e r.2 (λ i lt eq. out (i + 1) (omega arith) (eq ∙ (omega arith))) ∙ alone_other s t b r.0 j k o r.1 ne
+      took_other (s + 1) t js ks os r.between e r.others (λ i lt eq. out (i + 1) (omega arith) (eq ∙ (omega arith))) ∙ alone_other s t b r.between j k o r.alone ne
 
   took_whole : (s : ℕ) (js ks : List J) (os : List FileOutcome) (b e : BookValue) → TookTurns P s js ks os b e
       → (added : List EntryValue) × (e.history ≡ b.history ++ added) × (e.limit ≡ b.limit)
@@ -105,8 +105,8 @@ module _ {J : Type 0} (P : J → J → FileOutcome → Bool → List EntryValue 
   took_whole s (j ∷ js) [] os b e r = absurd r
   took_whole s (j ∷ js) (k ∷ ks) [] b e r = absurd r
   took_whole s (j ∷ js) (k ∷ ks) (o ∷ os) b e r =
-      let w = took_whole (s + 1) js ks os r.0 e r.2 in
-      (r.1.entries ++ w.0, w.1 ∙ (ap (λ l. l ++ w.0) r.1.grown ∙ append_assoc b.history r.1.entries w.0), w.2 ∙ r.1.limit)
+      let w = took_whole (s + 1) js ks os r.between e r.others in
+      (r.alone.entries ++ w.0, w.1 ∙ (ap (λ l. l ++ w.0) r.alone.grown ∙ append_assoc b.history r.alone.entries w.0), w.2 ∙ r.alone.limit)
 
   fuller : (m e : BookValue) (added : List EntryValue) → e.history ≡ m.history ++ added → e.limit ≡ m.limit → is_full m ≡ true → is_full e ≡ true
   fuller m e added g l f = let n = ap length g ∙ length-append m.history added in grind (arith, nat_tests)
@@ -121,20 +121,20 @@ module _ {J : Type 0} (P : J → J → FileOutcome → Bool → List EntryValue 
     settled s (j ∷ js) [] os b e r none = absurd r
     settled s (j ∷ js) (k ∷ ks) [] b e r none = absurd r
     settled s (j ∷ js) (k ∷ ks) (o ∷ os) b e r none =
-        let m : BookValue = r.0 in
-        let w : IsWorkedAlone P s b m j k o = r.1 in
-        let all = took_whole (s + 1) js ks os m e r.2 in
-        let same : made e.history s ≡ w.entries = took_other (s + 1) s js ks os m e r.2 (λ i lt. (omega arith)) ∙ alone_own s b m j k o w (none s (omega arith)) in
-        let rest = settled (s + 1) js ks os m e r.2 (λ t le. alone_other s t b m j k o w (omega arith) ∙ none t (omega arith)) in
+        let m : BookValue = r.between in
+        let w : IsWorkedAlone P s b m j k o = r.alone in
+        let all = took_whole (s + 1) js ks os m e r.others in
+        let same : made e.history s ≡ w.entries = took_other (s + 1) s js ks os m e r.others (λ i lt. (omega arith)) ∙ alone_own s b m j k o w (none s (omega arith)) in
+        let rest = settled (s + 1) js ks os m e r.others (λ t le. alone_other s t b m j k o w (omega arith) ∙ none t (omega arith)) in
         let next : m.history ≡ b.history ++ made e.history s = w.grown ∙ ap (λ l. b.history ++ l) (sym same) in
         let full : ends_full o ≡ true → is_full (record { history = b.history ++ made e.history s; limit = b.limit }) ≡ true =
         λ f. subst (λ (x : List EntryValue × ℕ). nat_le x.1 (length x.0) ≡ true) (λ i. (next i, w.limit i)) (found j k o (is_full m) w.entries f w.account) in (
           (subst (λ l. P j k o (is_full e) l) (sym same) (mono j k o (is_full m) (is_full e) w.entries (fuller m e all.0 all.1 all.2) w.account), rest.0),
-          (
-            subst (λ l. l ≡ replay s b.history (calls_of l)) (sym same) w.replayed,
-            full,
-            subst (λ (x : List EntryValue × ℕ). InTurn x.1 e.history (s + 1) x.0 os) (λ i. (next i, w.limit i)) rest.1,
-          ),
+          record {
+            replayed = subst (λ l. l ≡ replay s b.history (calls_of l)) (sym same) w.replayed;
+            full = full;
+            others = subst (λ (x : List EntryValue × ℕ). InTurn x.1 e.history (s + 1) x.0 os) (λ i. (next i, w.limit i)) rest.1;
+          },
         )
 
     pub whole_turns : (b e : BookValue) (js ks : List J) (os : List FileOutcome) → is_opening b.history ≡ true → IsHistory e.history → length e.history ≤ e.limit

@@ -1,4 +1,4 @@
-//! The call in the line of an entry. Of a call without faults it is seen at once that it is lawful.
+//! The call in the line of an entry. A call without faults is tested for being lawful by a few comparisons.
 
 ghost use Rattle.std.specs.Prelude.{◌≡◌, ◌≤◌, [], length, is_some, IfSome, IsTrue};
 ghost use Rattle.cwr_call.specs.Lawful.{is_clean, is_lawful};
@@ -8,7 +8,7 @@ ghost use Rattle.work_registry.specs.RegisterLine.{line_from};
 
 use super::head::HeadInLine;
 use cwr_call::{Call, Faults, are_at_most, is_iswc};
-use cwr_field::{CONTROLS, MOST_WHOLE, has_in_block};
+use cwr_field::{CONTROLS, MAX_WHOLE, has_in_block};
 use std::alloc::Allocator;
 
 /// Whether the texts in the line of an entry have no control byte. They stand in its first hundred bytes.
@@ -20,20 +20,20 @@ pub(super) fn are_texts_clean(line: &[u8]) -> bool
     !has_in_block(line, 0, CONTROLS) && !has_in_block(line, 36, CONTROLS)
 }
 
-/// Whether these fields, the texts of which are clean, can be those of a call without faults.
+/// Whether these fields, whose texts are clean, can be those of a call without faults.
 #[inline(always)]
-pub(super) fn is_lawful_alone(head: &HeadInLine) -> bool
+pub(super) fn is_lawful_faultless(head: &HeadInLine) -> bool
     requires submitter { IsTrue (is_clean head.now.submitter) }
     requires title { IsTrue (is_clean head.now.title) }
     requires number { IsTrue (is_clean head.now.number) }
     ensures { IsTrue result → IsTrue (is_lawful (line_from head.now []).call) }
 {
-    is_iswc(head.iswc) && are_at_most(MOST_WHOLE, &head.control)
+    is_iswc(head.iswc) && are_at_most(MAX_WHOLE, &head.control)
 }
 
 /// The call of these fields, which are those of one without faults. No memory is asked for.
 #[inline(always)]
-pub(super) fn call_alone<A: Allocator>(alloc: A, head: &HeadInLine) -> Call<A>
+pub(super) fn faultless_call<A: Allocator>(alloc: A, head: &HeadInLine) -> Call<A>
     requires { IsTrue (is_lawful (line_from head.now []).call) }
     ensures { result ≡ (line_from head.now []).call }
 {
@@ -48,7 +48,7 @@ pub(super) fn call_alone<A: Allocator>(alloc: A, head: &HeadInLine) -> Call<A>
     )
 }
 
-/// The call of these fields and faults, where they can be those of one.
+/// The call of these fields and faults; `None` where they can be those of no call.
 pub(super) fn call_from<A: Allocator>(head: &HeadInLine, faults: Faults<A>) -> Option<Call<A>>
     ensures when { is_some result ≡ is_lawful (line_from head.now faults).call }
     ensures value { IfSome result (λ c. c ≡ (line_from head.now faults).call) }

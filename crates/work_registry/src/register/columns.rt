@@ -1,7 +1,7 @@
-//! Where each field of a register's lines stands: the one place for its positions in the code.
+//! Where each field of a register's lines stands. No other code has these positions.
 //!
-//! The definitions say them once as well, in `specs/RegisterColumns.antt`. Each function that reads or writes a field has
-//! a contract in the words of the definitions, so the check refuses it where the two differ.
+//! The definitions have them as well, in `specs/RegisterColumns.antt`. Each function that reads or writes a field has a
+//! contract in terms of the definitions, so the check refuses it where the two differ.
 
 use cwr_record::Column;
 
@@ -12,15 +12,15 @@ macro_rules! column {
     };
 }
 
-/// What a line tells: `REG` or `ENT`.
+/// The kind of the line: `REG` or `ENT`.
 pub(super) const MARK: Column = column!(1, 3);
 
-/// The first line: the number of entries.
+/// In the first line: the number of entries.
 pub(super) const COUNT: Column = column!(4, 8);
-/// How many bytes its fields take.
+/// How many bytes the fields of the first line take.
 pub(super) const COUNT_WIDTH: usize = COUNT.start + COUNT.width - 1;
 
-/// The place of the entry in the register, from 1.
+/// The position of the entry in the register, from 1.
 pub(super) const INDEX: Column = column!(4, 8);
 /// Sender Type and Sender ID.
 pub(super) const SUBMITTER: Column = column!(12, 11);
@@ -49,11 +49,11 @@ pub(super) const FAULTS: Column = column!(165, 9);
 /// How many bytes the fields of fixed place take.
 pub(super) const HEAD_WIDTH: usize = FAULTS.start + FAULTS.width - 1;
 
-/// Of a fault: the record sequence.
+/// In a fault: the record sequence.
 pub(super) const FAULT_SEQUENCE: Column = column!(1, 8);
-/// Of a fault: the number of its rule.
+/// In a fault: the number of its rule.
 pub(super) const FAULT_NUMBER: Column = column!(9, 2);
-/// Of a fault: the type of its record.
+/// In a fault: the type of its record.
 pub(super) const FAULT_RECORD_TYPE: Column = column!(11, 3);
 /// How many bytes a fault takes.
 pub(super) const FAULT_WIDTH: usize = FAULT_RECORD_TYPE.start + FAULT_RECORD_TYPE.width - 1;

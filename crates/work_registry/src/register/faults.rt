@@ -13,7 +13,7 @@ use cwr_field::Memory;
 use cwr_record::{digits_at, field_at};
 use std::alloc::Allocator;
 
-/// The fault that 13 bytes are.
+/// The fault in 13 bytes; `None` where they are not of its form.
 fn read_fault(bytes: &[u8]) -> Option<Fault>
     ensures some { IfSome result (StandsFor fault bytes.now) }
     ensures typed { IfSome result IsTyped }
@@ -26,7 +26,7 @@ fn read_fault(bytes: &[u8]) -> Option<Fault>
     })
 }
 
-/// The faults that these bytes are, 13 bytes for each.
+/// The faults in these bytes, 13 bytes for each; `None` where they are not of that form.
 pub(super) fn read_faults<A: Allocator>(alloc: A, bytes: &[u8]) -> Result<Option<Faults<A>>, Memory>
     ensures text { IfOk result (λ o. IfSome o (λ fs. flat_map (line_of fault) fs ≡ bytes.now)) }
     ensures typed { IfOk result (λ o. IfSome o (AllByRecursion IsTyped)) }

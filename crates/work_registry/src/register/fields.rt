@@ -1,4 +1,4 @@
-//! The fields of a line that a register has in a form of its own.
+//! Fields of a line that only a register has in this form.
 
 ghost use Rattle.std.specs.Prelude.{◌≡◌, IfSome, IsTrue, option_map};
 ghost use Rattle.cwr_field.specs.Iswc.{iswc_of};
@@ -10,7 +10,7 @@ ghost use Rattle.cwr_record.specs.Ranges.{is_in_line};
 use cwr_field::{Iswc, iswc};
 use cwr_record::{Column, field_at};
 
-/// The work's code (ISWC) in a column, or `Some(None)` where it is blank.
+/// The work's code (ISWC) in a column: `Some(None)` where it is blank, `None` where it is wrong.
 #[inline(always)]
 pub(super) fn code_at(line: &[u8], column: Column) -> Option<Option<u64>>
     requires column { IsTrue (is_in_line column) }

@@ -9,15 +9,15 @@ ghost use Rattle.work_registry.specs.RegisterLine.{head};
 ghost use Rattle.work_registry.specs.declared.register.head.Head.{Head};
 
 use super::columns;
-use super::entry_line::Told;
+use super::entry_line::RecordedDecision;
 use super::fields::code_at;
 use cwr_record::{Status, WorkKind, digits_at, field_at};
 use std::marker::Model;
 
-/// What the fields of fixed place spell.
+/// What the fields of fixed place contain.
 #[derive(Clone, Copy)]
 pub(crate) struct Head {
-    /// The place of the entry in the register, from 1.
+    /// The position of the entry in the register, from 1.
     pub(crate) index: u32,
     pub(crate) submitter: [u8; 11],
     pub(crate) kind: WorkKind,
@@ -34,17 +34,17 @@ pub(crate) struct Head {
     pub(crate) faults: u32,
 }
 
-/// The same of a line that was read: its texts stay where they lie.
+/// The fields of fixed place of a line that was read. It borrows the line, and copies none of its texts.
 ///
-/// A contract sees what the fields spell.
+/// A contract sees what the fields contain.
 #[derive(Drop)]
 pub(super) struct HeadInLine<'a> {
     line: &'a [u8],
     pub(super) kind: WorkKind,
     pub(super) iswc: Option<u64>,
     pub(super) control: [u64; 3],
-    /// What it tells beside the call.
-    pub(super) told: Told,
+    /// What the line records besides the call.
+    pub(super) told: RecordedDecision,
     pub(super) faults: u32,
 }
 
@@ -81,7 +81,7 @@ impl HeadInLine<'_> {
     }
 }
 
-/// What a line has in its fields of fixed place, bytes 1 to 173.
+/// The fields of fixed place of a line, bytes 1 to 173; `None` where one of them cannot be read.
 #[inline(always)]
 pub(super) fn read_head(line: &[u8]) -> Option<HeadInLine<'_>>
     ensures some { IfSome result (StandsFor head line.now) }
@@ -101,7 +101,7 @@ pub(super) fn read_head(line: &[u8]) -> Option<HeadInLine<'_>>
             digits_at(line, columns::MECHANICAL_CONTROL)?,
             digits_at(line, columns::SYNCHRONIZATION_CONTROL)?,
         ],
-        told: Told {
+        told: RecordedDecision {
             index: digits_at(line, columns::INDEX)? as u32,
             status: Status::named(&field_at(line, columns::STATUS).bytes())?,
             work: digits_at(line, columns::WORK)? as u32,

@@ -12,8 +12,8 @@ use cwr_field::{CONTROLS, has_in_block};
 use cwr_record::{digits_at, field_at};
 use memchr::memchr;
 
-/// Whether the first LF stands right behind the fields of fixed place, as it does in the line of an entry without faults.
-/// No byte of these is a control byte.
+/// Whether the first LF stands directly behind the fields of fixed place, as in the line of an entry without faults,
+/// and none of these fields has a control byte.
 #[inline(always)]
 fn ends_after_head(text: &[u8]) -> bool
     ensures { IsTrue result → IsFirstByte (is_byte 10) text.now (Some head_width) }
@@ -41,7 +41,7 @@ fn first_end(text: &[u8]) -> Option<usize>
     memchr(b'\n', text)
 }
 
-/// The first line of a text, without the LF at its end, and what follows that; `None` where no LF ends a line.
+/// The first line of a text, without its LF, and what follows that; `None` where no LF ends a line.
 pub(super) fn cut_line(text: &[u8]) -> Option<(&[u8], &[u8])>
     ensures text { IfSome result (λ cut. text.now ≡ cut.0.now ++ 10 ∷ cut.1.now) }
     ensures lines { IfSome result (λ cut. lines text.now ≡ (cut.0.now ++ 10 ∷ []) ∷ lines cut.1.now) }
@@ -53,7 +53,7 @@ pub(super) fn cut_line(text: &[u8]) -> Option<(&[u8], &[u8])>
     Some((&text[..end], &text[end + 1..]))
 }
 
-/// The number of entries that a line tells, which has no LF at its end here.
+/// The number of entries that a first line states, given without its LF; `None` where the line is not of its form.
 pub(super) fn count_in(line: &[u8]) -> Option<u32>
     ensures some { IfSome result (λ count. line.now ++ 10 ∷ [] ≡ count_line count) }
     ensures fits { IfSome result (λ count. count < 10 ^ 8) }

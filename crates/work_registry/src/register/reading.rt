@@ -1,12 +1,12 @@
-//! A register is read line by line into a ledger, which decides on each call anew.
+//! A register is read line by line into the indexes of a history, which decide on each call again.
 
 ghost use Rattle.std.specs.Prelude.{◌≡◌, ◌≤◌, ◌<◌, ◌^◌, ◌∷◌, ◌++◌, [], ℕ, List, true, false, length, vec_len, vec_capacity, IsTrue, ◌↔◌, ◌+◌, OnOk, OnErr, IfOk, IfErr};
 ghost use Rattle.work_registry.specs.EntryValue.{EntryValue, entry_of};
 ghost use Rattle.work_registry.specs.Rows.{rows_of};
 ghost use Rattle.work_registry.specs.Reply.{reply_to};
 ghost use Rattle.work_registry.specs.RegisterLine.{EntryLine, IsEntryLine};
-ghost use Rattle.work_registry.specs.ToldLine.{line_told};
-ghost use Rattle.work_registry.specs.Numbers.{most_entries};
+ghost use Rattle.work_registry.specs.RecordedDecision.{line_of_decision};
+ghost use Rattle.work_registry.specs.Numbers.{max_entries};
 ghost use Rattle.work_registry.specs.Replay.{is_opening};
 ghost use Rattle.work_registry.specs.Register.{count_line, register_text, IsWholeEntry};
 ghost use Rattle.std.specs.List.{AllByRecursion};
@@ -14,13 +14,13 @@ ghost use Rattle.work_registry.specs.RegisterFaults.{lines, has_end, Tells, IsRe
 ghost use Rattle.work_registry.specs.RegisterReading.{IsReadTo, IsStep, IsStop};
 ghost use Rattle.work_registry.specs.declared.register.refusal.RegisterRefusal.TheVariants as refusal;
 
-use super::calls::call_alone;
-use super::entry_line::{ReadEntry, Told, read_alone, read_entry};
+use super::calls::faultless_call;
+use super::entry_line::{ReadEntry, RecordedDecision, read_entry, read_faultless};
 use super::lines::count_in;
 use super::refusal::RegisterRefusal;
 use crate::book::store_entry;
 use crate::entry::Entry;
-use crate::ledger::Ledger;
+use crate::history_index::HistoryIndex;
 use crate::reply::Reply;
 use cwr_call::Call;
 use cwr_field::Memory;
@@ -33,7 +33,7 @@ pub(super) fn fault(number: u8, line: u64) -> RegisterRefusal
     RegisterRefusal::Fault { number, line }
 }
 
-/// Why a text has no line more, of this number: it is at its end, or no LF ends the line.
+/// Why a text has no line with this number: it is at its end, or no LF ends the line.
 pub(super) fn no_line(text: &[u8], number: u64) -> RegisterRefusal
     ensures missing { length text.now ≡ 0 → result ≡ refusal.Fault 2 number }
     ensures unended { 0 < length text.now → result ≡ refusal.Fault 1 number }
@@ -45,7 +45,7 @@ pub(super) fn no_line(text: &[u8], number: u64) -> RegisterRefusal
     }
 }
 
-/// The number of entries that the first line tells, which has no LF at its end here.
+/// The number of entries that the first line states, given without its LF.
 pub(super) fn first_count(line: &[u8], limit: u32) -> Result<u32, RegisterRefusal>
     requires { has_end line.now ≡ false }
     ensures count { IfOk result (λ count. (more : List ℕ) → IsReadTo limit (line.now ++ 10 ∷ more) count [] more) }
@@ -61,8 +61,8 @@ pub(super) fn first_count(line: &[u8], limit: u32) -> Result<u32, RegisterRefusa
     Ok(count)
 }
 
-/// Whether a status, a work and a version tell a reply.
-fn is_told(status: Status, work: u32, version: u32, reply: Reply) -> bool
+/// Whether a status, a work and a version, each 0 where there is none, record this reply.
+fn is_recorded(status: Status, work: u32, version: u32, reply: Reply) -> bool
     ensures { (x : EntryLine) → x.status ≡ status → x.work ≡ work → x.version ≡ version → IsTrue result ↔ Tells x reply }
 {
     status == reply.status()
@@ -70,46 +70,45 @@ fn is_told(status: Status, work: u32, version: u32, reply: Reply) -> bool
         && version == reply.version().unwrap_or(0)
 }
 
-/// The number of the line after those of a ledger's entries.
-pub(super) fn next_number<A: Allocator + Copy + Drop>(ledger: &Ledger<A>) -> u64
-    ensures { result ≡ length ledger.now + 2 }
+/// The number of the line behind those of the entries so far.
+pub(super) fn next_number<A: Allocator + Copy + Drop>(history_index: &HistoryIndex<A>) -> u64
+    ensures { result ≡ length history_index.now + 2 }
 {
-    ledger.len() as u64 + 2
+    history_index.len() as u64 + 2
 }
 
-/// Enters the call of the next line, which was read without the LF at its end, where the ledger decides on it what the
-/// line tells.
+/// Adds the call of the next line, where the decision on it is the one that the line records.
 ///
-/// With a refusal the ledger is as it was. The line is there for the contract alone.
+/// After an error the history index is unchanged. `line` is the line without its LF, and only the contract needs it.
 #[inline(always)]
-fn enter_told<A: Allocator + Copy + Drop>(
-    ledger: &mut Ledger<A>,
+fn enter_recorded<A: Allocator + Copy + Drop>(
+    history_index: &mut HistoryIndex<A>,
     line: &[u8],
-    told: Told,
+    told: RecordedDecision,
     call: &Call<A>,
 ) -> Result<Reply, RegisterRefusal>
-    requires room { length ledger.old < most_entries }
+    requires room { length history_index.old < max_entries }
     requires one { has_end line.now ≡ false }
-    requires says { IsEntryLine (line.now ++ 10 ∷ []) (line_told told call.now) }
-    requires only { (x : EntryLine) → IsEntryLine (line.now ++ 10 ∷ []) x → x ≡ line_told told call.now }
-    ensures read { OnOk result ((more : List ℕ) → IsStep ledger.old (line.now ++ 10 ∷ more) ledger.new more) }
-    ensures entry { IfOk result (λ reply. ledger.new ≡ ledger.old ++ entry_of 0 call.now reply ∷ []) }
-    ensures unchanged { OnErr result (ledger.new ≡ ledger.old) }
-    ensures fault { IfErr result (λ refusal. (more : List ℕ) → IsStop ledger.old (line.now ++ 10 ∷ more) refusal) }
+    requires says { IsEntryLine (line.now ++ 10 ∷ []) (line_of_decision told call.now) }
+    requires only { (x : EntryLine) → IsEntryLine (line.now ++ 10 ∷ []) x → x ≡ line_of_decision told call.now }
+    ensures read { OnOk result ((more : List ℕ) → IsStep history_index.old (line.now ++ 10 ∷ more) history_index.new more) }
+    ensures entry { IfOk result (λ reply. history_index.new ≡ history_index.old ++ entry_of 0 call.now reply ∷ []) }
+    ensures unchanged { OnErr result (history_index.new ≡ history_index.old) }
+    ensures fault { IfErr result (λ refusal. (more : List ℕ) → IsStop history_index.old (line.now ++ 10 ∷ more) refusal) }
 {
-    let number = next_number(ledger);
+    let number = next_number(history_index);
     if told.index as u64 + 1 != number {
         return Err(fault(2, number));
     }
-    let decision = ledger.decide(call);
-    if !is_told(told.status, told.work, told.version, decision.reply) {
+    let decision = history_index.decide(call);
+    if !is_recorded(told.status, told.work, told.version, decision.reply) {
         return Err(fault(3, number));
     }
-    ledger.enter(call, decision)?;
+    history_index.enter(call, decision)?;
     Ok(decision.reply)
 }
 
-/// Makes room for one entry more, where entries are kept.
+/// Makes room for one more entry, where entries are kept.
 #[inline(always)]
 fn make_room<A: Allocator + Copy + Drop>(
     keeps: bool,
@@ -124,38 +123,44 @@ fn make_room<A: Allocator + Copy + Drop>(
     Ok(())
 }
 
-/// Reads the next line, without the LF at its end, as an entry, on which the ledger decides anew, and keeps it as the last
-/// of the history, where entries are kept.
+/// Reads the next line as an entry, and decides on its call again. The entry is kept as the last of the history, where
+/// entries are kept.
 ///
-/// With a refusal both are as they were.
+/// - `alloc` is where memory comes from.
+/// - `history_index` are the indexes of the entries so far, to which the entry is added.
+/// - `line` is the line, without its LF.
+/// - `keeps` is whether entries are kept.
+/// - `history` are the entries so far, where they are kept.
+///
+/// After an error `history_index` and `history` are unchanged.
 #[inline(always)]
 pub(super) fn read_line<A: Allocator + Copy + Drop>(
     alloc: A,
-    ledger: &mut Ledger<A>,
+    history_index: &mut HistoryIndex<A>,
     line: &[u8],
     keeps: bool,
     history: &mut Vec<Entry<A>, A>,
 ) -> Result<(), RegisterRefusal>
-    requires room { length ledger.old < most_entries }
+    requires room { length history_index.old < max_entries }
     requires one { has_end line.now ≡ false }
-    ensures read { OnOk result ((more : List ℕ) → IsStep ledger.old (line.now ++ 10 ∷ more) ledger.new more) }
-    ensures longer { OnOk result (length ledger.new ≡ length ledger.old + 1) }
-    ensures opening { OnOk result (is_opening ledger.old ≡ true → is_opening ledger.new ≡ true) }
-    ensures kept { OnOk result (keeps ≡ true → history.old.items ≡ ledger.old → history.new.items ≡ ledger.new) }
-    ensures unchanged { OnErr result (ledger.new ≡ ledger.old) }
+    ensures read { OnOk result ((more : List ℕ) → IsStep history_index.old (line.now ++ 10 ∷ more) history_index.new more) }
+    ensures longer { OnOk result (length history_index.new ≡ length history_index.old + 1) }
+    ensures opening { OnOk result (is_opening history_index.old ≡ true → is_opening history_index.new ≡ true) }
+    ensures kept { OnOk result (keeps ≡ true → history.old.items ≡ history_index.old → history.new.items ≡ history_index.new) }
+    ensures unchanged { OnErr result (history_index.new ≡ history_index.old) }
     ensures unkept { OnErr result (history.new.items ≡ history.old.items) }
-    ensures fault { IfErr result (λ refusal. (more : List ℕ) → IsStop ledger.old (line.now ++ 10 ∷ more) refusal) }
+    ensures fault { IfErr result (λ refusal. (more : List ℕ) → IsStop history_index.old (line.now ++ 10 ∷ more) refusal) }
 {
     make_room(keeps, history)?;
-    let Some(head) = read_alone(line) else {
-        let entry = read_other_line(alloc, ledger, line)?;
+    let Some(head) = read_faultless(line) else {
+        let entry = read_any_line(alloc, history_index, line)?;
         if keeps {
             store_entry(history, entry);
         }
         return Ok(());
     };
-    let call = call_alone(alloc, &head);
-    let reply = enter_told(ledger, line, head.told, &call)?;
+    let call = faultless_call(alloc, &head);
+    let reply = enter_recorded(history_index, line, head.told, &call)?;
     if keeps {
         store_entry(
             history,
@@ -169,26 +174,30 @@ pub(super) fn read_line<A: Allocator + Copy + Drop>(
     Ok(())
 }
 
-/// Reads the next line, which may have faults or say nothing. With a refusal the ledger is as it was.
+/// Reads the next line, given without its LF, as an entry with or without faults. It decides on the entry's call again,
+/// adds the entry to the history index, and returns it. It is called for lines that `read_faultless` does not take.
+///
+/// A line is refused if it is not that of an entry (G1), has another index than the next (G2), or records another
+/// decision (G3). After an error the history index is unchanged.
 #[inline(never)]
-fn read_other_line<A: Allocator + Copy + Drop>(
+fn read_any_line<A: Allocator + Copy + Drop>(
     alloc: A,
-    ledger: &mut Ledger<A>,
+    history_index: &mut HistoryIndex<A>,
     line: &[u8],
 ) -> Result<Entry<A>, RegisterRefusal>
-    requires room { length ledger.old < most_entries }
+    requires room { length history_index.old < max_entries }
     requires one { has_end line.now ≡ false }
-    ensures read { OnOk result ((more : List ℕ) → IsStep ledger.old (line.now ++ 10 ∷ more) ledger.new more) }
-    ensures entry { IfOk result (λ entry. ledger.new ≡ ledger.old ++ entry ∷ []) }
+    ensures read { OnOk result ((more : List ℕ) → IsStep history_index.old (line.now ++ 10 ∷ more) history_index.new more) }
+    ensures entry { IfOk result (λ entry. history_index.new ≡ history_index.old ++ entry ∷ []) }
     ensures session { IfOk result (λ entry. entry.session ≡ 0) }
-    ensures unchanged { OnErr result (ledger.new ≡ ledger.old) }
-    ensures fault { IfErr result (λ refusal. (more : List ℕ) → IsStop ledger.old (line.now ++ 10 ∷ more) refusal) }
+    ensures unchanged { OnErr result (history_index.new ≡ history_index.old) }
+    ensures fault { IfErr result (λ refusal. (more : List ℕ) → IsStop history_index.old (line.now ++ 10 ∷ more) refusal) }
 {
     let Some(entry) = read_entry(alloc, line)? else {
-        return Err(fault(1, next_number(ledger)));
+        return Err(fault(1, next_number(history_index)));
     };
     let ReadEntry { told, call } = entry;
-    let reply = enter_told(ledger, line, told, &call)?;
+    let reply = enter_recorded(history_index, line, told, &call)?;
     Ok(Entry {
         session: 0,
         call,

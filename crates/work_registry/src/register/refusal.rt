@@ -13,11 +13,11 @@ pub enum RegisterRefusal {
     /// The text has this fault, and none before it.
     #[error("refused G{number} at line {line}")]
     Fault {
-        /// The number of the fault: of the line's faults the least. 1 is a line that is not of its form, 2 an entry
-        /// that is missing, superfluous or has another index, 3 another reply than the registry gives, and 4 a number
+        /// The number of the fault: the least of the line's faults. 1 is a line that is not of its form. 2 is an entry
+        /// that is missing, superfluous or has another index. 3 is another reply than the registry gives. 4 is a number
         /// of entries above the limit.
         number: u8,
-        /// The line, counted from 1: of the faulty lines the first. The line after the last one is the end.
+        /// The line, counted from 1: the first of the faulty lines. The line after the last one stands for the end.
         line: u64,
     },
 }

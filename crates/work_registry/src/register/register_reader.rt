@@ -3,7 +3,7 @@
 ghost use Rattle.std.specs.Prelude.{◌≡◌, ◌≤◌, ◌++◌, ◌∷◌, [], ℕ, List, None, IsTrue, true, false, length, drop, OnOk, OnErr, IfOk, IfErr};
 ghost use Rattle.std.specs.List.{AllByRecursion};
 ghost use Rattle.work_registry.specs.History.{IsHistory};
-ghost use Rattle.work_registry.specs.Numbers.{most_entries};
+ghost use Rattle.work_registry.specs.Numbers.{max_entries};
 ghost use Rattle.work_registry.specs.Register.{register_text, IsWholeEntry};
 ghost use Rattle.work_registry.specs.RegisterFaults.{has_end, IsRefusal};
 ghost use Rattle.work_registry.specs.RegisterReader.{IsRest};
@@ -15,10 +15,9 @@ use crate::book::Book;
 use std::alloc::{Allocator, Global};
 use std::marker::Model;
 
-/// Reads the book of a register that comes a piece at a time.
+/// Reads the book of a register that comes a chunk at a time.
 ///
-/// A contract sees how many entries there may be, how many the first line tells, once it was read, and the entries so
-/// far.
+/// A contract sees the limit of entries, how many the first line states, once it was read, and the entries so far.
 #[derive(Drop)]
 pub struct RegisterReader<A: Allocator + Copy + Drop = Global> {
     lines: LineReader<A>,
@@ -39,7 +38,7 @@ impl<A: Allocator + Copy + Drop> RegisterReader<A> {
     /// Begins before the first line, for a book with this limit. No memory is asked for.
     pub fn new(alloc: A, limit: u32) -> RegisterReader<A>
         requires least { 1 ≤ limit }
-        requires most { limit ≤ most_entries }
+        requires most { limit ≤ max_entries }
         ensures { result ≡ record { limit = limit; count = None; history = [] } }
     {
         RegisterReader {
@@ -47,21 +46,21 @@ impl<A: Allocator + Copy + Drop> RegisterReader<A> {
         }
     }
 
-    /// Reads the whole lines of a piece, and answers how many bytes they are. What stands behind them comes again, with
-    /// what follows it.
+    /// Reads the complete lines of a chunk, and returns how many bytes they are. What stands behind them must come
+    /// again, with what follows it.
     ///
-    /// A refusal is that of the whole register, whatever follows the piece.
-    pub fn take_lines(&mut self, piece: &[u8]) -> Result<usize, RegisterRefusal>
-        ensures within { IfOk result (λ count. count ≤ length piece.now) }
-        ensures whole { IfOk result (λ count. has_end (drop count piece.now) ≡ false) }
-        ensures read { IfOk result (λ count. (text later : List ℕ) → IsRest self.old text (piece.now ++ later) → IsRest self.new text (drop count piece.now ++ later)) }
+    /// A refusal is that of the complete register, whatever follows the chunk.
+    pub fn take_lines(&mut self, chunk: &[u8]) -> Result<usize, RegisterRefusal>
+        ensures within { IfOk result (λ count. count ≤ length chunk.now) }
+        ensures whole { IfOk result (λ count. has_end (drop count chunk.now) ≡ false) }
+        ensures read { IfOk result (λ count. (text later : List ℕ) → IsRest self.old text (chunk.now ++ later) → IsRest self.new text (drop count chunk.now ++ later)) }
         ensures limit { self.new.limit ≡ self.old.limit }
-        ensures fault { IfErr result (λ refusal. (text later : List ℕ) → IsRest self.old text (piece.now ++ later) → IsRefusal self.old.limit text refusal) }
+        ensures fault { IfErr result (λ refusal. (text later : List ℕ) → IsRest self.old text (chunk.now ++ later) → IsRefusal self.old.limit text refusal) }
     {
-        self.lines.take_lines(piece)
+        self.lines.take_lines(chunk)
     }
 
-    /// The book of the register, of which this is the rest. All its entries are of the opening, session 0.
+    /// Reads the rest of the register, and returns its book. All its entries are of the opening, session 0.
     pub fn finish(self, rest: &[u8]) -> Result<Book<A>, RegisterRefusal>
         ensures text { IfOk result (λ book. (text : List ℕ) → IsRest self text rest.now → text ≡ register_text book.history) }
         ensures whole { IfOk result (λ book. (text : List ℕ) → IsRest self text rest.now → AllByRecursion IsWholeEntry book.history) }

@@ -12,10 +12,10 @@ use super::columns::{self, COUNT_WIDTH, FAULT_WIDTH, HEAD_WIDTH};
 use super::head::Head;
 use crate::entry::Entry;
 use cwr_call::Fault;
-use cwr_record::{Column, LineRoom, Piece};
+use cwr_record::{Column, FieldValue, LineRoom};
 use std::alloc::Allocator;
 
-/// What the fields of fixed place in the line of an entry tell.
+/// The fields of fixed place in the line of an entry.
 pub(super) fn head_for<A: Allocator>(index: u32, entry: &Entry<A>) -> Head
     ensures value { result ≡ head_of (line_for index entry.now.call entry.now.reply) }
     ensures lawful { IsTrue (is_lawful entry.now.call) }
@@ -40,7 +40,13 @@ pub(super) fn head_for<A: Allocator>(index: u32, entry: &Entry<A>) -> Head
     }
 }
 
-/// Appends a number in as many digits as the column has. Where it is below the limit, the first of them are these zeros.
+/// Appends a number in as many digits as a column has, with leading zeros.
+///
+/// - `line` gets the digits.
+/// - `value` is the number, which fits the column.
+/// - `column` is the column, at most 18 bytes wide.
+/// - `zeros` are leading digits of the column that are 0 for a small number.
+/// - `limit` is the least number that needs one of these digits. A number below it is written as `zeros` and the rest.
 #[inline(always)]
 fn put_number(line: &mut LineRoom<HEAD_WIDTH>, value: u64, column: Column, zeros: &[u8], limit: u64)
     requires fits { value < 10 ^ column.width }
@@ -51,11 +57,11 @@ fn put_number(line: &mut LineRoom<HEAD_WIDTH>, value: u64, column: Column, zeros
     requires limit { limit ≡ 10 ^ (column.width - length zeros.now) }
     requires room { length line.old + column.width ≤ head_width }
     ensures text { line.new ≡ line.old ++ number_text column.width value }
-    // The same, with what is put behind it.
+    // The same, with any bytes behind it.
     ensures before { (behind : List ℕ) → line.new ++ behind ≡ line.old ++ (number_text column.width value ++ behind) }
 {
     if value >= limit {
-        line.put(&Piece::Digits(value, column));
+        line.put(&FieldValue::Digits(value, column));
         return;
     }
     let front = Column {
@@ -66,23 +72,23 @@ fn put_number(line: &mut LineRoom<HEAD_WIDTH>, value: u64, column: Column, zeros
         start: column.start + zeros.len(),
         width: column.width - zeros.len(),
     };
-    line.put(&Piece::Text(zeros, front));
-    line.put(&Piece::Digits(value, back));
+    line.put(&FieldValue::Text(zeros, front));
+    line.put(&FieldValue::Digits(value, back));
 }
 
-/// The fields of fixed place.
+/// The fields of fixed place, as text.
 pub(super) fn head_line(x: &Head) -> LineRoom<HEAD_WIDTH>
     requires { Fits head x.now }
     ensures { result ≡ line_of head x.now }
 {
     let mut line = LineRoom::<HEAD_WIDTH>::new();
-    line.put(&Piece::Text(b"ENT", columns::MARK));
-    line.put(&Piece::Digits(x.index as u64, columns::INDEX));
-    line.put(&Piece::Text(&x.submitter, columns::SUBMITTER));
-    line.put(&Piece::Text(x.kind.code(), columns::KIND));
-    line.put(&Piece::Text(&x.title, columns::TITLE));
-    line.put(&Piece::Text(&x.number, columns::NUMBER));
-    line.put(&Piece::Code(x.iswc));
+    line.put(&FieldValue::Text(b"ENT", columns::MARK));
+    line.put(&FieldValue::Digits(x.index as u64, columns::INDEX));
+    line.put(&FieldValue::Text(&x.submitter, columns::SUBMITTER));
+    line.put(&FieldValue::Text(x.kind.code(), columns::KIND));
+    line.put(&FieldValue::Text(&x.title, columns::TITLE));
+    line.put(&FieldValue::Text(&x.number, columns::NUMBER));
+    line.put(&FieldValue::Code(x.iswc));
     put_number(
         &mut line,
         x.control[0],
@@ -104,8 +110,8 @@ pub(super) fn head_line(x: &Head) -> LineRoom<HEAD_WIDTH>
         b"000000",
         1000000,
     );
-    line.put(&Piece::Text(x.status.code(), columns::STATUS));
-    line.put(&Piece::Digits(x.work as u64, columns::WORK));
+    line.put(&FieldValue::Text(x.status.code(), columns::STATUS));
+    line.put(&FieldValue::Digits(x.work as u64, columns::WORK));
     put_number(
         &mut line,
         x.version as u64,
@@ -117,16 +123,16 @@ pub(super) fn head_line(x: &Head) -> LineRoom<HEAD_WIDTH>
     line
 }
 
-/// A fault.
+/// A fault, as text.
 pub(super) fn fault_line(x: &Fault) -> LineRoom<FAULT_WIDTH>
     requires { Fits fault x.now }
     ensures text { result ≡ line_of fault x.now }
     ensures typed { IsTyped x.now }
 {
     let mut line = LineRoom::<FAULT_WIDTH>::new();
-    line.put(&Piece::Digits(x.sequence as u64, columns::FAULT_SEQUENCE));
-    line.put(&Piece::Digits(x.number as u64, columns::FAULT_NUMBER));
-    line.put(&Piece::Text(&x.rtype, columns::FAULT_RECORD_TYPE));
+    line.put(&FieldValue::Digits(x.sequence as u64, columns::FAULT_SEQUENCE));
+    line.put(&FieldValue::Digits(x.number as u64, columns::FAULT_NUMBER));
+    line.put(&FieldValue::Text(&x.rtype, columns::FAULT_RECORD_TYPE));
     line
 }
 
@@ -136,13 +142,15 @@ pub(super) fn first_line(count: usize) -> LineRoom<COUNT_WIDTH>
     ensures { result ≡ line_of entry_count count }
 {
     let mut line = LineRoom::<COUNT_WIDTH>::new();
-    line.put(&Piece::Text(b"REG", columns::MARK));
-    line.put(&Piece::Digits(count as u64, columns::COUNT));
+    line.put(&FieldValue::Text(b"REG", columns::MARK));
+    line.put(&FieldValue::Digits(count as u64, columns::COUNT));
     line
 }
 
-/// The room that the text is written in: its length, and that of the fields of fixed place, for which there is room up to
-/// the end. A line is its fields, its faults and LF.
+/// The capacity in bytes for the complete text: its length, and behind that the width of the fields of fixed place.
+/// That much must be free even at the end of the text.
+///
+/// A line is its fields of fixed place, its faults and LF.
 pub(super) fn room_for<A: Allocator>(entries: &[Entry<A>]) -> usize
     requires { length entries.now < 10 ^ 8 }
     ensures { result ≡ count_width + 1 + (head_width + 1) * length entries.now + fault_width * sum_by (λ e. length e.call.faults) entries.now + head_width }

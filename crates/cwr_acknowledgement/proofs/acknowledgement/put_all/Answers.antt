@@ -8,8 +8,8 @@ use Rattle.cwr_acknowledgement.proofs.acknowledgement.put_all.Goals as goal
 pub returns-in_err-put_line-clause-put : goal.returns-in_err-put_line-clause-put
 returns-in_err-put_line-clause-put g c =
     cut_put c.from_residual.result c.in_err-put_line.field-0.0 _ _ _ _ _ _ c.from_residual.ensures.1
-    (ack_cut_first c.args.stamp.now c.args.header.now (g.L.Answers.items c.args.answers.now) _ c.told_count-told.ensures _ _ _ _
-    (rw (c.bytes.ensures.line ∙ c.header_line.ensures.line ∙ ap (line_of control.header) c.file_start.ensures) at c.in_err-put_line.ensures.put))
+    (ack_cut_first c.args.stamp.now c.args.header.now (g.L.Answers.items c.args.answers.now) _ c.reported_fault_count-told.ensures _ _ _ _
+    (rw (c.bytes.ensures.line ∙ c.header_line.ensures.line ∙ ap (line_of control.header) c.file_header.ensures) at c.in_err-put_line.ensures.put))
 
 pub put_line-requires-2-clause-size : goal.put_line-requires-2-clause-size
 put_line-requires-2-clause-size g c =
@@ -19,9 +19,9 @@ put_line-requires-2-clause-size g c =
 pub returns-in_err-put_line-2-clause-put : goal.returns-in_err-put_line-2-clause-put
 returns-in_err-put_line-2-clause-put g c =
     cut_put c.from_residual-in_err-put_line-2.result c.in_err-put_line-2.field-0.0 _ _ _ _ _ _ c.from_residual-in_err-put_line-2.ensures.1
-    (ack_cut_second c.args.stamp.now c.args.header.now (g.L.Answers.items c.args.answers.now) _ c.told_count-told.ensures _ _ _ _ _ _ _
-    (rw (c.bytes.ensures.line ∙ c.header_line.ensures.line ∙ ap (line_of control.header) c.file_start.ensures) at c.in_ok-put_line.ensures.put)
-    (rw (c.bytes-2.ensures.line ∙ c.group_head_line.ensures.line ∙ ap (line_of control.group_head) c.group_start.ensures) at c.in_err-put_line-2.ensures.put))
+    (ack_cut_second c.args.stamp.now c.args.header.now (g.L.Answers.items c.args.answers.now) _ c.reported_fault_count-told.ensures _ _ _ _ _ _ _
+    (rw (c.bytes.ensures.line ∙ c.header_line.ensures.line ∙ ap (line_of control.header) c.file_header.ensures) at c.in_ok-put_line.ensures.put)
+    (rw (c.bytes-2.ensures.line ∙ c.group_head_line.ensures.line ∙ ap (line_of control.group_head) c.group_header.ensures) at c.in_err-put_line-2.ensures.put))
 
 pub put_items-requires-clause-size : goal.put_items-requires-clause-size
 put_items-requires-clause-size g c =
@@ -32,9 +32,9 @@ put_items-requires-clause-size g c =
 pub returns-in_err-put_items-clause-put : goal.returns-in_err-put_items-clause-put
 returns-in_err-put_items-clause-put g c =
     cut_put c.from_residual-in_err-put_items.result c.in_err-put_items.field-0.0 _ _ _ _ _ _ c.from_residual-in_err-put_items.ensures.1
-    (ack_cut_third c.args.stamp.now c.args.header.now (g.L.Answers.items c.args.answers.now) _ c.told_count-told.ensures _ _ _ _ _ _ _ _ _ _
-    (rw (c.bytes.ensures.line ∙ c.header_line.ensures.line ∙ ap (line_of control.header) c.file_start.ensures) at c.in_ok-put_line.ensures.put)
-    (rw (c.bytes-2.ensures.line ∙ c.group_head_line.ensures.line ∙ ap (line_of control.group_head) c.group_start.ensures) at c.in_ok-put_line-2.ensures.put)
+    (ack_cut_third c.args.stamp.now c.args.header.now (g.L.Answers.items c.args.answers.now) _ c.reported_fault_count-told.ensures _ _ _ _ _ _ _ _ _ _
+    (rw (c.bytes.ensures.line ∙ c.header_line.ensures.line ∙ ap (line_of control.header) c.file_header.ensures) at c.in_ok-put_line.ensures.put)
+    (rw (c.bytes-2.ensures.line ∙ c.group_head_line.ensures.line ∙ ap (line_of control.group_head) c.group_header.ensures) at c.in_ok-put_line-2.ensures.put)
     (rw c.new.ensures at c.in_err-put_items.ensures.put))
 
 pub put_line-requires-3-clause-size : goal.put_line-requires-3-clause-size
@@ -47,11 +47,11 @@ put_line-requires-3-clause-size g c =
 pub returns-in_err-put_line-3-clause-put : goal.returns-in_err-put_line-3-clause-put
 returns-in_err-put_line-3-clause-put g c =
     cut_put c.from_residual-in_err-put_line-3.result c.in_err-put_line-3.field-0.0 _ _ _ _ _ _ c.from_residual-in_err-put_line-3.ensures.1
-    (ack_cut_fourth c.args.stamp.now c.args.header.now (g.L.Answers.items c.args.answers.now) _ c.told_count-told.ensures _ _ _ _ _ _ _ _ _ _ _ _ _
-    (rw (c.bytes.ensures.line ∙ c.header_line.ensures.line ∙ ap (line_of control.header) c.file_start.ensures) at c.in_ok-put_line.ensures.put)
-    (rw (c.bytes-2.ensures.line ∙ c.group_head_line.ensures.line ∙ ap (line_of control.group_head) c.group_start.ensures) at c.in_ok-put_line-2.ensures.put)
+    (ack_cut_fourth c.args.stamp.now c.args.header.now (g.L.Answers.items c.args.answers.now) _ c.reported_fault_count-told.ensures _ _ _ _ _ _ _ _ _ _ _ _ _
+    (rw (c.bytes.ensures.line ∙ c.header_line.ensures.line ∙ ap (line_of control.header) c.file_header.ensures) at c.in_ok-put_line.ensures.put)
+    (rw (c.bytes-2.ensures.line ∙ c.group_head_line.ensures.line ∙ ap (line_of control.group_head) c.group_header.ensures) at c.in_ok-put_line-2.ensures.put)
     (rw c.new.ensures at c.in_ok-put_items.ensures.put)
-    (rw (c.bytes-3.ensures.line ∙ c.group_trailer_line.ensures.line ∙ ap (line_of control.group_trailer) c.group_end-group.ensures, c.len-transactions.ensures) at c.in_err-put_line-3.ensures.put))
+    (rw (c.bytes-3.ensures.line ∙ c.group_trailer_line.ensures.line ∙ ap (line_of control.group_trailer) c.group_trailer-group.ensures, c.len-transactions.ensures) at c.in_err-put_line-3.ensures.put))
 
 pub put_line-requires-4-clause-size : goal.put_line-requires-4-clause-size
 put_line-requires-4-clause-size g c =
@@ -63,9 +63,9 @@ put_line-requires-4-clause-size g c =
 
 pub returns-clause-put : goal.returns-clause-put
 returns-clause-put g c =
-    ack_put c.args.stamp.now c.args.header.now (g.L.Answers.items c.args.answers.now) _ c.told_count-told.ensures c.put_line-4.result _ _ _ _ _ _ _ _ _ _ _ _ _
-    (rw (c.bytes.ensures.line ∙ c.header_line.ensures.line ∙ ap (line_of control.header) c.file_start.ensures) at c.in_ok-put_line.ensures.put)
-    (rw (c.bytes-2.ensures.line ∙ c.group_head_line.ensures.line ∙ ap (line_of control.group_head) c.group_start.ensures) at c.in_ok-put_line-2.ensures.put)
+    ack_put c.args.stamp.now c.args.header.now (g.L.Answers.items c.args.answers.now) _ c.reported_fault_count-told.ensures c.put_line-4.result _ _ _ _ _ _ _ _ _ _ _ _ _
+    (rw (c.bytes.ensures.line ∙ c.header_line.ensures.line ∙ ap (line_of control.header) c.file_header.ensures) at c.in_ok-put_line.ensures.put)
+    (rw (c.bytes-2.ensures.line ∙ c.group_head_line.ensures.line ∙ ap (line_of control.group_head) c.group_header.ensures) at c.in_ok-put_line-2.ensures.put)
     (rw c.new.ensures at c.in_ok-put_items.ensures.put)
-    (rw (c.bytes-3.ensures.line ∙ c.group_trailer_line.ensures.line ∙ ap (line_of control.group_trailer) c.group_end-group.ensures, c.len-transactions.ensures) at c.in_ok-put_line-3.ensures.put)
-    (rw (c.bytes-4.ensures.line ∙ c.file_trailer_line.ensures.line ∙ ap (line_of control.file_trailer) c.file_end-file.ensures, c.len-transactions.ensures) at c.put_line-4.ensures.put)
+    (rw (c.bytes-3.ensures.line ∙ c.group_trailer_line.ensures.line ∙ ap (line_of control.group_trailer) c.group_trailer-group.ensures, c.len-transactions.ensures) at c.in_ok-put_line-3.ensures.put)
+    (rw (c.bytes-4.ensures.line ∙ c.file_trailer_line.ensures.line ∙ ap (line_of control.file_trailer) c.file_trailer-file.ensures, c.len-transactions.ensures) at c.put_line-4.ensures.put)

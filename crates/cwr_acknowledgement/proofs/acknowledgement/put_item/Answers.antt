@@ -14,12 +14,12 @@ returns-in_err-put_ack-clause-put g c =
 pub put_messages-requires-clause-size : goal.put_messages-requires-clause-size
 put_messages-requires-clause-size g c =
     let size = size_after _ _ _ _ _ _ c.in_ok-put_ack.ensures.put in
-    let same = ap (λ (fs : List Fault). length fs) c.told_faults.ensures in
+    let same = ap (λ (fs : List Fault). length fs) c.reported_faults.ensures in
     omega (arith, size, same, c.requires.size)
 
 pub returns-clause-put : goal.returns-clause-put
 returns-clause-put g c =
     let ack = ended (line_of table.ack (ack_record c.args.form.now.stamp c.args.form.now.header c.args.index c.args.item.now)) in
     then_whole c.put_messages.result _ _ _ _ _ _ 1 _ _ _ _ _ c.in_ok-put_ack.ensures.put c.put_messages.ensures.put
-    (ap (λ (fs : List Fault). 1 + length fs) c.told_faults.ensures)
-    (ap (λ (fs : List Fault). ack ++ flat_map ended (message_lines c.args.index 1 fs)) c.told_faults.ensures)
+    (ap (λ (fs : List Fault). 1 + length fs) c.reported_faults.ensures)
+    (ap (λ (fs : List Fault). ack ++ flat_map ended (message_lines c.args.index 1 fs)) c.reported_faults.ensures)

@@ -10,25 +10,25 @@ loop-index-init g c = record { form = refl; works = search rules; put = front_no
 pub put_item-requires-clause-size : goal.put_item-requires-clause-size
 put_item-requires-clause-size g c =
     let i = c.loop-index.index in
-    let next = slice_get_within (g.L.Answers.items c.args.answers.now) i c.told.result c.told.ensures in
+    let next = slice_get_within (g.L.Answers.items c.args.answers.now) i c.item.result c.item.ensures in
     let size = size_after _ _ _ _ _ _ c.loop-index.invariant.put.put in
-    let more = lines_more (g.L.Answers.items c.args.answers.now) i c.told.result next c.told.ensures in
+    let more = lines_more (g.L.Answers.items c.args.answers.now) i c.item.result next c.item.ensures in
     let within = lines_within (g.L.Answers.items c.args.answers.now) (i + 1) in
     omega (arith, size, more, within, next, c.requires.size)
 
 pub put_item-requires-clause-few : goal.put_item-requires-clause-few
 put_item-requires-clause-few g c =
-    let within = told_within (g.L.Answers.items c.args.answers.now) c.loop-index.index c.told.result c.told.ensures in
+    let within = told_within (g.L.Answers.items c.args.answers.now) c.loop-index.index c.item.result c.item.ensures in
     omega (arith, within, c.requires.few)
 
 pub put_item-requires-clause-fits : goal.put_item-requires-clause-fits
-put_item-requires-clause-fits g c = fits_at _ _ _ c.requires.fit c.told.ensures
+put_item-requires-clause-fits g c = fits_at _ _ _ c.requires.fit c.item.ensures
 
 pub returns-in_err-put_item-clause-put : goal.returns-in_err-put_item-clause-put
 returns-in_err-put_item-clause-put g c =
     cut_put c.from_residual.result c.in_err-put_item.field-0.0 _ _ _ _ _ _ c.from_residual.ensures.1
     (front_cut _ _ _ _ _ _ _ _ _ _ _ c.loop-index.invariant.put
-    (item_next c.args.form.now.stamp c.args.form.now.header (g.L.Answers.items c.args.answers.now) c.loop-index.index c.told.result (slice_get_within _ _ _ c.told.ensures) c.told.ensures)
+    (item_next c.args.form.now.stamp c.args.form.now.header (g.L.Answers.items c.args.answers.now) c.loop-index.index c.item.result (slice_get_within _ _ _ c.item.ensures) c.item.ensures)
     (rw c.loop-index.invariant.form at c.in_err-put_item.ensures.put))
 
 pub loop-index-preserved : goal.loop-index-preserved
@@ -37,7 +37,7 @@ loop-index-preserved g c = record {
   works = search rules;
   put =
       front_more _ _ _ _ _ _ _ _ _ _ _ _ _ c.loop-index.invariant.put
-      (item_next c.args.form.now.stamp c.args.form.now.header (g.L.Answers.items c.args.answers.now) c.loop-index.index c.told.result (slice_get_within _ _ _ c.told.ensures) c.told.ensures)
-      (lines_more (g.L.Answers.items c.args.answers.now) c.loop-index.index c.told.result (slice_get_within _ _ _ c.told.ensures) c.told.ensures)
+      (item_next c.args.form.now.stamp c.args.form.now.header (g.L.Answers.items c.args.answers.now) c.loop-index.index c.item.result (slice_get_within _ _ _ c.item.ensures) c.item.ensures)
+      (lines_more (g.L.Answers.items c.args.answers.now) c.loop-index.index c.item.result (slice_get_within _ _ _ c.item.ensures) c.item.ensures)
       (rw c.loop-index.invariant.form at c.in_ok-put_item.ensures.put);
 }

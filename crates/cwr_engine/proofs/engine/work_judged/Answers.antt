@@ -5,7 +5,7 @@ use Rattle.cwr_engine.proofs.engine.work_judged.Goals as goal
 
 pub returns-in-Ok-clause-worked : goal.returns-in-Ok-clause-worked
 returns-in-Ok-clause-worked g c = λ ts ends input judged given read_on few_reads read.
-    let whole = (rw c.in-Ok.is at c.hand_in_file-window.ensures.answered) ts judged in
+    let whole = (rw c.in-Ok.is at c.hand_in_file-registry.ensures.answered) ts judged in
     sent _ _ _ _ _ input _ ts (answers_in c.in-Ok.answered) given read_on few_reads read whole.answered whole.all c.answer_file.result
     (rw whole.header at c.answer_file.ensures)
 
@@ -23,5 +23,5 @@ returns-in-Err-clause-worked g c = λ ts ends input judged given read_on few_rea
       taken_after = g.W.Sink.taken c.args.writer.now;
       write_failed = g.W.Sink.has_failed c.args.writer.now;
     } in
-    (rw c.in-Err.is at c.hand_in_file-window.ensures.stopped) ts reader writer c.args.stamp.now input judged
+    (rw c.in-Err.is at c.hand_in_file-registry.ensures.stopped) ts reader writer c.args.stamp.now input judged
     (record { given = given; read_on = read_on; few_reads = few_reads; read = read }) (Appends-nil _)

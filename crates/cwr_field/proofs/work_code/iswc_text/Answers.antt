@@ -14,5 +14,5 @@ returns c =
     let two = three / 10 in
     let one = two / 10 in
     let check =
-    c.digit-10.ensures ∙ ap (λ (sum : ℕ). 48 + (10 - sum % 10) % 10) (check_sum (one % 10) (two % 10) (three % 10) (four % 10) (five % 10) (six % 10) (seven % 10) (eight % 10) (nine % 10)) in
-    rw (c.digit.ensures, c.digit-2.ensures, c.digit-3.ensures, c.digit-4.ensures, c.digit-5.ensures, c.digit-6.ensures, c.digit-7.ensures, c.digit-8.ensures, c.digit-9.ensures, check) refl
+    c.ascii_digit-10.ensures ∙ ap (λ (sum : ℕ). 48 + (10 - sum % 10) % 10) (check_sum (one % 10) (two % 10) (three % 10) (four % 10) (five % 10) (six % 10) (seven % 10) (eight % 10) (nine % 10)) in
+    rw (c.ascii_digit.ensures, c.ascii_digit-2.ensures, c.ascii_digit-3.ensures, c.ascii_digit-4.ensures, c.ascii_digit-5.ensures, c.ascii_digit-6.ensures, c.ascii_digit-7.ensures, c.ascii_digit-8.ensures, c.ascii_digit-9.ensures, check) refl

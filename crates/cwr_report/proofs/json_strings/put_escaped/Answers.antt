@@ -6,8 +6,8 @@ returns-in_ok-extend_from_slice-clause-ok c = rw (by_letter c.args.byte c.escape
 
 pub returns-in_ok-extend_from_slice-2-clause-ok : goal.returns-in_ok-extend_from_slice-2-clause-ok
 returns-in_ok-extend_from_slice-2-clause-ok c =
-    rw (by_digits c.args.byte c.escape_letter-letter.result c.escape_letter-letter.ensures c.if-letter-gt0.false c.if-byte-lt-LEAST_PRINTABLE.true)
+    rw (by_digits c.args.byte c.escape_letter-letter.result c.escape_letter-letter.ensures c.if-letter-gt0.false c.if-byte-lt-MIN_PRINTABLE.true)
     (rw (c.hex_digit-high.ensures, c.hex_digit-low.ensures) at c.in_ok-extend_from_slice-2.ensures.items)
 
 pub returns-in_ok-push-clause-ok : goal.returns-in_ok-push-clause-ok
-returns-in_ok-push-clause-ok c = rw (by_itself c.args.byte c.escape_letter-letter.result c.escape_letter-letter.ensures c.if-letter-gt0.false c.if-byte-lt-LEAST_PRINTABLE.false) c.in_ok-push.ensures.items
+returns-in_ok-push-clause-ok c = rw (by_itself c.args.byte c.escape_letter-letter.result c.escape_letter-letter.ensures c.if-letter-gt0.false c.if-byte-lt-MIN_PRINTABLE.false) c.in_ok-push.ensures.items

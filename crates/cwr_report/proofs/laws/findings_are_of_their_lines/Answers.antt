@@ -1,4 +1,4 @@
-use Rattle.cwr_report.proofs.Told.{listed_from, line_of}
+use Rattle.cwr_report.proofs.FindingPlaces.{listed_from, line_of}
 use Rattle.cwr_report.proofs.laws.findings_are_of_their_lines.Goals as goal
 
 pub returns-clause-listed : goal.returns-clause-listed

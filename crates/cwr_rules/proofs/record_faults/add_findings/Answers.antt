@@ -1,7 +1,7 @@
 use Rattle.std.proofs.Common.{List, ◌++◌, sym, ap, ◌∙◌, append-nil}
 use Rattle.cwr_rules.specs.declared.finding.Finding.{Finding}
 use Rattle.cwr_rules.specs.Rules.{publishers, name_of}
-use Rattle.cwr_rules.specs.SoFar.{rules_so_far}
+use Rattle.cwr_rules.specs.TransactionState.{rules_so_far}
 use Rattle.cwr_rules.proofs.Findings.{none_found}
 use Rattle.cwr_rules.proofs.record_faults.add_findings.Goals as goal
 

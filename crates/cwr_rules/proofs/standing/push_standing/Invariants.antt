@@ -1,6 +1,6 @@
 use Rattle.std.proofs.Common.{◌≡◌, ℕ, ◌++◌, List, drop}
 use Rattle.cwr_rules.specs.Parties.{HoldsParties, kept_in}
-use Rattle.cwr_rules.specs.SoFar.{standing}
+use Rattle.cwr_rules.specs.TransactionState.{standing}
 use Rattle.cwr_rules.proofs.standing.push_standing.Given as goal
 
 abbrev pub invariant-loop-finding : goal.invariant-loop-finding

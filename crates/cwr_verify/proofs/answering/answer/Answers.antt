@@ -4,7 +4,7 @@ use Rattle.cwr_engine.specs.Account.{WriteEnds, write_ends}
 use Rattle.cwr_engine.specs.Judged.{JudgedValue}
 use Rattle.work_registry.specs.EntryValue.{EntryValue}
 use Rattle.cwr_acknowledgement.specs.Acknowledgement.{ack_text}
-use Rattle.cwr_engine.specs.Told.{told_all}
+use Rattle.cwr_engine.specs.AckItems.{items_with_replies}
 use Rattle.cwr_verify.specs.Again.{IsJudgedFile, IsSentInPart, IsWhyNot}
 use Rattle.cwr_verify.specs.Replied.{AreOfFile}
 use Rattle.cwr_verify.proofs.FileRuns.{cut_again, handed_on, own_run, written_again}
@@ -52,7 +52,7 @@ returns-clause-why_not g c =
     let its = own_run c.args.text.now c.in_ok-file.file.header c.in_ok-file.file.transactions.items c.deref.result.now c.args.entry c.args.book.now.history c.history.result.now
     c.in_ok-replied.replied c.deref.ensures.value c.history.ensures.entries c.in_ok-replied.ensures.its c.in_ok-file.ensures.fits c.in_ok-file.ensures.judged c.in_ok-replied.ensures.run in
     IfErr-weaker c.send.result
-    (IsSentInPart ends (ack_text c.args.stamp.now c.in_ok-file.file.header (told_all c.in_ok-replied.replied.transactions c.in_ok-replied.replied.replies)))
+    (IsSentInPart ends (ack_text c.args.stamp.now c.in_ok-file.file.header (items_with_replies c.in_ok-replied.replied.transactions c.in_ok-replied.replied.replies)))
     (IsWhyNot c.args.stamp.now c.args.text.now c.args.entry c.args.book.now.history ends)
     (λ why part. cut_again c.args.stamp.now c.args.text.now c.in_ok-file.file.header c.args.entry c.args.book.now.history c.in_ok-replied.replied ends why its part)
     c.send.ensures.part

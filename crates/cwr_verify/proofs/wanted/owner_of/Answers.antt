@@ -6,14 +6,14 @@ use Rattle.cwr_call.specs.CallValue.{CallValue}
 use Rattle.work_registry.specs.EntryValue.{EntryValue}
 use Rattle.work_registry.specs.declared.reply.Reply.{Reply}
 use Rattle.cwr_verify.proofs.Turns.{moved_on, one_leaves, waits_again, waits_no_more}
-use Rattle.cwr_verify.specs.Wanting.{Wanting, key_of, key_of_entry, next_key, next_of, told_of}
-use Rattle.cwr_verify.specs.declared.told.Told.{Told}
+use Rattle.cwr_verify.specs.Wanting.{Wanting, key_of, key_of_entry, next_key, next_of, status_of_reply}
+use Rattle.cwr_verify.specs.declared.ack_status.AckStatus.{AckStatus}
 use Rattle.cwr_verify.specs.declared.waiting.Key.{Key}
 use Rattle.cwr_verify.proofs.wanted.owner_of.Goals as goal
 
 -- the key that was made of the parts of an entry
-entry_key : (e : EntryValue) {key : Key} {told : Told} {reply : Reply} {call : CallValue} → key ≡ key_of told call → told ≡ told_of reply → reply ≡ e.reply → call ≡ e.call → key ≡ key_of_entry e
-entry_key e is its replied asked = is ∙ (λ i. key_of ((its ∙ ap told_of replied) i) (asked i))
+entry_key : (e : EntryValue) {key : Key} {told : AckStatus} {reply : Reply} {call : CallValue} → key ≡ key_of told call → told ≡ status_of_reply reply → reply ≡ e.reply → call ≡ e.call → key ≡ key_of_entry e
+entry_key e is its replied asked = is ∙ (λ i. key_of ((its ∙ ap status_of_reply replied) i) (asked i))
 
 pub returns-in_default-next_key-clause-moved : goal.returns-in_default-next_key-clause-moved
 returns-in_default-next_key-clause-moved g c =

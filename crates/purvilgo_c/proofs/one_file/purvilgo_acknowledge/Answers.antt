@@ -1,6 +1,6 @@
 use Rattle.std.proofs.Common.{◌∙◌, ap, sym, refl}
 use Rattle.std.specs.Prelude.{Some, []}
-use Rattle.work_registry.specs.Numbers.{most_entries}
+use Rattle.work_registry.specs.Numbers.{max_entries}
 use Rattle.purvilgo_c.proofs.Answering.{answered}
 use Rattle.purvilgo_c.proofs.one_file.purvilgo_acknowledge.Goals as goal
 
@@ -10,14 +10,14 @@ returns-clause-answered c some =
     let left = ap Some c.new-reader.ensures.left in
     let taken = ap Some c.new-writer.ensures.empty in
     let text = ap Some (sym c.bytes.ensures) in
-    let worked = c.acknowledge-told.ensures.1 in
+    let worked = c.acknowledge-told.ensures.alone in
     record {
       text = c.bytes.result.now;
       holds = record {
         parts = _;
         stamped = stamped;
         made = worked.entries;
-        answered = answered _ c.args.file.now c.numbers_of.result c.acknowledge-told.result c.bytes.result.now 1 _ (record { history = []; limit = most_entries }) c.acknowledge-told.ensures.0
+        answered = answered _ c.args.file.now c.numbers_of.result c.acknowledge-told.result c.bytes.result.now 1 _ (record { history = []; limit = max_entries }) c.acknowledge-told.ensures.kept
             worked.entries c.numbers_of.ensures left taken text refl refl worked.replayed worked.grown worked.limit refl worked.account;
       };
       given = c.hand_out.ensures;

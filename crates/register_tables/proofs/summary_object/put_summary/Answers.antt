@@ -7,14 +7,14 @@ use Rattle.register_tables.specs.declared.conflicts.Conflicted.{Conflicted}
 use Rattle.register_tables.specs.declared.tally.Tally.{Tally}
 use Rattle.register_tables.specs.JsonValues.{value_tokens}
 use Rattle.register_tables.specs.Summary.{different, largest, submitters, tally_of}
-use Rattle.register_tables.specs.SummaryJson.{conflicts_data, shares_data, summary_data, told_data}
+use Rattle.register_tables.specs.SummaryJson.{conflicts_data, shares_data, summary_data, object_of_numbers}
 use Rattle.register_tables.specs.WorksTable.{last_work}
 use Rattle.register_tables.proofs.JsonObjects.{adds_same}
 use Rattle.register_tables.proofs.summary_object.put_summary.Goals as goal
 
 -- what is told of equal numbers is equal
 same_told : (e f w v s r : ℕ) (t u : Tally) (left : Data) (cs ds : List Conflicted) → e ≡ f → w ≡ v → s ≡ r → t ≡ u → cs ≡ ds
-    → value_tokens (told_data e w s t left (conflicts_data cs)) ≡ value_tokens (told_data f v r u left (conflicts_data ds))
+    → value_tokens (object_of_numbers e w s t left (conflicts_data cs)) ≡ value_tokens (object_of_numbers f v r u left (conflicts_data ds))
 same_told e f w v s r t u left cs ds entries works submitters tally top = rw (entries, works, submitters, tally, top) refl
 
 pub returns : goal.returns
@@ -24,8 +24,8 @@ returns g c =
     let works : c.last_work-last.result ≡ last_work rows = c.last_work-last.ensures ∙ ap (λ (entries : List EntryValue). last_work (rows_of entries)) c.history.ensures.entries in
     let many : c.in_ok-submitter_count.field-0 ≡ length (different (submitters history)) =
     c.in_ok-submitter_count.ensures ∙ ap (λ (entries : List EntryValue). length (different (submitters entries))) c.history-2.ensures.entries in
-    on_ok_weaker c.put_told.result
-    (adds_same c.args.out.now c.put_told.new.out _ (value_tokens (summary_data history))
+    on_ok_weaker c.put_summary_members.result
+    (adds_same c.args.out.now c.put_summary_members.new.out _ (value_tokens (summary_data history))
     (same_told c.len.result (length history) c.last_work-last.result (last_work rows) c.in_ok-submitter_count.field-0 (length (different (submitters history))) c.tally_of.result (tally_of rows history) (shares_data rows)
     c.deref.result.now (largest history) c.len.ensures.value works many c.tally_of.ensures (c.deref.ensures.value ∙ c.in_ok-top.ensures)))
-    c.put_told.ensures
+    c.put_summary_members.ensures

@@ -4,7 +4,7 @@ use Rattle.csv.specs.Writing.{text_written}
 use Rattle.work_registry.specs.EntryValue.{EntryValue}
 use Rattle.work_registry.specs.Rows.{rows_of}
 use Rattle.register_tables.specs.WorksTable.{is_wanted_work, last_work, work_line, work_lines}
-use Rattle.register_tables.specs.Gathered.{blank_work}
+use Rattle.register_tables.specs.WorkTotals.{blank_work}
 use Rattle.register_tables.proofs.Steps.{IsPart, begun, gone_on}
 use Rattle.register_tables.specs.Summary.{count}
 use Rattle.register_tables.proofs.WorkRows.{next_work, next_work_count}

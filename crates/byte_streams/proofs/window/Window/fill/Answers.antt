@@ -16,7 +16,7 @@ returns-in-Ok-2-clause-read g c =
     let f = c.self.inside in
     let n = c.in-Ok-read_some.n in
     let end = f.end - f.start in
-    let room = c.read_some.new.room in
+    let room = c.read_some.new.buffer in
     let bound = c.in-Ok-read_some.ensures.bound in
     let value = c.deref_mut.ensures.value in
     let long = ap length value in
@@ -25,7 +25,7 @@ returns-in-Ok-2-clause-read g c =
     let held = ap (λ (s : WindowState). s.held) c.self.view_is in
     let read = ap (λ (s : WindowState). s.read) c.self.view_is in
     let limit = ap (λ (s : WindowState). s.limit) c.self.view_is in
-    let wide : length room ≡ length c.deref_mut.result.now - end = (let left = length-drop end c.deref_mut.result.now in c.read_some.auto.room ∙ length-take-le _ (drop end c.deref_mut.result.now) (omega (arith, left))) in
+    let wide : length room ≡ length c.deref_mut.result.now - end = (let left = length-drop end c.deref_mut.result.now in c.read_some.auto.buffer ∙ length-take-le _ (drop end c.deref_mut.result.now) (omega (arith, left))) in
     let whole = refilled c.deref_mut.result.now room end fits wide ∙ long in
     let filled = with_items_is c.make_room.new.bytes _ (whole ∙ sym c.make_room.new.bytes.ok.0) in (
       take n room,
@@ -45,5 +45,5 @@ returns-in-Ok-read_some-clause-stopped g c =
     let n = c.in-Ok-read_some.n in
     let read = ap (λ (s : WindowState). s.read) c.self.view_is in
     let limit = ap (λ (s : WindowState). s.limit) c.self.view_is in
-    let size : length (take n c.read_some.new.room) ≡ n = length-take-le n c.read_some.new.room c.in-Ok-read_some.ensures.bound in
-    (c.in-Ok-read_some.ensures.fails, (take n c.read_some.new.room, (c.in-Ok-read_some.ensures.bytes.0, omega (arith, c.if-n-self.true, size, read, limit, c.requires.within))))
+    let size : length (take n c.read_some.new.buffer) ≡ n = length-take-le n c.read_some.new.buffer c.in-Ok-read_some.ensures.bound in
+    (c.in-Ok-read_some.ensures.fails, (take n c.read_some.new.buffer, (c.in-Ok-read_some.ensures.bytes.0, omega (arith, c.if-n-self.true, size, read, limit, c.requires.within))))

@@ -6,7 +6,7 @@ use Rattle.byte_streams.proofs.window.Window.fill_line.Given as goal
 abbrev pub invariant-loop-self : goal.invariant-loop-self
 invariant-loop-self g l = record {
   going : g.R.Source.has_failed l.reader ≡ false;
-  read : (piece : List ℕ) × HasRead l.fn.self l.self (g.R.Source.left l.fn.reader) (g.R.Source.left l.reader) piece;
+  read : (chunk : List ℕ) × HasRead l.fn.self l.self (g.R.Source.left l.fn.reader) (g.R.Source.left l.reader) chunk;
   seen : l.seen ≤ length l.self.held;
   counted : g.R.Source.reads l.reader + l.fn.self.read ≤ g.R.Source.reads l.fn.reader + l.self.read + 1;
   each : l.self.is_ended ≡ false → g.R.Source.reads l.reader + l.fn.self.read ≤ g.R.Source.reads l.fn.reader + l.self.read;

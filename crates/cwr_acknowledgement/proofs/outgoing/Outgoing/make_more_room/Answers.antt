@@ -8,7 +8,7 @@ returns-then-needed-capacity-clause-ready g c =
     let inside = c.self.inside in
     let fits : inside.end + c.args.needed ≤ vec_capacity inside.bytes = search rules in
     let held = ap (λ (s : OutgoingState). length s.held) c.self.view_is in
-    let room = ap (λ (s : OutgoingState). s.room) c.self.view_is in
+    let room = ap (λ (s : OutgoingState). s.capacity) c.self.view_is in
     c.make_ready.ensures.ready c.args.needed c.requires.needed (omega (arith, fits, held, room, length-take inside.end inside.bytes.items))
 
 pub returns-clause-ready : goal.returns-clause-ready

@@ -24,4 +24,4 @@ returns g c =
     let inside = c.transaction.inside in
     let judged : JudgedValue = record { group = inside.group; sequence = inside.sequence; call = inside.call } in
     counted_by c.args.self.now.transactions.now c.args.self.now.replies.now c.args.index judged c.index-self-index.result _ c.status.result c.faults.result.now
-    c.told_faults.result.now _ c.requires c.transaction.view_is c.status.ensures c.faults.ensures.value c.told_faults.ensures refl
+    c.reported_faults.result.now _ c.requires c.transaction.view_is c.status.ensures c.faults.ensures.value c.reported_faults.ensures refl

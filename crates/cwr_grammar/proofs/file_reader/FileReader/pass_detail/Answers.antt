@@ -1,5 +1,5 @@
 use Rattle.std.proofs.Common.{◌≡◌, ◌∙◌, ◌∷◌, sym, ap, subst, arith}
-use Rattle.cwr_grammar.specs.Awaited.{digits_of, next_detail}
+use Rattle.cwr_grammar.specs.Awaited.{packed_digits_of, next_detail}
 use Rattle.cwr_grammar.specs.Counted.{AreSmall, counts_of}
 use Rattle.cwr_grammar.specs.declared.file_counts.FileCounts.{FileCounts}
 use Rattle.cwr_grammar.specs.ReadUpTo.{ReaderState}
@@ -16,7 +16,7 @@ pub invariant_of-self : goal.invariant_of-self
 invariant_of-self c = rw c.add_line.ensures (
   record {
     transaction = c.pass_line.ensures.transaction ∙ c.self.invariant.0.transaction;
-    detail = c.pass_line.ensures.detail ∙ ap digits_of (omega arith);
+    detail = c.pass_line.ensures.detail ∙ ap packed_digits_of (omega arith);
   },
   c.self.invariant.1,
 )

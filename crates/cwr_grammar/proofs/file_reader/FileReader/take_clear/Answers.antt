@@ -28,7 +28,7 @@ give-requires-clause-kept g c =
     let r = read.goes (ap (λ (s : ReaderState). s.counts.is_ended) c.self.view_is ∙ c.requires.goes) in
     let clear = c.requires.clear r.before (sym (ap (λ (s : ReaderState). s.counts) c.self.view_is) ∙ r.visiting.going.counted) in
     let head = behind_header (g.V.Visitor.keeps q.0 c.args.visitor.now) _ _ _ c.args.line.now c.args.role read r c.requires.role clear c.requires.behind in
-    let h = visiting_gives (g.V.Visitor.keeps q.0 c.args.visitor.now (Some head.header)) _ _ _ _ _ _ _ c.args.line.now _ (rw head.header_is at r.visiting) c.requires.role clear (omega (arith, q.6)) in
+    let h = visiting_gives (g.V.Visitor.keeps q.0 c.args.visitor.now (Some head.header)) _ _ _ c.args.line.now _ (rw head.header_is at r.visiting) c.requires.role clear (omega (arith, q.6)) in
     (q.0, head.header, h.0, h.1, h.2, h.3, h.4)
 
 pub pass-requires-clause-clear : goal.pass-requires-clause-clear

@@ -13,7 +13,7 @@ detail-requires-clause-begun g c =
     let r = q.4.goes c.requires.goes in
     let clear = line_clear r.before c.args.line.now _ r.visiting.going.counted c.requires.goes (sym r.visiting.is.counted ∙ c.requires.opened) c.requires.role c.requires.plain in
     let head = behind_header (g.V.Visitor.keeps q.0 c.args.visitor.now) _ _ _ c.args.line.now (next_detail c.args.self.now.counts) q.4 r (sym c.requires.role) clear refl in
-    let kept = visiting_gives (g.V.Visitor.keeps q.0 c.args.visitor.now c.args.self.now.header) _ _ _ _ _ _ _ c.args.line.now _ r.visiting (sym c.requires.role) clear (omega (arith, q.6)) in
+    let kept = visiting_gives (g.V.Visitor.keeps q.0 c.args.visitor.now c.args.self.now.header) _ _ _ c.args.line.now _ r.visiting (sym c.requires.role) clear (omega (arith, q.6)) in
     let h = kept_detail (g.V.Visitor.keeps q.0 c.args.visitor.now (Some head.header)) _ _ (rw head.header_is at kept) refl in
     (q.0, head.header, h.0, h.1, h.2, h.3)
 

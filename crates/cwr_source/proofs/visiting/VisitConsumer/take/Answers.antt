@@ -11,7 +11,7 @@ take_lines-requires g c =
 
 pub returns-clause-left : goal.returns-clause-left
 returns-clause-left g c =
-    ok_of c.take_lines.result (λ count inside taken first text later h. passes _ _ _ c.args.piece.now later h _ _ count inside (taken first.visitor text (length h.passed) (stands _ _ _ _ _ h) h.lines_read))
+    ok_of c.take_lines.result (λ count inside taken first text later h. passes _ _ _ c.args.chunk.now later h _ _ count inside (taken first.visitor text (length h.passed) (stands _ _ _ _ _ h) h.lines_read))
     c.take_lines.ensures.inside c.take_lines.ensures.taken
 
 pub returns-clause-fault : goal.returns-clause-fault

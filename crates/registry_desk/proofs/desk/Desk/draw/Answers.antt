@@ -1,5 +1,5 @@
 use Rattle.std.proofs.Common.{rules, ◌<◌, subst, sym, refl, ap}
-use Rattle.registry_desk.specs.Views.{most_turns}
+use Rattle.registry_desk.specs.Views.{max_turns}
 use Rattle.registry_desk.specs.Standing.{Standing}
 use Rattle.registry_desk.proofs.Steps.{draw_allowed}
 use Rattle.registry_desk.proofs.Leaving.{moves}
@@ -9,7 +9,7 @@ pub fetch_add-ticket-requires : goal.fetch_add-ticket-requires
 fetch_add-ticket-requires g c = let n = c.seat.invariant.counted in (
   search rules,
   search rules,
-  draw_allowed _ _ c.seat.inside.seat.me n.live c.seat.invariant.away (subst (λ (x : Standing). x.view.turns < most_turns) (sym c.seat.view_is) c.requires.turns),
+  draw_allowed _ _ c.seat.inside.seat.me n.live c.seat.invariant.away (subst (λ (x : Standing). x.view.turns < max_turns) (sym c.seat.view_is) c.requires.turns),
 )
 
 pub returns-clause-step : goal.returns-clause-step

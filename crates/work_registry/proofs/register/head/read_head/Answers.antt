@@ -1,5 +1,5 @@
-use Rattle.std.proofs.Common.{◌≡◌, ◌∙◌, true, false, refl}
-use Rattle.std.specs.Prelude.{slice_index, codes}
+use Rattle.std.proofs.Common.{◌≡◌, ◌∙◌, Option, true, false, refl}
+use Rattle.std.specs.Prelude.{slice_index, codes, IfSome, None, Some}
 use Rattle.cwr_record.specs.Columns.{field_at}
 use Rattle.cwr_field.specs.Iswc.{iswc_of}
 use Rattle.cwr_record.specs.Layout.{code_value}
@@ -7,6 +7,11 @@ use Rattle.work_registry.specs.RegisterColumns as column
 use Rattle.work_registry.proofs.HandedOn.{if_none}
 use Rattle.work_registry.proofs.RegisterFields.{mark_read, is_marked, number_read, no_number, kind_read, no_kind, no_code, status_read, no_status}
 use Rattle.work_registry.proofs.register.head.read_head.Goals as goal
+
+-- nothing holds of what was not read
+if_some : {T : Type 0} (o : Option T) (P : T → Type 0) → o ≡ None → IfSome o P
+if_some None P is = tt
+if_some (Some x) P is = cc
 
 pub returns-then-ne-clause-none : goal.returns-then-ne-clause-none
 returns-then-ne-clause-none c = λ x stands.
@@ -49,3 +54,93 @@ returns-clause-some c = (mark_read c.bytes.result _ (codes "ENT") (c.bytes.ensur
 
 pub returns-clause-fits : goal.returns-clause-fits
 returns-clause-fits c = (tt, (c.in_ok-digits_at-4.ensures.bound, (c.in_ok-code_at.ensures.fits, (c.in_ok-digits_at.ensures.bound, (c.in_ok-digits_at-2.ensures.bound, (c.in_ok-digits_at-3.ensures.bound, (c.in_ok-digits_at-5.ensures.bound, (c.in_ok-digits_at-6.ensures.bound, (c.in_ok-digits_at-7.ensures.bound, tt)))))))))
+
+pub returns-in_err-named-clause-some : goal.returns-in_err-named-clause-some
+returns-in_err-named-clause-some c = if_some c.from_residual.result _ c.from_residual.ensures
+
+pub returns-in_err-named-clause-fits : goal.returns-in_err-named-clause-fits
+returns-in_err-named-clause-fits c = if_some c.from_residual.result _ c.from_residual.ensures
+
+pub returns-in_err-named-clause-rights : goal.returns-in_err-named-clause-rights
+returns-in_err-named-clause-rights c = if_some c.from_residual.result _ c.from_residual.ensures
+
+pub returns-in_err-code_at-clause-some : goal.returns-in_err-code_at-clause-some
+returns-in_err-code_at-clause-some c = if_some c.from_residual-in_err-code_at.result _ c.from_residual-in_err-code_at.ensures
+
+pub returns-in_err-code_at-clause-fits : goal.returns-in_err-code_at-clause-fits
+returns-in_err-code_at-clause-fits c = if_some c.from_residual-in_err-code_at.result _ c.from_residual-in_err-code_at.ensures
+
+pub returns-in_err-code_at-clause-rights : goal.returns-in_err-code_at-clause-rights
+returns-in_err-code_at-clause-rights c = if_some c.from_residual-in_err-code_at.result _ c.from_residual-in_err-code_at.ensures
+
+pub returns-in_err-digits_at-clause-some : goal.returns-in_err-digits_at-clause-some
+returns-in_err-digits_at-clause-some c = if_some c.from_residual-in_err-digits_at.result _ c.from_residual-in_err-digits_at.ensures
+
+pub returns-in_err-digits_at-clause-fits : goal.returns-in_err-digits_at-clause-fits
+returns-in_err-digits_at-clause-fits c = if_some c.from_residual-in_err-digits_at.result _ c.from_residual-in_err-digits_at.ensures
+
+pub returns-in_err-digits_at-clause-rights : goal.returns-in_err-digits_at-clause-rights
+returns-in_err-digits_at-clause-rights c = if_some c.from_residual-in_err-digits_at.result _ c.from_residual-in_err-digits_at.ensures
+
+pub returns-in_err-digits_at-2-clause-some : goal.returns-in_err-digits_at-2-clause-some
+returns-in_err-digits_at-2-clause-some c = if_some c.from_residual-in_err-digits_at-2.result _ c.from_residual-in_err-digits_at-2.ensures
+
+pub returns-in_err-digits_at-2-clause-fits : goal.returns-in_err-digits_at-2-clause-fits
+returns-in_err-digits_at-2-clause-fits c = if_some c.from_residual-in_err-digits_at-2.result _ c.from_residual-in_err-digits_at-2.ensures
+
+pub returns-in_err-digits_at-2-clause-rights : goal.returns-in_err-digits_at-2-clause-rights
+returns-in_err-digits_at-2-clause-rights c = if_some c.from_residual-in_err-digits_at-2.result _ c.from_residual-in_err-digits_at-2.ensures
+
+pub returns-in_err-digits_at-3-clause-some : goal.returns-in_err-digits_at-3-clause-some
+returns-in_err-digits_at-3-clause-some c = if_some c.from_residual-in_err-digits_at-3.result _ c.from_residual-in_err-digits_at-3.ensures
+
+pub returns-in_err-digits_at-3-clause-fits : goal.returns-in_err-digits_at-3-clause-fits
+returns-in_err-digits_at-3-clause-fits c = if_some c.from_residual-in_err-digits_at-3.result _ c.from_residual-in_err-digits_at-3.ensures
+
+pub returns-in_err-digits_at-3-clause-rights : goal.returns-in_err-digits_at-3-clause-rights
+returns-in_err-digits_at-3-clause-rights c = if_some c.from_residual-in_err-digits_at-3.result _ c.from_residual-in_err-digits_at-3.ensures
+
+pub returns-in_err-digits_at-4-clause-some : goal.returns-in_err-digits_at-4-clause-some
+returns-in_err-digits_at-4-clause-some c = if_some c.from_residual-in_err-digits_at-4.result _ c.from_residual-in_err-digits_at-4.ensures
+
+pub returns-in_err-digits_at-4-clause-fits : goal.returns-in_err-digits_at-4-clause-fits
+returns-in_err-digits_at-4-clause-fits c = if_some c.from_residual-in_err-digits_at-4.result _ c.from_residual-in_err-digits_at-4.ensures
+
+pub returns-in_err-digits_at-4-clause-rights : goal.returns-in_err-digits_at-4-clause-rights
+returns-in_err-digits_at-4-clause-rights c = if_some c.from_residual-in_err-digits_at-4.result _ c.from_residual-in_err-digits_at-4.ensures
+
+pub returns-in_err-named-2-clause-some : goal.returns-in_err-named-2-clause-some
+returns-in_err-named-2-clause-some c = if_some c.from_residual-in_err-named-2.result _ c.from_residual-in_err-named-2.ensures
+
+pub returns-in_err-named-2-clause-fits : goal.returns-in_err-named-2-clause-fits
+returns-in_err-named-2-clause-fits c = if_some c.from_residual-in_err-named-2.result _ c.from_residual-in_err-named-2.ensures
+
+pub returns-in_err-named-2-clause-rights : goal.returns-in_err-named-2-clause-rights
+returns-in_err-named-2-clause-rights c = if_some c.from_residual-in_err-named-2.result _ c.from_residual-in_err-named-2.ensures
+
+pub returns-in_err-digits_at-5-clause-some : goal.returns-in_err-digits_at-5-clause-some
+returns-in_err-digits_at-5-clause-some c = if_some c.from_residual-in_err-digits_at-5.result _ c.from_residual-in_err-digits_at-5.ensures
+
+pub returns-in_err-digits_at-5-clause-fits : goal.returns-in_err-digits_at-5-clause-fits
+returns-in_err-digits_at-5-clause-fits c = if_some c.from_residual-in_err-digits_at-5.result _ c.from_residual-in_err-digits_at-5.ensures
+
+pub returns-in_err-digits_at-5-clause-rights : goal.returns-in_err-digits_at-5-clause-rights
+returns-in_err-digits_at-5-clause-rights c = if_some c.from_residual-in_err-digits_at-5.result _ c.from_residual-in_err-digits_at-5.ensures
+
+pub returns-in_err-digits_at-6-clause-some : goal.returns-in_err-digits_at-6-clause-some
+returns-in_err-digits_at-6-clause-some c = if_some c.from_residual-in_err-digits_at-6.result _ c.from_residual-in_err-digits_at-6.ensures
+
+pub returns-in_err-digits_at-6-clause-fits : goal.returns-in_err-digits_at-6-clause-fits
+returns-in_err-digits_at-6-clause-fits c = if_some c.from_residual-in_err-digits_at-6.result _ c.from_residual-in_err-digits_at-6.ensures
+
+pub returns-in_err-digits_at-6-clause-rights : goal.returns-in_err-digits_at-6-clause-rights
+returns-in_err-digits_at-6-clause-rights c = if_some c.from_residual-in_err-digits_at-6.result _ c.from_residual-in_err-digits_at-6.ensures
+
+pub returns-in_err-digits_at-7-clause-some : goal.returns-in_err-digits_at-7-clause-some
+returns-in_err-digits_at-7-clause-some c = if_some c.from_residual-in_err-digits_at-7.result _ c.from_residual-in_err-digits_at-7.ensures
+
+pub returns-in_err-digits_at-7-clause-fits : goal.returns-in_err-digits_at-7-clause-fits
+returns-in_err-digits_at-7-clause-fits c = if_some c.from_residual-in_err-digits_at-7.result _ c.from_residual-in_err-digits_at-7.ensures
+
+pub returns-in_err-digits_at-7-clause-rights : goal.returns-in_err-digits_at-7-clause-rights
+returns-in_err-digits_at-7-clause-rights c = if_some c.from_residual-in_err-digits_at-7.result _ c.from_residual-in_err-digits_at-7.ensures

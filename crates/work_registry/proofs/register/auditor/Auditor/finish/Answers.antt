@@ -1,5 +1,5 @@
 use Rattle.std.proofs.Common.{◌∙◌, ℕ, List, length, ap, sym, subst}
-use Rattle.work_registry.specs.Numbers.{most_entries}
+use Rattle.work_registry.specs.Numbers.{max_entries}
 use Rattle.work_registry.specs.RegisterFaults.{IsRefusal}
 use Rattle.work_registry.specs.RegisterReader.{LinesState, ReaderState, IsRest}
 use Rattle.work_registry.proofs.HandedOn.{handed_on}
@@ -8,7 +8,7 @@ use Rattle.work_registry.proofs.register.auditor.Auditor.finish.Goals as goal
 pub returns-in_err-lines-clause-fault : goal.returns-in_err-lines-clause-fault
 returns-in_err-lines-clause-fault g c =
     let refusal = c.in_err-lines.field-0.0 in
-    handed_on c.from_residual.result refusal (λ r. (text : List ℕ) → IsRest c.args.self text c.args.rest.now → IsRefusal most_entries text r) c.from_residual.ensures.1
+    handed_on c.from_residual.result refusal (λ r. (text : List ℕ) → IsRest c.args.self text c.args.rest.now → IsRefusal max_entries text r) c.from_residual.ensures.1
     (λ text left.
     let P : ReaderState → Type 0 = λ s. IsRest s text c.args.rest.now in
     let R : ℕ → Type 0 = λ n. IsRefusal n text refusal in

@@ -48,9 +48,9 @@ returns-then-len-count-clause-fault g c = λ text left.
     let unended = subst (λ (xs : List ℕ). has_end xs ≡ false) (sym (take_rest rest taken)) c.in_ok-taken.ensures.whole in
     let R : ℕ → Type 0 = λ n. IsRefusal n text c.no_line-then-len-count.result in
     let limit = ap (λ (s : LinesState). s.read.limit) c.self.view_is ∙ c.take_lines.ensures.limit in
-    let most = (counted_later c.self.inside.limit c.self.inside.count c.self.inside.ledger c.in-Some.count c.in-Some.is c.self.invariant.0.counted).0 in
-    let counted : length c.self.inside.ledger < c.in-Some.count = omega (arith, most, c.len.ensures.value, c.if-len-count.true) in
-    subst R limit (absent_line c.self.inside.limit c.in-Some.count c.next_number-number.result text tail c.self.inside.ledger c.no_line-then-len-count.result c.next_number-number.ensures unended
+    let most = (counted_later c.self.inside.limit c.self.inside.count c.self.inside.history_index c.in-Some.count c.in-Some.is c.self.invariant.0.counted).0 in
+    let counted : length c.self.inside.history_index < c.in-Some.count = omega (arith, most, c.len.ensures.value, c.if-len-count.true) in
+    subst R limit (absent_line c.self.inside.limit c.in-Some.count c.next_number-number.result text tail c.self.inside.history_index c.no_line-then-len-count.result c.next_number-number.ensures unended
     c.no_line-then-len-count.ensures.missing c.no_line-then-len-count.ensures.unended counted (rest_later _ c.in-Some.count text tail c.in-Some.is start))
 
 pub returns-then-not-is_empty-clause-fault : goal.returns-then-not-is_empty-clause-fault
@@ -62,8 +62,8 @@ returns-then-not-is_empty-clause-fault g c = λ text left.
     let start = subst P (sym c.self.view_is) (left_behind c.args.self.read c.take_lines.new.self.read text rest taken (c.in_ok-taken.ensures.read text []) left) in
     let R : ℕ → Type 0 = λ n. IsRefusal n text c.fault.result in
     let limit = ap (λ (s : LinesState). s.read.limit) c.self.view_is ∙ c.take_lines.ensures.limit in
-    let full : length c.self.inside.ledger ≡ c.in-Some.count = sym c.len.ensures.value ∙ c.if-len-count.false in
-    subst R limit (rw c.fault.ensures (tail_line c.self.inside.limit c.in-Some.count c.next_number-number.result text tail c.self.inside.ledger (rest_later _ c.in-Some.count text tail c.in-Some.is start)
+    let full : length c.self.inside.history_index ≡ c.in-Some.count = sym c.len.ensures.value ∙ c.if-len-count.false in
+    subst R limit (rw c.fault.ensures (tail_line c.self.inside.limit c.in-Some.count c.next_number-number.result text tail c.self.inside.history_index (rest_later _ c.in-Some.count text tail c.in-Some.is start)
     (some_left (length tail) c.is_empty.result c.is_empty.ensures c.if-not-is_empty.true) full (c.next_number-number.ensures ∙ ap (λ (n : ℕ). n + 2) full)))
 
 pub returns-clause-text : goal.returns-clause-text
@@ -74,7 +74,7 @@ returns-clause-text g c = λ text left.
     let P : LinesState → Type 0 = λ s. IsRest s.read text tail in
     let start = subst P (sym c.self.view_is) (left_behind c.args.self.read c.take_lines.new.self.read text rest taken (c.in_ok-taken.ensures.read text []) left) in
     let T : LinesState → Type 0 = λ s. text ≡ register_text s.read.history in
-    subst T c.self.view_is (all_read c.self.inside.limit c.in-Some.count text tail c.self.inside.ledger (rest_later _ c.in-Some.count text tail c.in-Some.is start)
+    subst T c.self.view_is (all_read c.self.inside.limit c.in-Some.count text tail c.self.inside.history_index (rest_later _ c.in-Some.count text tail c.in-Some.is start)
     (none_left (length tail) c.is_empty.result c.is_empty.ensures c.if-not-is_empty.false) (sym c.len.ensures.value ∙ c.if-len-count.false))
 
 pub returns-clause-whole : goal.returns-clause-whole

@@ -22,7 +22,7 @@ returns-in_err-first_count-clause-fault g c =
 
 pub invariant_of-self : goal.invariant_of-self
 invariant_of-self g c =
-    let P : Option ℕ → Type 0 = λ o. HasCounted c.self.inside.limit o c.self.inside.ledger in
+    let P : Option ℕ → Type 0 = λ o. HasCounted c.self.inside.limit o c.self.inside.history_index in
     let none = subst P c.in_default.is c.self.invariant.0.counted in
     (record { counted = (omega (arith, ap length none), c.in_ok-first_count.ensures.within); least = c.self.invariant.0.least; most = c.self.invariant.0.most; opening = c.self.invariant.0.opening }, c.self.invariant.1)
 
@@ -30,9 +30,9 @@ pub returns-in_default-clause-read : goal.returns-in_default-clause-read
 returns-in_default-clause-read g c = λ text more left.
     let line = c.args.line.now in
     let count = c.in_ok-first_count.field-0 in
-    let P : Option ℕ → Type 0 = λ o. HasCounted c.self.inside.limit o c.self.inside.ledger in
+    let P : Option ℕ → Type 0 = λ o. HasCounted c.self.inside.limit o c.self.inside.history_index in
     let Q : LinesState → Type 0 = λ s. IsRest s.read text (line ++ 10 ∷ more) in
-    let R : List ℕ → Type 0 = λ xs. IsReadTo c.self.inside.limit xs count c.self.inside.ledger more in
+    let R : List ℕ → Type 0 = λ xs. IsReadTo c.self.inside.limit xs count c.self.inside.history_index more in
     let S : List EntryValue → Type 0 = λ h. IsReadTo c.self.inside.limit (line ++ 10 ∷ more) count h more in
     let none = subst P c.in_default.is c.self.invariant.0.counted in
     subst R (sym (rest_first _ text (line ++ 10 ∷ more) c.in_default.is (subst Q (sym c.self.view_is) left))) (subst S (sym none) (c.in_ok-first_count.ensures.count more))
@@ -45,12 +45,12 @@ returns-then-len-count-clause-fault g c = λ text more left.
     let limit = ap (λ (s : LinesState). s.read.limit) c.self.view_is in
     let read = rest_later _ c.in-Some.count text (line ++ 10 ∷ more) c.in-Some.is (subst P (sym c.self.view_is) left) in
     let size = length-append line (10 ∷ more) in
-    let full : length c.self.inside.ledger ≡ c.in-Some.count = sym c.len.ensures.value ∙ c.if-len-count.true in
-    subst R limit (rw c.fault.ensures (tail_line c.self.inside.limit c.in-Some.count c.next_number.result text (line ++ 10 ∷ more) c.self.inside.ledger read (omega (arith, size)) full (c.next_number.ensures ∙ ap (λ (n : ℕ). n + 2) full)))
+    let full : length c.self.inside.history_index ≡ c.in-Some.count = sym c.len.ensures.value ∙ c.if-len-count.true in
+    subst R limit (rw c.fault.ensures (tail_line c.self.inside.limit c.in-Some.count c.next_number.result text (line ++ 10 ∷ more) c.self.inside.history_index read (omega (arith, size)) full (c.next_number.ensures ∙ ap (λ (n : ℕ). n + 2) full)))
 
 pub read_line-requires-clause-room : goal.read_line-requires-clause-room
 read_line-requires-clause-room g c =
-    let counted = counted_later c.self.inside.limit c.self.inside.count c.self.inside.ledger c.in-Some.count c.in-Some.is c.self.invariant.0.counted in
+    let counted = counted_later c.self.inside.limit c.self.inside.count c.self.inside.history_index c.in-Some.count c.in-Some.is c.self.invariant.0.counted in
     omega (arith, counted.0, counted.1, c.self.invariant.0.most, c.len.ensures.value, c.if-len-count.false)
 
 pub returns-in_err-read_line-clause-fault : goal.returns-in_err-read_line-clause-fault
@@ -58,8 +58,8 @@ returns-in_err-read_line-clause-fault g c =
     let line = c.args.line.now in
     let count = c.in-Some.count in
     let refusal = c.in_err-read_line.field-0.0 in
-    let most = (counted_later c.self.inside.limit c.self.inside.count c.self.inside.ledger count c.in-Some.is c.self.invariant.0.counted).0 in
-    let room : length c.self.inside.ledger < count = omega (arith, most, c.len.ensures.value, c.if-len-count.false) in
+    let most = (counted_later c.self.inside.limit c.self.inside.count c.self.inside.history_index count c.in-Some.is c.self.invariant.0.counted).0 in
+    let room : length c.self.inside.history_index < count = omega (arith, most, c.len.ensures.value, c.if-len-count.false) in
     handed_on c.from_residual-in_err-read_line.result refusal (λ r. (text more : List ℕ) → IsRest c.args.self.now.read text (line ++ 10 ∷ more) → IsRefusal c.args.self.now.read.limit text r) c.from_residual-in_err-read_line.ensures.1
     (λ text more left.
     let P : LinesState → Type 0 = λ s. IsRest s.read text (line ++ 10 ∷ more) in
@@ -71,8 +71,8 @@ pub returns-clause-read : goal.returns-clause-read
 returns-clause-read g c = λ text more left.
     let line = c.args.line.now in
     let count = c.in-Some.count in
-    let most = (counted_later c.self.inside.limit c.self.inside.count c.self.inside.ledger count c.in-Some.is c.self.invariant.0.counted).0 in
-    let room : length c.self.inside.ledger < count = omega (arith, most, c.len.ensures.value, c.if-len-count.false) in
+    let most = (counted_later c.self.inside.limit c.self.inside.count c.self.inside.history_index count c.in-Some.is c.self.invariant.0.counted).0 in
+    let room : length c.self.inside.history_index < count = omega (arith, most, c.len.ensures.value, c.if-len-count.false) in
     let P : LinesState → Type 0 = λ s. IsRest s.read text (line ++ 10 ∷ more) in
-    let Q : Option ℕ → Type 0 = λ o. IsRestAfter c.self.inside.limit o c.read_line.new.ledger text more in
+    let Q : Option ℕ → Type 0 = λ o. IsRestAfter c.self.inside.limit o c.read_line.new.history_index text more in
     subst Q (sym c.in-Some.is) (c.in_ok-read_line.ensures.read more c.self.inside.limit text count room (rest_later _ count text (line ++ 10 ∷ more) c.in-Some.is (subst P (sym c.self.view_is) left)))

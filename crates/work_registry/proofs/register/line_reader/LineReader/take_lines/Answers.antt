@@ -27,19 +27,19 @@ loop-line-init g c = record { front = ([], refl); limit = refl; keeps = refl; re
 pub returns-in_err-take_line-clause-fault : goal.returns-in_err-take_line-clause-fault
 returns-in_err-take_line-clause-fault g c =
     let i = c.loop-line.invariant in
-    let piece = c.args.piece.now in
+    let chunk = c.args.chunk.now in
     let line = c.in-Some.line.now in
     let more = c.in-Some.more.now in
-    handed_on c.from_residual.result c.in_err-take_line.field-0.0 (λ refusal. (text later : List ℕ) → IsRest c.args.self.now.read text (piece ++ later) → IsRefusal c.args.self.now.read.limit text refusal) c.from_residual.ensures.1
+    handed_on c.from_residual.result c.in_err-take_line.field-0.0 (λ refusal. (text later : List ℕ) → IsRest c.args.self.now.read text (chunk ++ later) → IsRefusal c.args.self.now.read.limit text refusal) c.from_residual.ensures.1
     (λ text later left.
     let P : List ℕ → Type 0 = λ xs. IsRest c.loop-line.self.read text xs in
     let R : ℕ → Type 0 = λ n. IsRefusal n text c.in_err-take_line.field-0.0 in
     subst R i.limit (c.in_err-take_line.ensures.fault text (more ++ later) (subst P (ap (λ (xs : List ℕ). xs ++ later) c.in-Some.ensures.text ∙ append_assoc line (10 ∷ more) later) (i.read text later left))))
 
 pub returns-clause-whole : goal.returns-clause-whole
-returns-clause-whole g c = ap has_end (behind c.args.piece.now c.loop-line.invariant.front.0 c.loop-line.rest.now c.loop-line.invariant.front.1) ∙ c.in_default.ensures.unended
+returns-clause-whole g c = ap has_end (behind c.args.chunk.now c.loop-line.invariant.front.0 c.loop-line.rest.now c.loop-line.invariant.front.1) ∙ c.in_default.ensures.unended
 
 pub returns-clause-read : goal.returns-clause-read
 returns-clause-read g c = λ text later left.
     let P : List ℕ → Type 0 = λ xs. IsRest c.loop-line.self.read text (xs ++ later) in
-    subst P (sym (behind c.args.piece.now c.loop-line.invariant.front.0 c.loop-line.rest.now c.loop-line.invariant.front.1)) (c.loop-line.invariant.read text later left)
+    subst P (sym (behind c.args.chunk.now c.loop-line.invariant.front.0 c.loop-line.rest.now c.loop-line.invariant.front.1)) (c.loop-line.invariant.read text later left)

@@ -1,0 +1,5 @@
+use Rattle.std.proofs.Common.{rules}
+use Rattle.atomic_file.proofs.names.FileNames.word.Goals as goal
+
+pub returns : goal.returns
+returns c = search rules

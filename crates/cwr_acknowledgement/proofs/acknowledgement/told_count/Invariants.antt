@@ -1,7 +1,0 @@
-use Rattle.std.proofs.Common.{◌≡◌, take}
-use Rattle.cwr_acknowledgement.specs.Acknowledgement.{told_count}
-use Rattle.cwr_acknowledgement.proofs.acknowledgement.told_count.Given as goal
-
--- what is told of the items so far
-abbrev pub invariant-loop-index : goal.invariant-loop-index
-invariant-loop-index g l = l.count ≡ told_count (take l.index (g.L.Answers.items l.answers))

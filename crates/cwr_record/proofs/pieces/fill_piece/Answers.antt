@@ -1,8 +1,0 @@
-use Rattle.std.proofs.Common.{rules}
-use Rattle.cwr_record.proofs.pieces.fill_piece.Goals as goal
-
-pub returns-in-OptionalDay-Some-clause-text : goal.returns-in-OptionalDay-Some-clause-text
-returns-in-OptionalDay-Some-clause-text c = search rules
-
-pub returns-in-OptionalDay-Some-clause-dated : goal.returns-in-OptionalDay-Some-clause-dated
-returns-in-OptionalDay-Some-clause-dated c = search rules

@@ -1,5 +1,0 @@
-use Rattle.std.proofs.Common.{rules}
-use Rattle.cwr_record.proofs.pieces.width_of.Goals as goal
-
-pub returns-in-Day : goal.returns-in-Day
-returns-in-Day c = search rules

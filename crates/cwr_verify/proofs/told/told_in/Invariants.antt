@@ -1,9 +1,0 @@
-use Rattle.std.proofs.Common.{◌≡◌, ◌++◌}
-use Rattle.std.specs.List.{filter_map}
-use Rattle.std.specs.Str.Lines.{lines}
-use Rattle.cwr_verify.specs.Acknowledged.{told_by}
-use Rattle.cwr_verify.proofs.told.told_in.Given as goal
-
--- what the lines so far tell, and the lines that are left
-abbrev pub invariant-loop-line : goal.invariant-loop-line
-invariant-loop-line g l = l.all.items ++ filter_map told_by l.line-iterator ≡ filter_map told_by (lines l.acknowledgement)

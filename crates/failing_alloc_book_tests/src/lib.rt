@@ -1,0 +1,8 @@
+//! Tests with `failing_alloc` of the book of works and its register: each request for memory of each of their calls is
+//! refused in turn.
+#![tactic(auto)]
+
+#[cfg(test)]
+mod calls;
+#[cfg(test)]
+mod registers;

@@ -1,5 +1,0 @@
-use Rattle.std.proofs.Common.{rules}
-use Rattle.kept_file.proofs.exclusive.lock.Goals as goal
-
-pub returns : goal.returns
-returns g c = search rules

@@ -1,5 +1,0 @@
-use Rattle.std.proofs.Common.{rules}
-use Rattle.kept_file.proofs.memory.MemoryPlacePlace.write_some.Goals as goal
-
-pub returns-clause-wrote : goal.returns-clause-wrote
-returns-clause-wrote g c = search rules

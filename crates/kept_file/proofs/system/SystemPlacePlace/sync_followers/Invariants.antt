@@ -1,6 +1,0 @@
-use Rattle.std.proofs.Common.{◌≡◌}
-use Rattle.kept_file.proofs.system.SystemPlacePlace.sync_followers.Given as goal
-
--- no call for the file failed
-abbrev pub invariant-loop-at : goal.invariant-loop-at
-invariant-loop-at g l = l.self.failed ≡ l.fn.self.failed

@@ -1,5 +1,0 @@
-use Rattle.purvilgo_c.proofs.handle.Handle.TheSendSync.{the_send}
-use Rattle.purvilgo_c.proofs.laws.handles_may_cross.Goals as goal
-
-pub returns : goal.returns
-returns c = the_send

@@ -1,8 +1,0 @@
-//! Tests with `refusing` of the book of works and its register: each request for memory of each of their calls is refused
-//! in turn.
-#![tactic(auto)]
-
-#[cfg(test)]
-mod calls;
-#[cfg(test)]
-mod registers;

@@ -1,5 +1,0 @@
-use Rattle.std.proofs.Common.{rules}
-use Rattle.run_words.proofs.words.is_name.Goals as goal
-
-pub returns-then-word : goal.returns-then-word
-returns-then-word c = search rules
