@@ -58,8 +58,9 @@ works by what is left of the performing right:
   work 1: 1
 """ % (HALF, HALF, HALF)
 LEFT = b'{"all":0,"more_than_half":0,"none":0,"up_to_half":1,"up_to_quarter":0}'
+MOST = b'[{"entries":1,"submitter":"PB000000123"},{"entries":1,"submitter":"PB000000456"}]'
 SUMMARY_OBJECT = b'{"accepted":1,"conflicts":1,"current_claims":1,"duplicates":0,"entries":2,"largest_conflicts":[{"conflicts":1,"work":1}],' \
-    b'"left":{"mechanical":%s,"performing":%s,"synchronization":%s},"rejected":0,"submitters":2,"works":1}\n' % (LEFT, LEFT, LEFT)
+    b'"left":{"mechanical":%s,"performing":%s,"synchronization":%s},"most_entries":%s,"rejected":0,"submitters":2,"works":1}\n' % (LEFT, LEFT, LEFT, MOST)
 UNANSWERED = b": group 1, transaction 0: no entry of the register answers it\n"
 UNTOLD = b": group 1, transaction 0: not in the register as conflict-2.v22.ack has it\n"
 
@@ -311,6 +312,41 @@ def told_commands(program):
         yield " ".join(words), Command(words, 2, complained=text)
 
 
+def page_commands(program, examples):
+    """Commands that are answered by a page for a browser: in ample memory that page, whatever it is, which must begin and
+    end as one and have some texts, and nothing on standard error. The page of a check is written as it goes."""
+    files = {}
+    for name in ["accepted.v22", "file-fault.v22", "mistakes.v22", "remarks.v22"]:
+        with open(os.path.join(examples, name), "rb") as file:
+            files[name] = file.read()
+    first = decided(b"PB000000123", b"T0345246801", [5000] * 3, b"AS", 1, 1)
+    second = decided(b"PB000000456", b"T0345246801", [5007] * 3, b"CO", 1, 0)
+    files["r"] = register([first, second])
+    for words, status, parts in [
+        (["check", "--html", "accepted.v22"], 0, [b"<h1>Check of accepted.v22</h1>\n", b">No faults in 1 transactions.<"]),
+        (["check", "--html", "mistakes.v22"], 1, [b"<h1>Check of mistakes.v22</h1>\n", b">Faults</span> in 4 of 5 transactions.<"]),
+        (["check", "--html", "remarks.v22"], 0, [b">No faults in 2 transactions.<", b"<h3>Line 4: SPU</h3>", b"<h3>Line 10: SWX</h3>"]),
+        (["check", "--html", "file-fault.v22"], 1, [b'>Refused</span> by <a href="#F9.1">F9: ', b"</a>, at line 5.<"]),
+        (["summary", "--html", "r"], 0, [b"<h1>Summary of r</h1>\n", b"<code>PB000000123</code>", b"<code>PB000000456</code>"]),
+    ]:
+        given = {words[-1]: files[words[-1]]}
+        with tempfile.TemporaryDirectory() as folder:
+            put_files(folder, given)
+            run = subprocess.run([NAME, *words], executable=program, cwd=folder, stdin=subprocess.DEVNULL, capture_output=True, timeout=SECONDS)
+        page = run.stdout
+        assert (run.returncode, run.stderr) == (status, b""), (words, run.returncode, run.stderr)
+        assert page.startswith(b"<!DOCTYPE html>\n") and page.endswith(b"</main>\n</body>\n</html>\n"), words
+        assert all(part in page for part in parts), words
+        yield " ".join(words), Command(words, status, page, files=given, streams=words[0] == "check")
+
+
+def put_files(folder, files):
+    """Writes files into a folder, by name."""
+    for name, text in files.items():
+        with open(os.path.join(folder, name), "wb") as file:
+            file.write(text)
+
+
 def files_in(folder):
     """The files of a folder, by name."""
     files = {}
@@ -323,9 +359,7 @@ def files_in(folder):
 def answer_of(program, library, command, nth):
     """The answer of a run whose n-th request is refused, or that it hangs; and how many requests it made."""
     with tempfile.TemporaryDirectory() as folder, tempfile.NamedTemporaryFile() as count:
-        for name, text in command.files.items():
-            with open(os.path.join(folder, name), "wb") as file:
-                file.write(text)
+        put_files(folder, command.files)
         count.write(bytes(8))
         count.flush()
         memory = {"LD_PRELOAD": library, "REFUSE_NTH": str(nth), "REFUSE_COUNT": count.name}
@@ -379,7 +413,7 @@ def main(program, library, examples):
     program, library = os.path.abspath(program), os.path.abspath(library)
     failed = False
     print("%-33s %8s" % ("", "requests") + "".join(" %15s" % kind for kind in [*KINDS, "wrong"]))
-    for name, command in [*commands(examples), *told_commands(program)]:
+    for name, command in [*commands(examples), *page_commands(program, examples), *told_commands(program)]:
         found = collections.Counter()
         most, wrong = sweep(program, library, command, found)
         print("%-33s %8d" % (name, most) + "".join(" %15d" % found[kind] for kind in [*KINDS, "wrong"]), flush=True)

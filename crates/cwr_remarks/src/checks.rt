@@ -95,8 +95,9 @@ fn json_with_remarks(
     }
 }
 
-/// The remarks on a file. `refused` is the fault for which it is refused, if it is.
-fn remarks_on_file<A: Allocator>(
+/// The remarks on a file, on the file as a whole and then on its lines. `refused` is the fault for which it is refused,
+/// if it is. If an allocation fails, the result is `Memory` alone.
+pub fn remarks_on_file<A: Allocator>(
     alloc: A,
     bytes: &[u8],
     refused: &Option<FileFinding>,

@@ -55,7 +55,7 @@ fn put_type<A: Allocator>(out: &mut Vec<u8, A>, rtype: Option<[u8; 3]>) -> Resul
 }
 
 /// Appends the words of a remark. Bytes of the file are escaped if `shows` is true, else they stand as they are.
-pub(crate) fn put_what<A: Allocator>(
+pub fn put_what<A: Allocator>(
     out: &mut Vec<u8, A>,
     what: Remarked,
     shows: bool,

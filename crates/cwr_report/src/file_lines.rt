@@ -42,8 +42,8 @@ fn put_file_place<A: Allocator>(out: &mut Vec<u8, A>, finding: &FileFinding) -> 
     Ok(())
 }
 
-/// Appends where the line stands.
-fn put_place<A: Allocator>(
+/// Appends where a line stands in its file. `rtype` names its record type; bytes that are not printable are escaped.
+pub fn put_place<A: Allocator>(
     out: &mut Vec<u8, A>,
     rtype: &[u8],
     place: &RecordPlace,
@@ -74,7 +74,7 @@ fn put_group<A: Allocator>(out: &mut Vec<u8, A>, rtype: &[u8], group: u64) -> Re
 
 /// Appends a record of a transaction. `out` is the text so far and `rtype` the record type. `group` is the group id,
 /// from 1; `transaction` and `detail` are the transaction and record sequences, from 0.
-pub(crate) fn put_detail<A: Allocator>(
+pub fn put_detail<A: Allocator>(
     out: &mut Vec<u8, A>,
     rtype: &[u8],
     group: u64,
@@ -107,8 +107,8 @@ fn put_byte<A: Allocator>(out: &mut Vec<u8, A>, wrong: &Option<WrongByte>) -> Re
     Ok(())
 }
 
-/// Appends what was expected.
-pub(crate) fn put_file_wanted<A: Allocator>(
+/// Appends what a rule of files required.
+pub fn put_file_wanted<A: Allocator>(
     out: &mut Vec<u8, A>,
     expected: &FileExpected,
 ) -> Result<(), Memory>

@@ -35,6 +35,7 @@ pub use cwr_field::Memory;
 pub use cwr_record::{Column, WorkKind};
 pub use cwr_rules::{Over, Totals};
 pub use file_finding::{FileExpected, FileFinding, RecordPlace, WrongByte};
+pub use file_lines::{put_detail, put_file_wanted, put_place};
 pub use file_words::file_rule_text;
 pub use finding::{Expected, FieldName, Finding, Spot};
 pub use json_report::{
@@ -42,7 +43,9 @@ pub use json_report::{
 };
 pub use json_strings::put_json_text;
 pub use json_values::{put_comma, put_option, put_type, text_value};
-pub use long_lines::put_text;
+pub use long_lines::{message_of, put_text, put_wanted, stands_at};
 pub use long_report::{check_faults, check_long, long_text};
 pub use reporting::{Report, report_on};
 pub use shown::{put_bytes, put_shown};
+pub use walk::{Walk, line_of};
+pub use words::name_text;

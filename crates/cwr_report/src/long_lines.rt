@@ -57,7 +57,8 @@ fn put_broken<A: Allocator>(out: &mut Vec<u8, A>, number: u8) -> Result<(), Memo
     Ok(())
 }
 
-pub(crate) fn message_of(number: u8) -> &'static [u8]
+/// The text of the rule J with this number, as in a MSG record; no text if there is no such rule.
+pub fn message_of(number: u8) -> &'static [u8]
     ensures { result.now ≡ message_of number }
 {
     if 1 <= number && number <= 15 {
@@ -103,8 +104,8 @@ fn put_spot<A: Allocator>(
     Ok(())
 }
 
-/// The bytes that a line has in a column.
-pub(crate) fn stands_at(line: &[u8], column: Column) -> &[u8]
+/// The bytes that a line has in a column; fewer if the line ends before the column does.
+pub fn stands_at(line: &[u8], column: Column) -> &[u8]
     ensures { result.now ≡ stands_at line.now column }
 {
     let rest = line.get(column.start.saturating_sub(1)..).unwrap_or(&[]);
@@ -113,7 +114,7 @@ pub(crate) fn stands_at(line: &[u8], column: Column) -> &[u8]
 
 /// Appends what the rule with this number required. `shows` says whether bytes of the file are escaped or stand as they
 /// are.
-pub(crate) fn put_wanted<A: Allocator>(
+pub fn put_wanted<A: Allocator>(
     out: &mut Vec<u8, A>,
     number: u8,
     expected: &Expected,

@@ -7,7 +7,7 @@ use cwr_grammar::Lines;
 
 /// A walk over lines, from the first on.
 #[derive(Drop)]
-pub(crate) struct Walk<'a> {
+pub struct Walk<'a> {
     /// The line that it has gone to, if there is one.
     line: Option<&'a [u8]>,
     /// The lines after that one.
@@ -21,8 +21,8 @@ pub(crate) struct Walk<'a> {
 }
 
 impl<'a> Walk<'a> {
-    /// At the first line.
-    pub(crate) fn new(lines: Lines<'a>, keeps: bool) -> Walk<'a>
+    /// At the first line. `keeps` says whether it keeps what the lines say.
+    pub fn new(lines: Lines<'a>, keeps: bool) -> Walk<'a>
         ensures walk { IsWalk result lines.entry 0 }
         ensures keeps { result.keeps ≡ keeps }
     {
@@ -39,7 +39,7 @@ impl<'a> Walk<'a> {
 
     /// Goes to the line at an index, counted from 0, among all the lines, and returns it; no bytes if there is none. It
     /// starts over if the line was consumed before.
-    pub(crate) fn go_to(&mut self, all: Lines<'a>, index: u64) -> &'a [u8]
+    pub fn go_to(&mut self, all: Lines<'a>, index: u64) -> &'a [u8]
         requires { IsWalk self.old all self.old.passed }
         ensures walk { IsWalk self.new all.entry index }
         ensures keeps { self.new.keeps ≡ self.old.keeps }
@@ -94,7 +94,7 @@ impl<'a> Walk<'a> {
 }
 
 /// The line of a file with this number, counted from 1; no bytes if there is none.
-pub(crate) fn line_of(bytes: &[u8], number: u64) -> &[u8]
+pub fn line_of(bytes: &[u8], number: u64) -> &[u8]
     ensures { result.now ≡ line_at (lines bytes.now) (number - 1) }
 {
     let mut walk = Walk::new(Lines::of(bytes), false);

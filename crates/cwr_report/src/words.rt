@@ -4,7 +4,7 @@ ghost use Rattle.cwr_report.specs.LongText.{name_text, followers_text, rule_text
 use crate::finding::FieldName;
 
 /// What a field is called.
-pub(crate) fn name_text(name: FieldName) -> &'static [u8]
+pub fn name_text(name: FieldName) -> &'static [u8]
     ensures { result.now ≡ name_text name }
 {
     match name {

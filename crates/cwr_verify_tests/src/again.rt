@@ -68,6 +68,11 @@ fn expect_nights(
 fn expect_between(alloc: Global) -> Result<(), Fail> {
     let rivals = rival_claims(alloc)?;
     let book = between(alloc, &rivals[1])?;
+    expect_three_between(alloc, &book)
+}
+
+/// What the three works get from the book of these entries.
+fn expect_three_between(alloc: Global, book: &Book) -> Result<(), Fail> {
     let works = three_works(alloc)?;
     let wanted = acknowledgement(
         alloc,
@@ -77,9 +82,9 @@ fn expect_between(alloc: Global) -> Result<(), Fail> {
             decision(2, "NWR", "W3", "00000004", "AS", &[]),
         ],
     )?;
-    expect_again(alloc, &book, &works, None, &wanted)?;
-    expect_again(alloc, &book, &works, Some(1), &wanted)?;
-    expect_none(alloc, &book, &works, Some(4), missing(1))
+    expect_again(alloc, book, &works, None, &wanted)?;
+    expect_again(alloc, book, &works, Some(1), &wanted)?;
+    expect_none(alloc, book, &works, Some(4), missing(1))
 }
 
 /// The book of these entries.
@@ -102,15 +107,30 @@ fn work_one(alloc: Global, book: Book, number: &str) -> Result<Book, Fail> {
 fn expect_cut_night(alloc: Global) -> Result<(), Fail> {
     let works = three_works(alloc)?;
     let mut answers = Vec::new(alloc);
+    let book = cut_night(alloc, &works, &mut answers)?;
+    expect_whole_night(alloc, &book, &works, &answers)
+}
+
+/// The book of these nights, of which `answers` gets the acknowledgement of the complete one.
+fn cut_night(alloc: Global, works: &[u8], answers: &mut Vec<Vec<u8>>) -> Result<Book, Fail> {
     let book = work_one(alloc, Book::new(alloc, 20), "W1")?;
-    let book = work(alloc, book, &works, &mut answers)?;
+    let book = work(alloc, book, works, answers)?;
     let book = work_one(alloc, book, "W1")?;
-    let book = work_one(alloc, book, "W2")?.reopened();
+    Ok(work_one(alloc, book, "W2")?.reopened())
+}
+
+/// What the three works get from it.
+fn expect_whole_night(
+    alloc: Global,
+    book: &Book,
+    works: &[u8],
+    answers: &[Vec<u8>],
+) -> Result<(), Fail> {
     let Some(whole) = answers.first() else {
         return Err(Fail::from("an answer"));
     };
-    expect_again(alloc, &book, &works, None, whole)?;
-    expect_none(alloc, &book, &works, Some(5), missing(2))
+    expect_again(alloc, book, works, None, whole)?;
+    expect_none(alloc, book, works, Some(5), missing(2))
 }
 
 #[test]
@@ -152,11 +172,15 @@ fn tells_the_first_transaction_without_an_entry(rt: HostRuntime) -> Result<(), F
 fn expect_empty(alloc: Global) -> Result<(), Fail> {
     let empty = file_of_lines(alloc, &["TRL000000000000000000002"])?;
     let wanted = acknowledgement(alloc, &[])?;
-    let one = one_of_three(alloc, "W1")?;
-    let book = work(alloc, Book::new(alloc, 10), &one, &mut Vec::new(alloc))?;
-    expect_again(alloc, &Book::new(alloc, 10), &empty, None, &wanted)?;
-    expect_again(alloc, &book, &empty, None, &wanted)?;
-    expect_none(alloc, &book, &empty, Some(1), NoAnswer::OtherEntry)
+    expect_empty_at(alloc, &Book::new(alloc, 10), &empty, &wanted)?;
+    let book = work_one(alloc, Book::new(alloc, 10), "W1")?;
+    expect_empty_at(alloc, &book, &empty, &wanted)
+}
+
+/// The same at a book.
+fn expect_empty_at(alloc: Global, book: &Book, empty: &[u8], wanted: &[u8]) -> Result<(), Fail> {
+    expect_again(alloc, book, empty, None, wanted)?;
+    expect_none(alloc, book, empty, Some(1), NoAnswer::OtherEntry)
 }
 
 #[test]
@@ -194,20 +218,43 @@ fn expect_cut(alloc: Global) -> Result<(), Fail> {
     let file = plain_file(alloc)?;
     let mut answers = Vec::new(alloc);
     let book = work(alloc, Book::new(alloc, 10), &file, &mut answers)?;
+    expect_each_cut(alloc, &book, &file, &answers)
+}
+
+/// The same of each of some numbers.
+fn expect_each_cut(
+    alloc: Global,
+    book: &Book,
+    file: &[u8],
+    answers: &[Vec<u8>],
+) -> Result<(), Fail> {
     let Some(whole) = answers.first() else {
         return Err(Fail::from("an answer"));
     };
     for size in [0, 1, 168, 169, whole.len().saturating_sub(1)] {
-        let (told, written) = answered_again(alloc, &book, &file, None, size)?;
-        same("why", &told, &Err(NoAnswer::Write { sent: size as u64 }))?;
-        same("within", &(size < whole.len()), &true)?;
-        if size < whole.len() {
-            same_bytes("what was written", &written, &whole[..size])?;
-        }
+        expect_front(alloc, book, file, whole, size)?;
     }
-    let (told, written) = answered_again(alloc, &book, &file, None, whole.len())?;
+    let (told, written) = answered_again(alloc, book, file, None, whole.len())?;
     same("with room", &told, &Ok(()))?;
     same_bytes("with room", &written, whole)
+}
+
+/// A writer that takes `size` bytes, fewer than `whole` has, gets the first of them. `alloc` allocates, `book` has the
+/// entries, and `whole` is the acknowledgement of `file`.
+fn expect_front(
+    alloc: Global,
+    book: &Book,
+    file: &[u8],
+    whole: &[u8],
+    size: usize,
+) -> Result<(), Fail> {
+    let (told, written) = answered_again(alloc, book, file, None, size)?;
+    same("why", &told, &Err(NoAnswer::Write { sent: size as u64 }))?;
+    same("within", &(size < whole.len()), &true)?;
+    if size < whole.len() {
+        same_bytes("what was written", &written, &whole[..size])?;
+    }
+    Ok(())
 }
 
 #[test]

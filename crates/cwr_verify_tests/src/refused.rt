@@ -35,16 +35,23 @@ fn worked<'m>(
     }
 }
 
-impl Sweep for Again<'_> {
-    fn ends(&self, memory: &FailingAlloc) -> Ended {
-        let Some(book) = worked(memory, self.alloc, self.file)? else {
-            return Ok(true);
-        };
+impl Again<'_> {
+    /// How the acknowledgement ends at the book in which the file was worked.
+    fn ends_at<'m>(&self, memory: &'m FailingAlloc, book: &Book<&'m FailingAlloc>) -> Ended {
         let mut room = Room::new(self.alloc, self.wanted.len(), true)?;
-        match answer(memory, &book, self.file, &stamp()?, None, &mut room) {
+        match answer(memory, book, self.file, &stamp()?, None, &mut room) {
             Ok(()) => answered(same_bytes("the acknowledgement", room.bytes(), self.wanted)),
             Err(NoAnswer::Memory) => refused(same_bytes("what was written", room.bytes(), b"")),
             Err(_) => Err(Fail::new("another end")),
+        }
+    }
+}
+
+impl Sweep for Again<'_> {
+    fn ends(&self, memory: &FailingAlloc) -> Ended {
+        match worked(memory, self.alloc, self.file)? {
+            Some(book) => self.ends_at(memory, &book),
+            None => Ok(true),
         }
     }
 }

@@ -1,6 +1,6 @@
 //! Files that a register does not answer.
 
-use crate::runs::{verified, work};
+use crate::runs::{verified, work, work_three};
 use cwr_verify::VerifyError;
 use std::alloc::Global;
 use std::test::Fail;
@@ -26,26 +26,32 @@ fn damaged(alloc: Global, text: &[u8], from_end: usize) -> Result<Vec<u8>, Fail>
 /// What is reported of files that do not fit a register of two rival claims and three works.
 fn expect_told(alloc: Global) -> Result<(), Fail> {
     let rivals = rival_claims(alloc)?;
-    let first = rivals[0].as_slice();
-    let second = rivals[1].as_slice();
     let works = three_works(alloc)?;
+    let files = [rivals[0].as_slice(), rivals[1].as_slice(), &works];
     let mut answers = Vec::new(alloc);
-    let book = work(alloc, Book::new(alloc, 10), first, &mut answers)?;
-    let book = work(alloc, book, second, &mut answers)?;
-    let book = work(alloc, book, &works, &mut answers)?;
-    let book = book.reopened();
+    let book = work_three(alloc, files, &mut answers)?.reopened();
+    expect_unfit(alloc, &book, files, &answers)
+}
+
+/// The same, with the acknowledgements of these files.
+fn expect_unfit<'a>(
+    alloc: Global,
+    book: &Book,
+    files: [&'a [u8]; 3],
+    answers: &'a [Vec<u8>],
+) -> Result<(), Fail> {
     if answers.len() != 3 {
         return Err(Fail::from("three answers"));
     }
     let trailer = damaged(alloc, &answers[2], 3)?;
     let refused = miscounted(alloc)?;
-    let files = [first, second, works.as_slice(), refused.as_slice()];
+    let files = [files[0], files[1], files[2], refused.as_slice()];
     let told = [
         answers[0].as_slice(),
         answers[2].as_slice(),
         trailer.as_slice(),
     ];
-    expect_each(alloc, &book, files, told)
+    expect_each(alloc, book, files, told)
 }
 
 /// The first file fits, and another does not.
@@ -106,16 +112,27 @@ fn tells_what_does_not_fit(rt: HostRuntime) -> Result<(), Fail> {
 /// What is reported of a file with a fault, and blanks behind it up to `size` bytes.
 fn expect_padded(alloc: Global, size: usize, why: VerifyError) -> Result<(), Fail> {
     let rivals = rival_claims(alloc)?;
-    let first = rivals[0].as_slice();
     let mut answers = Vec::new(alloc);
-    let book = work(alloc, Book::new(alloc, 10), first, &mut answers)?.reopened();
-    if answers.is_empty() {
+    let book = work(alloc, Book::new(alloc, 10), &rivals[0], &mut answers)?.reopened();
+    expect_padded_at(alloc, &book, &rivals[0], &answers, size, why)
+}
+
+/// The same at the `book` of the `first` file. `alloc` allocates, and `answers` has the acknowledgement of that file.
+/// `size` is the number of bytes, and `why` is what is reported.
+fn expect_padded_at(
+    alloc: Global,
+    book: &Book,
+    first: &[u8],
+    answers: &[Vec<u8>],
+    size: usize,
+    why: VerifyError,
+) -> Result<(), Fail> {
+    let Some(answer) = answers.first() else {
         return Err(Fail::from("an answer"));
-    }
+    };
     let mut refused = miscounted(alloc)?;
     refused.resize(size, b' ')?;
-    let acknowledgements = [answers[0].as_slice(), answers[0].as_slice()];
-    let told = verified(alloc, &book, [first, &refused], acknowledgements).err();
+    let told = verified(alloc, book, [first, &refused], [answer, answer]).err();
     same("why", &told, &Some(why))
 }
 

@@ -15,6 +15,8 @@ mod files;
 #[cfg(test)]
 mod json_texts;
 #[cfg(test)]
+mod pages;
+#[cfg(test)]
 mod reports;
 #[cfg(test)]
 mod rooms;

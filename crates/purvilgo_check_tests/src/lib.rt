@@ -15,6 +15,8 @@ mod long_faults;
 #[cfg(test)]
 mod printed_forms;
 #[cfg(test)]
+mod printed_pages;
+#[cfg(test)]
 mod printed_tables;
 #[cfg(test)]
 mod remarks;

@@ -51,6 +51,7 @@ const SUMMARY: &str =
 \"left\":{\"mechanical\":{\"all\":0,\"more_than_half\":0,\"none\":0,\"up_to_half\":1,\"up_to_quarter\":0},\
 \"performing\":{\"all\":0,\"more_than_half\":0,\"none\":0,\"up_to_half\":1,\"up_to_quarter\":0},\
 \"synchronization\":{\"all\":0,\"more_than_half\":0,\"none\":0,\"up_to_half\":1,\"up_to_quarter\":0}},\
+\"most_entries\":[{\"entries\":2,\"submitter\":\"PB000000456\"},{\"entries\":1,\"submitter\":\"PB000000123\"}],\
 \"rejected\":1,\"submitters\":2,\"works\":1}\n";
 
 #[test]

@@ -18,8 +18,8 @@ pub(crate) enum Argument {
     NeededValue(&'static str, &'static str, &'static str),
     /// An option without a value.
     Flag(&'static str, &'static str),
-    /// Such an option that excludes another one, whose name stands before its help.
-    FlagAgainst(&'static str, &'static str, &'static str),
+    /// Such an option that excludes others, whose names stand before its help.
+    FlagAgainst(&'static str, &'static [&'static str], &'static str),
     /// `--verbose`, as each command takes it.
     Verbose,
 }
@@ -69,7 +69,7 @@ fn argument_of<'a>(alloc: Global, argument: Argument) -> Result<Arg<'a>, AllocEr
         Argument::Value(name, value, help) => Ok(option(alloc, name, value, help)),
         Argument::NeededValue(name, value, help) => Ok(needed_option(alloc, name, value, help)),
         Argument::Flag(name, help) => Ok(flag(alloc, name, help)),
-        Argument::FlagAgainst(name, other, help) => flag(alloc, name, help).conflicts_with(other),
+        Argument::FlagAgainst(name, others, help) => flag_against(alloc, name, others, help),
         Argument::Verbose => Ok(verbose_flag(alloc)),
     }
 }
@@ -109,6 +109,20 @@ fn flag<'a>(alloc: Global, name: &'a str, help: &'a str) -> Arg<'a> {
         .long(name)
         .action(ArgAction::SetTrue)
         .help(help)
+}
+
+/// An option without a value that excludes others.
+fn flag_against<'a>(
+    alloc: Global,
+    name: &'a str,
+    others: &'a [&'a str],
+    help: &'a str,
+) -> Result<Arg<'a>, AllocError> {
+    let mut against = flag(alloc, name, help);
+    for other in others {
+        against = against.conflicts_with(other)?;
+    }
+    Ok(against)
 }
 
 fn verbose_flag<'a>(alloc: Global) -> Arg<'a> {

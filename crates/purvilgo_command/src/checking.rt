@@ -1,6 +1,7 @@
 //! What the rules say of a file, before it is sent.
 
 use crate::arguments::{Argument, CommandWords};
+use crate::check_pages::check_as_page;
 use crate::files::{Reading, bytes_of, read_named};
 use crate::help::CHECK_HELP;
 use crate::printing::StandardOutput;
@@ -19,7 +20,8 @@ use std::alloc::Global;
 use std::process::ExitCode;
 use std::rt::Files;
 
-/// `check [--long | --json] [--quiet] [--verbose] FILE..`, where `--quiet` is not taken with `--json`.
+/// `check [--long | --json | --html] [--quiet] [--verbose] FILE..`, where `--quiet` is not taken with `--json` or
+/// `--html`, and `--html` goes with one FILE alone.
 pub(crate) const CHECK: CommandWords = CommandWords {
     name: "check",
     about: "Prints which rules a CWR 2.2 file breaks, before it is sent; nothing is registered",
@@ -31,12 +33,17 @@ pub(crate) const CHECK: CommandWords = CommandWords {
         ),
         Argument::FlagAgainst(
             "json",
-            "long",
+            &["long"],
             "print the same as one JSON object, on one line",
         ),
         Argument::FlagAgainst(
+            "html",
+            &["long", "json"],
+            "print one page for a browser, with each fault marked in its line",
+        ),
+        Argument::FlagAgainst(
             "quiet",
-            "json",
+            &["json", "html"],
             "print faults alone, and nothing for a file without",
         ),
         Argument::Verbose,
@@ -89,11 +96,15 @@ pub(crate) fn check_files<R: AllocGlobal + Input + Print + Eprint + Files>(
     if names.is_empty() {
         return bad_words(rt, "the command line is not taken");
     }
+    let verbose = given.get_flag("verbose");
+    if given.get_flag("html") {
+        return check_as_page(rt, names, verbose);
+    }
     let manner = Manner {
         form: form_of(given),
         quiet: given.get_flag("quiet"),
         named: names.len() > 1,
-        verbose: given.get_flag("verbose"),
+        verbose,
     };
     status_of(are_clean(rt, names, manner))
 }

@@ -10,7 +10,7 @@ use std::rt::Files;
 use std::{fs, io};
 
 /// The name of standard input.
-const STANDARD_INPUT: &str = "-";
+pub(crate) const STANDARD_INPUT: &str = "-";
 
 /// What is done with a file, or with standard input, as it is read.
 pub(crate) trait Reading {

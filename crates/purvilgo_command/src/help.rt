@@ -38,17 +38,20 @@ pub(crate) const CHECK_HELP: &str = "\
 Reads: each FILE, one after another; standard input where FILE is -.
 Writes: on standard output a line for each transaction, or the file's first fault. With
 --long some lines for each fault, and none for a transaction without; with --json one
-object a file. Of several files each line begins with the file's name, or its object has
-the member file; one that cannot be read stops no other.
-Remarks: --long and --json print them too. They are no faults, and leave the status as it
-is: a file that begins with a byte order mark, is UTF-16 or gzip, or has a second one
+object a file; with --html one page of HTML. Of several files each line begins with the
+file's name, or its object has the member file; one that cannot be read stops no other.
+Page: of one FILE alone. Each fault stands in its line, with its fields marked. Open it in a
+browser; it loads nothing and runs no script. Programs read --json.
+Remarks: --long, --json and --html print them too. They are no faults, and leave the status
+as it is: a file that begins with a byte order mark, is UTF-16 or gzip, or has a second one
 behind it; a CWR version that is not 2.2, another sender type; bytes above 126, a line
 past its layout, a record type that CWR 2.2 does not have, territories that are only
 excluded.
 Status: 0 no fault in any FILE; 2 the arguments are not taken, or help; 1 else.
 
 Example:
-  purvilgo check --long in/a.v22";
+  purvilgo check --long in/a.v22
+  purvilgo check --html in/a.v22 > a.html";
 
 /// Of `audit`.
 pub(crate) const AUDIT_HELP: &str = "\
@@ -135,11 +138,15 @@ Left: what the claims on a work leave of 100 per cent: none, up to 25, up to 50,
 that, and all.
 Conflicts: the most first, and of as many the lower number of the work first. A work
 without any is not printed.
-JSON: the same as one object, and the first fault as that of audit --json.
+JSON: the same as one object, with the ten submitters with the most entries too, and the
+first fault as that of audit --json.
+Page: with --html what --json has as one page of HTML, with bars in its tables. Open it in
+a browser; it loads nothing and runs no script. The first fault is printed as text.
 Status: 0 printed; 2 the arguments are not taken, or help; 1 else.
 
 Example:
-  purvilgo summary 0042.register";
+  purvilgo summary 0042.register
+  purvilgo summary --html 0042.register > 0042.html";
 
 /// Of `verify`.
 pub(crate) const VERIFY_HELP: &str = "\

@@ -4,6 +4,7 @@
 
 mod answered_file;
 mod arguments;
+mod check_pages;
 mod checking;
 mod command_line;
 mod explain;

@@ -39,7 +39,7 @@ pub(crate) const RUN: CommandWords = CommandWords {
         ),
         Argument::FlagAgainst(
             "in-turn",
-            "in-order",
+            &["in-order"],
             "the same on one thread, one file after another",
         ),
         Argument::Flag(

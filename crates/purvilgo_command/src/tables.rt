@@ -1,12 +1,14 @@
 //! A register as tables, and its summary.
 
 use crate::arguments::{Argument, CommandWords};
+use crate::check_pages::name_shown;
 use crate::help::{CLAIMS_HELP, HISTORY_HELP, SUMMARY_HELP, WORKS_HELP};
 use crate::printing::StandardOutput;
 use crate::registers::{REGISTER, audited_book};
 use crate::status::{bad_words, no_memory};
 use crate::wanted_rows::wanted_in;
 use clap::ArgMatches;
+use html_pages::{PageError, summary_page};
 use register_tables::{
     Form, TableError, Wanted, WrittenTable, claims_table, history_json, history_table,
     summary_json, summary_text, works_table,
@@ -55,7 +57,7 @@ pub(crate) const HISTORY: CommandWords = CommandWords {
         PLAIN,
         Argument::FlagAgainst(
             "json",
-            "plain",
+            &["plain"],
             "print each entry as a JSON object, on a line of its own",
         ),
         Argument::Verbose,
@@ -63,13 +65,18 @@ pub(crate) const HISTORY: CommandWords = CommandWords {
     more: HISTORY_HELP,
 };
 
-/// `summary [--json] [--verbose] REGISTER`.
+/// `summary [--json | --html] [--verbose] REGISTER`.
 pub(crate) const SUMMARY: CommandWords = CommandWords {
     name: "summary",
     about: "Prints how much of what is in a register, as a page to read",
     arguments: &[
         REGISTER,
         Argument::Flag("json", "print the same as one JSON object, on one line"),
+        Argument::FlagAgainst(
+            "html",
+            &["json"],
+            "print one page for a browser, with bars in its tables",
+        ),
         Argument::Verbose,
     ],
     more: SUMMARY_HELP,
@@ -150,12 +157,33 @@ pub(crate) fn print_summary<R: AllocGlobal + Input + Print + Eprint + Files>(
     path: &str,
     given: &ArgMatches,
 ) -> ExitCode {
+    let verbose = given.get_flag("verbose");
+    if given.get_flag("html") {
+        return print_summary_page(rt, path, verbose);
+    }
     let wish = if given.get_flag("json") {
         Wish::SummaryObject
     } else {
         Wish::Summary
     };
-    print_register(rt, path, given.get_flag("verbose"), wish)
+    print_register(rt, path, verbose, wish)
+}
+
+/// Reads a register, and prints the page of its summary.
+fn print_summary_page<R: AllocGlobal + Input + Print + Eprint + Files>(
+    rt: &R,
+    path: &str,
+    verbose: bool,
+) -> ExitCode {
+    let book = match audited_book(rt, path, verbose, false) {
+        Ok(book) => book,
+        Err(status) => return status,
+    };
+    match summary_page(rt.alloc(), StandardOutput::of(rt), name_shown(path), &book) {
+        Ok(_) => ExitCode::SUCCESS,
+        Err(PageError::Memory) => no_memory(rt),
+        Err(PageError::Write) => ExitCode::FAILURE,
+    }
 }
 
 /// Reads a register, and prints what `wish` names of it.

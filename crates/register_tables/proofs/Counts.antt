@@ -17,7 +17,7 @@ use Rattle.register_tables.specs.declared.tally.Tally.{Tally}
 use Rattle.register_tables.specs.declared.shares.Bands.{Bands}
 use Rattle.register_tables.specs.declared.conflicts.Conflicted.{Conflicted}
 use Rattle.register_tables.specs.Counting.{banded, conflict_noted, counted, is_first, tallied, tallied_all, AreCounted}
-use Rattle.register_tables.specs.Summary.{bands_of, count, different, has_conflicts, is_ahead, is_all, is_answered, is_conflict_on, is_half, is_more, is_none, is_quarter, placed, ranked, tally_of}
+use Rattle.register_tables.specs.Summary.{bands_of, conflicts_ahead, count, different, has_conflicts, is_all, is_answered, is_conflict_on, is_half, is_more, is_none, is_quarter, placed, ranked, tally_of}
 use Rattle.register_tables.proofs.Firsts.{as_many_in_all}
 use Rattle.cwr_record.specs.declared.status.Status.TheVariants as status
 
@@ -179,32 +179,33 @@ take_of_more zero xs = refl
 take_of_more (suc n) [] = refl
 take_of_more {X} (suc n) (x ∷ xs) = ap (λ (ys : List X). x ∷ ys) (take_of_more n xs)
 
-first_of : (n : ℕ) (d : Conflicted) (ds : List Conflicted) → take n (d ∷ take n ds) ≡ take n (d ∷ ds)
-first_of zero d ds = refl
-first_of (suc n) d ds = ap (λ (es : List Conflicted). d ∷ es) (take_of_more n ds)
+first_of : {X : Type 0} (n : ℕ) (y : X) (ys : List X) → take n (y ∷ take n ys) ≡ take n (y ∷ ys)
+first_of zero y ys = refl
+first_of {X} (suc n) y ys = ap (λ (zs : List X). y ∷ zs) (take_of_more n ys)
 
 -- the first ones of a list in which one more is placed depend on the first ones alone
-pub placed_among : (n : ℕ) (c : Conflicted) (cs : List Conflicted) → take n (placed c (take n cs)) ≡ take n (placed c cs)
-placed_among zero c cs = refl
-placed_among (suc n) c [] = refl
-placed_among (suc n) c (d ∷ ds) = by (placed_among n c ds) (is_ahead c d)
+pub placed_among : {X : Type 0} (ahead : X → X → Bool) (n : ℕ) (x : X) (xs : List X) → take n (placed ahead x (take n xs)) ≡ take n (placed ahead x xs)
+placed_among ahead zero x xs = refl
+placed_among ahead (suc n) x [] = refl
+placed_among {X} ahead (suc n) x (y ∷ ys) = by (placed_among ahead n x ys) (ahead x y)
   where
-    by : take n (placed c (take n ds)) ≡ take n (placed c ds) → (b : Bool)
-        → take (suc n) (if b then c ∷ d ∷ take n ds else d ∷ placed c (take n ds)) ≡ take (suc n) (if b then c ∷ d ∷ ds else d ∷ placed c ds)
-    by rest true = ap (λ (es : List Conflicted). c ∷ es) (first_of n d ds)
-    by rest false = ap (λ (es : List Conflicted). d ∷ es) rest
+    by : take n (placed ahead x (take n ys)) ≡ take n (placed ahead x ys) → (b : Bool)
+        → take (suc n) (if b then x ∷ y ∷ take n ys else y ∷ placed ahead x (take n ys)) ≡ take (suc n) (if b then x ∷ y ∷ ys else y ∷ placed ahead x ys)
+    by rest true = ap (λ (zs : List X). x ∷ zs) (first_of n y ys)
+    by rest false = ap (λ (zs : List X). y ∷ zs) rest
 
-largest_more : (c : Conflicted) (cs tops : List Conflicted) → tops ≡ take 10 (ranked (filter has_conflicts cs))
-    → (if has_conflicts c then take 10 (placed c tops) else tops) ≡ take 10 (ranked (filter has_conflicts (c ∷ cs)))
+largest_more : (c : Conflicted) (cs tops : List Conflicted) → tops ≡ take 10 (ranked conflicts_ahead (filter has_conflicts cs))
+    → (if has_conflicts c then take 10 (placed conflicts_ahead c tops) else tops) ≡ take 10 (ranked conflicts_ahead (filter has_conflicts (c ∷ cs)))
 largest_more c cs tops so_far = by (has_conflicts c)
   where
-    by : (b : Bool) → (if b then take 10 (placed c tops) else tops) ≡ take 10 (ranked (if b then c ∷ filter has_conflicts cs else filter has_conflicts cs))
-    by true = rw so_far (placed_among 10 c (ranked (filter has_conflicts cs)))
+    by : (b : Bool) → (if b then take 10 (placed conflicts_ahead c tops) else tops)
+        ≡ take 10 (ranked conflicts_ahead (if b then c ∷ filter has_conflicts cs else filter has_conflicts cs))
+    by true = rw so_far (placed_among conflicts_ahead 10 c (ranked conflicts_ahead (filter has_conflicts cs)))
     by false = so_far
 
 pub largest_step : (f : ℕ → Conflicted) (i n : ℕ) (c : Conflicted) (tops : List Conflicted) → 0 < i → i ≤ n → c ≡ f (i - 1 + 1)
-    → tops ≡ take 10 (ranked (filter has_conflicts (map f (range_with_len (i + 1) (n - i)))))
-    → (if has_conflicts c then take 10 (placed c tops) else tops) ≡ take 10 (ranked (filter has_conflicts (map f (range_with_len (i - 1 + 1) (n - (i - 1))))))
+    → tops ≡ take 10 (ranked conflicts_ahead (filter has_conflicts (map f (range_with_len (i + 1) (n - i)))))
+    → (if has_conflicts c then take 10 (placed conflicts_ahead c tops) else tops) ≡ take 10 (ranked conflicts_ahead (filter has_conflicts (map f (range_with_len (i - 1 + 1) (n - (i - 1))))))
 largest_step f i n c tops some within is so_far =
     rw (range_before i n some within, is) (largest_more (f (i - 1 + 1)) (map f (range_with_len (i + 1) (n - i))) tops so_far)
 

@@ -5,4 +5,7 @@ pub mod Entries
 pub mod Firsts
 pub mod WorkRows
 pub mod Counts
+pub mod Noted
 pub mod JsonObjects
+pub mod Pieces
+pub mod Places

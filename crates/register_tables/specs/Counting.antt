@@ -1,5 +1,6 @@
 -- What the code counts, one more at a time. A count stays at its greatest value, 2 ^ 64 - 1.
-use Rattle.std.specs.Prelude.{◌≡◌, ℕ, ◌+◌, ◌-◌, ◌^◌, ◌<◌, ◌==◌, Bool, true, false, List, if◌then◌else◌, Some, length, min, nat_le, nat_lt, ◌&&◌, slice_index_or, slice_set}
+use Rattle.std.specs.Prelude.{◌≡◌, ℕ, ◌+◌, ◌-◌, ◌^◌, ◌<◌, ◌==◌, Bool, true, false, List, [], ◌∷◌, if◌then◌else◌, Some, length, min, nat_le, nat_lt, ◌&&◌, slice_index_or, slice_set}
+use Rattle.std.specs.Str.{bytes_eq}
 use Rattle.cwr_record.specs.declared.status.Status.{Status}
 use Rattle.cwr_record.specs.declared.status.Status.TheVariants as status
 use Rattle.work_registry.specs.declared.reply.Reply.{Reply}
@@ -7,6 +8,7 @@ use Rattle.work_registry.specs.declared.reply.Reply.TheVariants.{Accepted, Dupli
 use Rattle.work_registry.specs.EntryValue.{EntryValue}
 use Rattle.register_tables.specs.declared.tally.Tally.{Tally}
 use Rattle.register_tables.specs.declared.shares.Bands.{Bands}
+use Rattle.register_tables.specs.declared.submitters.SubmitterEntries.{SubmitterEntries}
 use Rattle.register_tables.specs.Wanted.{fits_status}
 use Rattle.register_tables.specs.Summary.{count, is_all, is_answered, is_conflict_on, is_half, is_more, is_none, is_quarter}
 
@@ -63,3 +65,14 @@ conflict_noted counts Rejected = counts
 pub record AreCounted (works : ℕ) (entries : List EntryValue) (counts : List ℕ) : Type 0 where
   pub size : length counts ≡ works
   pub each : (w d : ℕ) → w < length counts → slice_index_or counts w d ≡ count (λ e. is_conflict_on (w + 1) e.reply) entries
+
+-- the entries of each submitter, with one entry more of this one, which is put last where it is new
+abbrev pub submitter_noted : List SubmitterEntries → List ℕ → List SubmitterEntries
+submitter_noted [] submitter = record { submitter = submitter; entries = 1 } ∷ []
+submitter_noted (c ∷ cs) submitter =
+    if bytes_eq submitter c.submitter then record { submitter = c.submitter; entries = counted c.entries true } ∷ cs else c ∷ submitter_noted cs submitter
+
+-- the entries of each submitter, noted one by one from the end
+abbrev pub submitters_noted : List EntryValue → List SubmitterEntries
+submitters_noted [] = []
+submitters_noted (e ∷ es) = submitter_noted (submitters_noted es) e.call.submitter

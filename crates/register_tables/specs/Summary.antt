@@ -2,6 +2,8 @@
 use Rattle.std.specs.Prelude.{ℕ, ◌-◌, ◌==◌, ◌&&◌, Bool, false, List, [], ◌∷◌, ◌++◌, Some, codes, filter, if◌then◌else◌, length, map, nat_le, nat_lt, slice_index, take}
 use Rattle.std.specs.List.{flat_map, list_any, range_with_len}
 use Rattle.std.specs.Fmt.{decimal}
+use Rattle.std.specs.Cmp.Lexicographic.{slice_cmp}
+use Rattle.std.specs.Ordering.{is_lt, nat_cmp}
 use Rattle.std.specs.Str.{bytes_eq}
 use Rattle.cwr_record.specs.declared.status.Status.{Status}
 use Rattle.cwr_record.specs.declared.status.Status.TheVariants as status
@@ -14,6 +16,7 @@ use Rattle.work_registry.specs.ReplyParts.{status_in}
 use Rattle.register_tables.specs.declared.tally.Tally.{Tally}
 use Rattle.register_tables.specs.declared.shares.Bands.{Bands}
 use Rattle.register_tables.specs.declared.conflicts.Conflicted.{Conflicted}
+use Rattle.register_tables.specs.declared.submitters.SubmitterEntries.{SubmitterEntries}
 use Rattle.register_tables.specs.Wanted.{fits_status}
 use Rattle.register_tables.specs.ClaimsTable.{is_current}
 use Rattle.register_tables.specs.WorksTable.{last_work}
@@ -21,6 +24,16 @@ use Rattle.register_tables.specs.WorksTable.{last_work}
 -- the number of elements that pass the test
 abbrev pub count : {X : Type 0} → (X → Bool) → List X → ℕ
 count test xs = length (filter test xs)
+
+-- the list with one more, which stands before the first that it is ahead of
+abbrev pub placed : {X : Type 0} → (X → X → Bool) → X → List X → List X
+placed is_ahead x [] = x ∷ []
+placed is_ahead x (y ∷ ys) = if is_ahead x y then x ∷ y ∷ ys else y ∷ placed is_ahead x ys
+
+-- the elements in order: one that is ahead of another stands before it
+abbrev pub ranked : {X : Type 0} → (X → X → Bool) → List X → List X
+ranked is_ahead [] = []
+ranked is_ahead (x ∷ xs) = placed is_ahead x (ranked is_ahead xs)
 
 -- Entries.
 
@@ -105,22 +118,26 @@ abbrev pub has_conflicts : Conflicted → Bool
 has_conflicts c = nat_lt 0 c.conflicts
 
 -- one work comes before another: it has more conflicts, or as many and the lower number
-abbrev pub is_ahead : Conflicted → Conflicted → Bool
-is_ahead c d = if c.conflicts == d.conflicts then nat_lt c.work d.work else nat_lt d.conflicts c.conflicts
-
--- the list with one work more, which stands before the first that it comes before
-abbrev pub placed : Conflicted → List Conflicted → List Conflicted
-placed c [] = c ∷ []
-placed c (d ∷ ds) = if is_ahead c d then c ∷ d ∷ ds else d ∷ placed c ds
-
--- the works in order: more conflicts first, and of as many the lower number first
-abbrev pub ranked : List Conflicted → List Conflicted
-ranked [] = []
-ranked (c ∷ cs) = placed c (ranked cs)
+abbrev pub conflicts_ahead : Conflicted → Conflicted → Bool
+conflicts_ahead c d = if c.conflicts == d.conflicts then nat_lt c.work d.work else nat_lt d.conflicts c.conflicts
 
 -- the ten works with the most conflicts, in order; fewer where fewer works have conflicts
 abbrev pub largest : List EntryValue → List Conflicted
-largest history = take 10 (ranked (filter has_conflicts (map (conflicted history) (works (rows_of history)))))
+largest history = take 10 (ranked conflicts_ahead (filter has_conflicts (map (conflicted history) (works (rows_of history)))))
+
+-- Submitters.
+
+-- a submitter, with the number of these entries that are its
+abbrev pub entries_of : List EntryValue → List ℕ → SubmitterEntries
+entries_of entries submitter = record { submitter = submitter; entries = count (λ e. bytes_eq submitter e.call.submitter) entries }
+
+-- one submitter comes before another: it has more entries, or as many and the lesser bytes
+abbrev pub entries_ahead : SubmitterEntries → SubmitterEntries → Bool
+entries_ahead c d = if c.entries == d.entries then is_lt (slice_cmp nat_cmp c.submitter d.submitter) else nat_lt d.entries c.entries
+
+-- the ten submitters with the most entries, in order; fewer where there are fewer
+abbrev pub most_entries : List EntryValue → List SubmitterEntries
+most_entries history = take 10 (ranked entries_ahead (map (entries_of history) (different (submitters history))))
 
 -- Lines.
 

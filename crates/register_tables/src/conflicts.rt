@@ -1,25 +1,44 @@
 //! The works of a book with the most conflicts.
 
-ghost use Rattle.std.specs.Prelude.{◌≡◌, ◌≤◌, ◌<◌, ◌-◌, ◌^◌, [], if◌then◌else◌, insert, length, take, IfOk, OnOk};
+ghost use Rattle.std.specs.Prelude.{◌≡◌, ◌<◌, ◌-◌, ◌^◌, [], if◌then◌else◌, length, take, IfOk, OnOk};
 ghost use Rattle.work_registry.specs.Rows.{rows_of};
 ghost use Rattle.register_tables.specs.Counting.{conflict_noted, AreCounted};
-ghost use Rattle.register_tables.specs.Summary.{has_conflicts, is_ahead, largest, placed};
+ghost use Rattle.register_tables.specs.Summary.{conflicts_ahead, has_conflicts, largest, placed};
 ghost use Rattle.register_tables.specs.WorksTable.{last_work};
 
+use crate::ranking::{Ranked, place};
 use crate::tally::counted;
 use std::alloc::{AllocError, Allocator};
 use work_registry::{Book, Entry, Reply};
 
 /// A work, and the number of conflicts on it.
-#[derive(Clone, Copy)]
-pub(crate) struct Conflicted {
-    pub(crate) work: u32,
-    pub(crate) conflicts: u64,
+#[derive(Clone, Copy, Debug, PartialEq, Eq)]
+pub struct Conflicted {
+    /// The number of the work, from 1.
+    pub work: u32,
+    /// The number of entries that are conflicts on it.
+    pub conflicts: u64,
+}
+
+impl Ranked for Conflicted {
+    ghost ahead = { conflicts_ahead };
+
+    /// Whether it has more conflicts than the other, or equally many and the lower number.
+    fn is_ahead(self, other: Conflicted) -> bool {
+        if self.conflicts == other.conflicts {
+            self.work < other.work
+        } else {
+            other.conflicts < self.conflicts
+        }
+    }
 }
 
 /// The ten works with the most conflicts. Those with the most come first; of works with equally many, the lower number
-/// comes first.
-pub(crate) fn largest<A: Allocator + Copy + Drop>(
+/// comes first. A work without a conflict is not among them.
+///
+/// `last` is what [`last_work`](crate::last_work) says of the history of `book`. It ends with an error only out of
+/// memory.
+pub fn largest<A: Allocator + Copy + Drop>(
     alloc: A,
     book: &Book<A>,
     last: u32,
@@ -79,50 +98,10 @@ fn place_any<A: Allocator + Copy + Drop>(
     top: &mut Vec<Conflicted, A>,
     one: Conflicted,
 ) -> Result<(), AllocError>
-    ensures { OnOk result (top.new.items ≡ (if has_conflicts one then take 10 (placed one top.old.items) else top.old.items)) }
+    ensures { OnOk result (top.new.items ≡ (if has_conflicts one then take 10 (placed conflicts_ahead one top.old.items) else top.old.items)) }
 {
     if 0 < one.conflicts {
         place(top, one)?;
     }
     Ok(())
-}
-
-/// Places a work among the ten with the most conflicts.
-fn place<A: Allocator + Copy + Drop>(
-    top: &mut Vec<Conflicted, A>,
-    one: Conflicted,
-) -> Result<(), AllocError>
-    ensures { OnOk result (top.new.items ≡ take 10 (placed one top.old.items)) }
-{
-    let at = place_of(top, one);
-    match top.insert(at, one) {
-        Ok(()) => {}
-        Err(_) => return Err(AllocError),
-    }
-    top.truncate(10);
-    Ok(())
-}
-
-/// Where a work is placed: before the first that it is ahead of.
-fn place_of(top: &[Conflicted], one: Conflicted) -> usize
-    ensures within { result ≤ length top.now }
-    ensures placed { insert top.now result one ≡ placed one top.now }
-{
-    for at in 0..top.len() {
-        if is_ahead(one, top[at]) {
-            return at;
-        }
-    }
-    top.len()
-}
-
-/// Whether `one` has more conflicts than the other, or equally many and the lower number.
-fn is_ahead(one: Conflicted, other: Conflicted) -> bool
-    ensures { result ≡ is_ahead one other }
-{
-    if one.conflicts == other.conflicts {
-        one.work < other.work
-    } else {
-        other.conflicts < one.conflicts
-    }
 }

@@ -11,22 +11,24 @@ use std::alloc::Allocator;
 use work_registry::Book;
 
 /// The number of works in each band of what is left.
-#[derive(Clone, Copy)]
-pub(crate) struct Bands {
+#[derive(Clone, Copy, Debug, PartialEq, Eq)]
+pub struct Bands {
     /// Nothing.
-    pub(crate) none: u64,
+    pub none: u64,
     /// Up to 2,500 hundredths of one per cent.
-    pub(crate) quarter: u64,
+    pub quarter: u64,
     /// Above that, up to 5,000.
-    pub(crate) half: u64,
+    pub half: u64,
     /// Above that, and not all.
-    pub(crate) more: u64,
+    pub more: u64,
     /// 10,000.
-    pub(crate) all: u64,
+    pub all: u64,
 }
 
-/// The works up to the last by what is left of a right.
-pub(crate) fn bands_of<A: Allocator + Copy + Drop>(book: &Book<A>, last: u32, right: usize) -> Bands
+/// The works up to the last by what is left of a right: 0 performing, 1 mechanical, 2 synchronization.
+///
+/// `last` is what [`last_work`](crate::last_work) says of the history of `book`.
+pub fn bands_of<A: Allocator + Copy + Drop>(book: &Book<A>, last: u32, right: usize) -> Bands
     requires last { last ≡ last_work (rows_of book.now.history) }
     requires right { right < 3 }
     ensures { result ≡ bands_of (map (left_of right (rows_of book.now.history)) (works (rows_of book.now.history))) }

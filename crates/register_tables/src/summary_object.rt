@@ -5,14 +5,15 @@ ghost use Rattle.std.specs.Io.KnownBytes.{Appends};
 ghost use Rattle.std.specs.List.{flat_map};
 ghost use Rattle.work_registry.specs.Rows.{rows_of};
 ghost use Rattle.register_tables.specs.JsonValues.{value_tokens, Adds};
-ghost use Rattle.register_tables.specs.Summary.{different, largest, submitters, tally_of};
-ghost use Rattle.register_tables.specs.SummaryJson.{bands_data, conflict_data, conflicts_data, right_data, shares_data, summary_data, summary_json, object_of_numbers};
+ghost use Rattle.register_tables.specs.Summary.{different, largest, most_entries, submitters, tally_of};
+ghost use Rattle.register_tables.specs.SummaryJson.{bands_data, conflict_data, conflicts_data, right_data, shares_data, submitter_data, submitters_data, summary_data, summary_json, object_of_numbers};
 ghost use Rattle.register_tables.specs.WorksTable.{last_work};
 
 use crate::conflicts::{Conflicted, largest};
 use crate::json_values::{Shown, line_of, put_members, put_object};
 use crate::rows::TableError;
 use crate::shares::{Bands, bands_of};
+use crate::submitters::{SubmitterEntries, most_entries};
 use crate::tally::{Tally, submitter_count, tally_of};
 use crate::works::last_work;
 use cwr_field::Memory;
@@ -23,12 +24,15 @@ use work_registry::Book;
 
 /// Writes a summary of a book as a JSON object, and LF, and returns what it wrote to.
 ///
-/// Its members are numbers but for two, and stand in the order of their names: `accepted`, `conflicts`, `duplicates`
+/// Its members are numbers but for three, and stand in the order of their names: `accepted`, `conflicts`, `duplicates`
 /// and `rejected`, the entries with each status; `current_claims`; `entries`; `submitters`, those of the entries;
-/// `works`; `largest_conflicts`, a list of objects with `conflicts` and `work`, as the page has them; and `left`, an
-/// object with a member for each right, `mechanical`, `performing` and `synchronization`. Each of these is an object
-/// with the number of works by what is left of the right: `all`, `more_than_half`, `none`, `up_to_half` and
-/// `up_to_quarter`.
+/// `works`; `largest_conflicts`, a list of objects with `conflicts` and `work`, as the page has them; `left`, an object
+/// with a member for each right, `mechanical`, `performing` and `synchronization`; and `most_entries`, a list of objects
+/// with `entries` and `submitter`, the ten submitters with the most entries. Each member of `left` is an object with the
+/// number of works by what is left of the right: `all`, `more_than_half`, `none`, `up_to_half` and `up_to_quarter`.
+///
+/// In `most_entries` the submitter with the most entries comes first, and of submitters with equally many the one whose
+/// bytes are less. A submitter is a text, in which each byte is the character with its number.
 pub fn summary_json<W: Write + Drop, A: Allocator + Copy + Drop>(
     alloc: A,
     mut to: W,
@@ -62,6 +66,7 @@ fn put_summary<A: Allocator + Copy + Drop>(
 {
     let last = last_work(book.history());
     let top = largest(alloc, book, last)?;
+    let most = most_entries(alloc, book)?;
     let numbers = Numbers {
         entries: book.len() as u64,
         works: last as u64,
@@ -69,7 +74,7 @@ fn put_summary<A: Allocator + Copy + Drop>(
         tally: tally_of(book),
     };
     let mut buffer = String::new(alloc);
-    put_summary_members(out, &mut buffer, book, last, numbers, &top)
+    put_summary_members(out, &mut buffer, book, last, numbers, &top, &most)
 }
 
 /// The numbers of a summary.
@@ -82,7 +87,8 @@ struct Numbers {
 }
 
 /// Writes the members of the object. `out` is written to, and `buffer` is a scratch buffer for texts. `book` has `last`
-/// works, `numbers` has the counts, and `top` the works with the most conflicts.
+/// works, `numbers` has the counts, `top` the works with the most conflicts, and `most` the submitters with the most
+/// entries.
 fn put_summary_members<A: Allocator + Copy + Drop>(
     out: &mut Writer<A>,
     buffer: &mut String<A>,
@@ -90,9 +96,10 @@ fn put_summary_members<A: Allocator + Copy + Drop>(
     last: u32,
     numbers: Numbers,
     top: &[Conflicted],
+    most: &[SubmitterEntries],
 ) -> Result<(), Memory>
     requires { last ≡ last_work (rows_of book.now.history) }
-    ensures { OnOk result (Adds out.old out.new (value_tokens (object_of_numbers numbers.entries numbers.works numbers.submitters numbers.tally (shares_data (rows_of book.now.history)) (conflicts_data top.now)))) }
+    ensures { OnOk result (Adds out.old out.new (value_tokens (object_of_numbers numbers.entries numbers.works numbers.submitters numbers.tally (shares_data (rows_of book.now.history)) (conflicts_data top.now) (submitters_data most.now)))) }
 {
     let tally = numbers.tally;
     out.begin_object()?;
@@ -111,6 +118,8 @@ fn put_summary_members<A: Allocator + Copy + Drop>(
     put_conflicts(out, buffer, top)?;
     out.key("left")?;
     put_shares(out, buffer, book, last)?;
+    out.key("most_entries")?;
+    put_submitters(out, buffer, most)?;
     put_members(
         out,
         buffer,
@@ -153,6 +162,40 @@ fn put_conflict<A: Allocator + Copy + Drop>(
         &[
             ("conflicts", Shown::Number(one.conflicts)),
             ("work", Shown::Number(one.work as u64)),
+        ],
+    )
+}
+
+/// Writes submitters with their entries, as a list of objects.
+fn put_submitters<A: Allocator + Copy + Drop>(
+    out: &mut Writer<A>,
+    buffer: &mut String<A>,
+    most: &[SubmitterEntries],
+) -> Result<(), Memory>
+    ensures { OnOk result (Adds out.old out.new (value_tokens (submitters_data most.now))) }
+{
+    out.begin_array()?;
+    for one in most {
+        put_submitter(out, buffer, *one)?;
+    }
+    out.end_array()?;
+    Ok(())
+}
+
+fn put_submitter<A: Allocator + Copy + Drop>(
+    out: &mut Writer<A>,
+    buffer: &mut String<A>,
+    one: SubmitterEntries,
+) -> Result<(), Memory>
+    ensures { OnOk result (Adds out.old out.new (value_tokens (submitter_data one))) }
+{
+    let submitter = one.submitter;
+    put_object(
+        out,
+        buffer,
+        &[
+            ("entries", Shown::Number(one.entries)),
+            ("submitter", Shown::Text(&submitter)),
         ],
     )
 }

@@ -12,18 +12,23 @@ use std::hash::{BuildHasherDefault, FoldHasher};
 use work_registry::{Book, Entry, Reply, Status};
 
 /// The number of entries with each status, and of entries that made the claim in force under their key.
-#[derive(Clone, Copy)]
-pub(crate) struct Tally {
-    pub(crate) accepted: u64,
-    pub(crate) duplicates: u64,
-    pub(crate) conflicts: u64,
-    pub(crate) rejected: u64,
-    pub(crate) current: u64,
+#[derive(Clone, Copy, Debug, PartialEq, Eq)]
+pub struct Tally {
+    /// The entries that were accepted (AS).
+    pub accepted: u64,
+    /// The duplicates (DU).
+    pub duplicates: u64,
+    /// The conflicts (CO).
+    pub conflicts: u64,
+    /// The entries that were rejected (RJ).
+    pub rejected: u64,
+    /// The entries that made the claim in force under their key.
+    pub current: u64,
 }
 
 /// Counts the entries of a book. Under a key there is one claim in force, and one entry made its first version. So
 /// first versions are counted, and no claim is looked up.
-pub(crate) fn tally_of<A: Allocator + Copy + Drop>(book: &Book<A>) -> Tally
+pub fn tally_of<A: Allocator + Copy + Drop>(book: &Book<A>) -> Tally
     ensures { result ≡ tally_of (rows_of book.now.history) book.now.history }
 {
     let entries = book.history();
@@ -74,8 +79,8 @@ pub(crate) fn counted(count: u64, more: bool) -> u64
     if more { count.saturating_add(1) } else { count }
 }
 
-/// The number of different submitters of the entries of a book.
-pub(crate) fn submitter_count<A: Allocator + Copy + Drop>(
+/// The number of different submitters of the entries of a book. It ends with an error only out of memory.
+pub fn submitter_count<A: Allocator + Copy + Drop>(
     alloc: A,
     entries: &[Entry<A>],
 ) -> Result<u64, AllocError>

@@ -116,8 +116,9 @@ fn blank_works<A: Allocator + Copy + Drop>(
     )
 }
 
-/// The greatest number that was given to a work, or 0.
-pub(crate) fn last_work<A: Allocator>(entries: &[Entry<A>]) -> u32
+/// The greatest number that these entries gave to a work, or 0. Works are numbered from 1, with none left out, so the
+/// history of a book has as many.
+pub fn last_work<A: Allocator>(entries: &[Entry<A>]) -> u32
     ensures { result ≡ last_work (rows_of entries.now) }
 {
     let mut last = 0;

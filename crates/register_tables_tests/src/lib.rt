@@ -1,5 +1,5 @@
 //! Tests of a register's tables and of its summary: the example of the profile's decisions, texts that CSV must quote,
-//! rows that are wanted, bands of what is left, more conflicts than are printed, plain tables, and JSON.
+//! rows that are wanted, bands of what is left, more conflicts and submitters than are told, plain tables, and JSON.
 #![tactic(auto)]
 
 #[cfg(test)]
@@ -12,6 +12,8 @@ mod objects;
 mod plain;
 #[cfg(test)]
 mod quoted;
+#[cfg(test)]
+mod submitters;
 #[cfg(test)]
 mod summaries;
 #[cfg(test)]

@@ -89,6 +89,7 @@ fn sums_up_decisions_as_an_object(rt: HostRuntime) -> Result<(), Fail> {
 \"left\":{\"mechanical\":{\"all\":0,\"more_than_half\":0,\"none\":1,\"up_to_half\":0,\"up_to_quarter\":0},\
 \"performing\":{\"all\":0,\"more_than_half\":0,\"none\":1,\"up_to_half\":0,\"up_to_quarter\":0},\
 \"synchronization\":{\"all\":0,\"more_than_half\":0,\"none\":1,\"up_to_half\":0,\"up_to_quarter\":0}},\
+\"most_entries\":[{\"entries\":5,\"submitter\":\"PB000000123\"},{\"entries\":2,\"submitter\":\"PB000000456\"}],\
 \"rejected\":1,\"submitters\":2,\"works\":1}\n",
     )
 }
@@ -114,6 +115,7 @@ fn tells_what_is_left_as_an_object(rt: HostRuntime) -> Result<(), Fail> {
 \"left\":{\"mechanical\":{\"all\":1,\"more_than_half\":0,\"none\":0,\"up_to_half\":0,\"up_to_quarter\":1},\
 \"performing\":{\"all\":0,\"more_than_half\":1,\"none\":1,\"up_to_half\":0,\"up_to_quarter\":0},\
 \"synchronization\":{\"all\":0,\"more_than_half\":0,\"none\":0,\"up_to_half\":2,\"up_to_quarter\":0}},\
+\"most_entries\":[{\"entries\":2,\"submitter\":\"PB000000123\"}],\
 \"rejected\":0,\"submitters\":1,\"works\":2}\n",
     )
 }

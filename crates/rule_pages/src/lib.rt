@@ -16,4 +16,5 @@ pub use cwr_record::Status;
 pub use page::{Page, every_page, page_name, page_named};
 pub use pages::pages_text;
 pub use rule::{Rule, every_rule, name_of, rule_named};
+pub use texts::{fix, requirement, title, violation};
 pub use writing::texts_of_pages;

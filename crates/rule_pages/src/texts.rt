@@ -6,7 +6,7 @@ use cwr_acknowledgement::message_text;
 use cwr_report::file_rule_text;
 
 /// The name of a rule's fault: for F1 to F12 as a report prints it, for J1 to J15 the text of its MSG record.
-pub(crate) fn title(rule: Rule) -> &'static [u8]
+pub fn title(rule: Rule) -> &'static [u8]
     ensures { result.now ≡ title_of rule }
 {
     match rule {
@@ -45,7 +45,7 @@ pub(crate) fn title(rule: Rule) -> &'static [u8]
 }
 
 /// What a rule requires.
-pub(crate) fn requirement(rule: Rule) -> &'static [u8]
+pub fn requirement(rule: Rule) -> &'static [u8]
     ensures { result.now ≡ requirement_of rule }
 {
     match rule {
@@ -100,7 +100,7 @@ pub(crate) fn requirement(rule: Rule) -> &'static [u8]
 }
 
 /// An example of what breaks a rule.
-pub(crate) fn violation(rule: Rule) -> &'static [u8]
+pub fn violation(rule: Rule) -> &'static [u8]
     ensures { result.now ≡ violation_of rule }
 {
     match rule {
@@ -139,7 +139,7 @@ pub(crate) fn violation(rule: Rule) -> &'static [u8]
 }
 
 /// How to fix what broke a rule.
-pub(crate) fn fix(rule: Rule) -> &'static [u8]
+pub fn fix(rule: Rule) -> &'static [u8]
     ensures { result.now ≡ fix_of rule }
 {
     match rule {

@@ -4,7 +4,7 @@ use Rattle.work_registry.specs.EntryValue.{EntryValue}
 use Rattle.work_registry.specs.Rows.{rows_of}
 use Rattle.register_tables.specs.declared.conflicts.Conflicted.{Conflicted}
 use Rattle.register_tables.specs.Counting.{AreCounted}
-use Rattle.register_tables.specs.Summary.{conflicted, has_conflicts, ranked}
+use Rattle.register_tables.specs.Summary.{conflicted, conflicts_ahead, has_conflicts, ranked}
 use Rattle.register_tables.specs.WorksTable.{last_work}
 use Rattle.register_tables.proofs.Counts.{largest_step}
 use Rattle.register_tables.proofs.conflicts.largest.Goals as goal
@@ -27,7 +27,7 @@ pub returns : goal.returns
 returns g c =
     let history : List EntryValue = c.args.book.now.history in
     let end : c.loop-before.before ≡ 0 = omega (arith, c.loop-before-test.false) in
-    let top : ℕ → ℕ → List Conflicted = λ i n. take 10 (ranked (filter has_conflicts (map (conflicted history) (range_with_len (i + 1) (n - i))))) in
+    let top : ℕ → ℕ → List Conflicted = λ i n. take 10 (ranked conflicts_ahead (filter has_conflicts (map (conflicted history) (range_with_len (i + 1) (n - i))))) in
     let all : c.args.last - 0 ≡ last_work (rows_of history) = omega (arith, c.requires) in
-    subst (λ (n : ℕ). c.loop-before.top.items ≡ take 10 (ranked (filter has_conflicts (map (conflicted history) (range_with_len 1 n))))) all
+    subst (λ (n : ℕ). c.loop-before.top.items ≡ take 10 (ranked conflicts_ahead (filter has_conflicts (map (conflicted history) (range_with_len 1 n))))) all
     (subst (λ (i : ℕ). c.loop-before.top.items ≡ top i c.args.last) end c.loop-before.invariant)

@@ -1,0 +1,16 @@
+pub mod Fragments
+pub mod Pieces
+pub mod Markup
+pub mod Rulers
+pub mod Boxes
+pub mod Faults
+pub mod Sections
+pub mod RefusedFiles
+pub mod RemarkSections
+pub mod RuleIndex
+pub mod Facts
+pub mod CheckPages
+pub mod Tallies
+pub mod ShownLines
+pub mod SummaryPage
+pub mod Contexts

@@ -1,0 +1,49 @@
+//! What the definition of a page means: the bytes of a file, or of a register, begin and end nothing in it and stand in
+//! its text alone, and a box shows each byte of its line.
+//!
+//! A law is a function that does nothing. Its contract is what is proved.
+
+ghost use Rattle.std.specs.Prelude.{◌≡◌, ◌||◌, ℕ, List, [], take, true, false};
+ghost use Rattle.std.specs.List.{filter};
+ghost use Rattle.cwr_record.specs.declared.columns.Column.{Column};
+ghost use Rattle.html_pages.specs.Boxes.{line_shown, most_places};
+ghost use Rattle.cwr_remarks.specs.declared.remark.Remark.{Remark};
+ghost use Rattle.cwr_report.specs.Reported.{Reported};
+ghost use Rattle.html_pages.specs.CheckPages.{check_page};
+ghost use Rattle.html_pages.specs.Contexts.{Context, Misplaced, Text, behind, behind_bytes};
+ghost use Rattle.html_pages.specs.ShownLines.{are_apart, byte_of_fragment, bytes_of, is_begin};
+ghost use Rattle.html_pages.specs.declared.fragment.Fragment.{Fragment};
+ghost use Rattle.html_pages.specs.Markup.{is_delimiter, is_fixed, is_plain, is_reference};
+ghost use Rattle.html_pages.specs.Pieces.{Fixed, Piece, page_text, piece_text};
+ghost use Rattle.html_pages.specs.SummaryPage.{summary_page};
+ghost use Rattle.work_registry.specs.EntryValue.{EntryValue};
+
+/// Whatever is shown, what is not markup holds no `<`, `>`, `&`, `"` or `'` but as a reference: a piece that is no
+/// fragment is one of the five references, or has none of these bytes. So the `<`, `>`, `"` and `'` of a page are those of
+/// its fragments alone, in their order.
+pub fn bytes_begin_nothing()
+    ensures piece { (p : Piece) → is_fixed p ≡ false → (is_reference (piece_text p) || is_plain (piece_text p)) ≡ true }
+    ensures page { (page : List Piece) → filter is_delimiter (page_text page) ≡ filter is_delimiter (page_text (filter is_fixed page)) }
+{}
+
+/// Whatever is marked of a line, its box shows the bytes of the line, each once and in their order, up to the longest
+/// line that is shown. The fragments with which a mark begins are no byte of a line.
+pub fn boxes_show_their_lines()
+    ensures bytes { (line : List ℕ) (spots : List Column) (begin : Fragment) → byte_of_fragment begin ≡ [] → bytes_of (line_shown line spots begin) ≡ take most_places line }
+    ensures marks { (byte_of_fragment Fragment.Mark ≡ []) × (byte_of_fragment Fragment.MarkByte ≡ []) }
+{}
+
+/// Whatever is marked of a line, no mark begins within another, and each ends.
+pub fn marks_are_apart()
+    ensures { (line : List ℕ) (spots : List Column) (begin : Fragment) → is_begin (Fixed begin) ≡ true → are_apart false (line_shown line spots begin) ≡ true }
+{}
+
+/// Each piece of a page stands in its place. A byte that is no markup stands in text, between tags, and never within a tag
+/// or in the style. Between the quotes of an attribute only numbers stand and the bytes F and J, the letters of rules,
+/// and in a text of the style only numbers. A page begins and ends in text. The bytes that are written for pieces lead
+/// where the pieces do, if these stand in their places.
+pub fn bytes_stand_in_text()
+    ensures check { (name bytes : List ℕ) (r : Reported) (remarks : List Remark) → behind Text (check_page name bytes r remarks) ≡ Text }
+    ensures summary { (name : List ℕ) (history : List EntryValue) → behind Text (summary_page name history) ≡ Text }
+    ensures read { (context : Context) (pieces : List Piece) → (behind context pieces ≡ Misplaced → ⊥) → behind_bytes context (page_text pieces) ≡ behind context pieces }
+{}
