@@ -1,0 +1,5 @@
+use Rattle.std.proofs.Common.{rules}
+use Rattle.cwr_call.proofs.call.Call.copied.Goals as goal
+
+pub returns : goal.returns
+returns g c = search rules
