@@ -23,7 +23,7 @@ pub trait Chunks {
 }
 
 /// A text in one chunk.
-#[derive(Debug, Drop)]
+#[derive(Drop)]
 pub(crate) struct OneChunk<'a> {
     chunk: &'a [u8],
     left: &'a [u8],

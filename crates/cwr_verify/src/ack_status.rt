@@ -18,7 +18,7 @@ use std::alloc::{AllocError, Allocator};
 use work_registry::{Reply, Status};
 
 /// What an acknowledgement says of a transaction: its status, and the work that it names.
-#[derive(Clone, Copy, Debug, PartialEq, Eq, Drop)]
+#[derive(Clone, Copy, PartialEq, Eq, Drop)]
 pub(crate) struct AckStatus {
     pub(crate) status: Status,
     pub(crate) work: Option<u32>,

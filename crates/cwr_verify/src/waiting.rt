@@ -12,7 +12,7 @@ use work_registry::Call;
 ///
 /// It is two numbers, which compare faster than all that they are made of. Files whose next numbers of works are near
 /// wait near one another. For all other fields there is the digest.
-#[derive(Clone, Copy, Debug, PartialEq, Eq, PartialOrd, Ord, Drop)]
+#[derive(Clone, Copy, PartialEq, Eq, PartialOrd, Ord, Drop)]
 pub(crate) struct Key {
     /// The last eight bytes of the submitter's number of the work.
     number_end: u64,

@@ -23,7 +23,7 @@ pub(crate) const OF_TRANSACTIONS: u8 = b'J';
 pub(crate) const OF_FILES: u8 = b'F';
 
 /// Which of the faults of a rule a fault is.
-#[derive(Clone, Copy, Debug, PartialEq, Eq)]
+#[derive(Clone, Copy)]
 pub(crate) struct Nth {
     /// The letter of the rule.
     pub(crate) letter: u8,

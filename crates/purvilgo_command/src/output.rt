@@ -17,7 +17,7 @@ const FILE_EXISTS: i32 = 17;
 const LAST_PIECE: usize = 65_000;
 
 /// The draft that a job leaves.
-#[derive(Clone, Copy, Debug)]
+#[derive(Clone, Copy)]
 pub(crate) enum LeftDraft<'a> {
     /// No byte was written, or what was written was no draft.
     None,

@@ -67,7 +67,7 @@ pub(crate) const DATE: Argument = Argument::NeededValue("date", "YYYYMMDD", "dat
 pub(crate) const TIME: Argument = Argument::NeededValue("time", "HHMMSS", "time of the run");
 
 /// The values of the options that name the stamp, as they were given.
-#[derive(Clone, Copy, Debug)]
+#[derive(Clone, Copy)]
 pub(crate) struct StampWords<'a> {
     society: &'a str,
     name: &'a str,
@@ -105,7 +105,7 @@ impl<'a> StampWords<'a> {
 }
 
 /// How the files of a run are worked.
-#[derive(Clone, Copy, Debug, PartialEq, Eq)]
+#[derive(Clone, Copy)]
 pub(crate) enum Way {
     /// All at once, each on a thread of its own. The order of the decisions is open.
     AtOnce,
@@ -129,7 +129,7 @@ impl Way {
 }
 
 /// The options of a run, as they were given.
-#[derive(Debug, Drop)]
+#[derive(Drop)]
 pub(crate) struct RunWords<'m, 'a> {
     /// The stamp of the acknowledgements.
     who: StampWords<'a>,

@@ -14,14 +14,14 @@ use std::rt::Files;
 const HERE: &str = ".";
 
 /// An existing file or directory: its device, and its number on it.
-#[derive(Clone, Copy, Debug, PartialEq, Eq)]
+#[derive(Clone, Copy, PartialEq, Eq)]
 struct Node {
     device: u64,
     number: u64,
 }
 
 /// Where a name leads.
-#[derive(Debug, PartialEq, Eq, Drop)]
+#[derive(PartialEq, Eq, Drop)]
 enum FileIdentity {
     /// To an existing file.
     Taken(Node),

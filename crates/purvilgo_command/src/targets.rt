@@ -8,7 +8,7 @@ use cwr_field::Memory;
 use std::rt::Files;
 
 /// The files that a run writes, and the names beside them.
-#[derive(Debug, Drop)]
+#[derive(Drop)]
 pub(crate) struct Targets {
     /// The acknowledgements, in the order of the files.
     pub(crate) answers: Vec<FileNames>,

@@ -17,7 +17,7 @@ const WITH_WORK: usize = 137;
 
 /// A digest of the lines of an acknowledgement, without the registry's number of the work in each ACK record, which
 /// depends on which file was decided first. The same lines give the same digest, however they are cut into pieces.
-#[derive(Clone, Copy, Debug)]
+#[derive(Clone, Copy)]
 pub(crate) struct AckDigest {
     digest: Digest,
     /// The first three bytes of the line, or as many as there were, as one number.

@@ -8,7 +8,7 @@ const PRIME: u64 = 0x0000_0100_0000_01b3;
 
 /// A digest of bytes and numbers: the same ones in the same order give the same digest, however they are cut into
 /// pieces.
-#[derive(Clone, Copy, Debug)]
+#[derive(Clone, Copy)]
 pub(crate) struct Digest {
     sum: u64,
     /// The bytes that are no complete word yet.

@@ -12,7 +12,7 @@ use std::alloc::{AllocError, Allocator};
 use std::hash::{BuildHasherDefault, FoldHasher};
 
 /// What a book keeps of a claim. None of its controls is above 10,006.
-#[derive(Clone, Copy, Debug, PartialEq, Eq)]
+#[derive(Clone, Copy)]
 pub(crate) struct IndexedClaim {
     pub(crate) work: u32,
     pub(crate) version: u32,
@@ -20,7 +20,7 @@ pub(crate) struct IndexedClaim {
 }
 
 /// What a book keeps of a work: the nine digits of its ISWC as a number, and its control of each right, at most 10,006.
-#[derive(Clone, Copy, Debug, PartialEq, Eq)]
+#[derive(Clone, Copy)]
 pub(crate) struct IndexedWork {
     pub(crate) iswc: Option<u32>,
     pub(crate) control: [u16; 3],

@@ -3,7 +3,7 @@ ghost use Rattle.work_registry.specs.KeyWrites.{key_writes, same-writes};
 use std::hash::{Hash, Hasher};
 
 /// A submitter and the submitter's number of a work: the key of a claim.
-#[derive(Clone, Copy, Debug, PartialEq, Eq)]
+#[derive(Clone, Copy, PartialEq, Eq)]
 pub(crate) struct Key {
     /// Sender type and sender id of the file's HDR.
     pub(crate) submitter: [u8; 11],
