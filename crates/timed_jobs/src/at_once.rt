@@ -9,7 +9,7 @@ use crate::chance::Chance;
 use crate::digest::Digest;
 use crate::nights::{CHUNK, MAX_FILES, stamp, take_outcome};
 use byte_streams::Feed;
-use cwr_desk::{Book, Entry, Fault, Job, OpenGate, serve};
+use cwr_desk::{Book, Entry, Fault, Job, OpenGate, Run, serve};
 use cwr_field::Memory;
 use register_store::new_book;
 use std::alloc::Global;
@@ -63,10 +63,20 @@ fn run<R: Threads + Wait + Sync>(
 ) -> Result<(), Memory>
     requires { is_opening book.history ≡ true }
 {
+    let stamp = stamp()?;
     let jobs = jobs_of(alloc, files)?;
-    let Ok(run) = serve(rt, alloc, jobs, book, &stamp()?, &OpenGate) else {
+    let Ok(run) = serve(rt, alloc, jobs, book, &stamp, &OpenGate) else {
         return Err(Memory);
     };
+    take_run(alloc, &run, digest)
+}
+
+/// Takes what holds in every order of what a run left.
+fn take_run(
+    alloc: Global,
+    run: &Run<Feed<'_>, AckDigest>,
+    digest: &mut Digest,
+) -> Result<(), Memory> {
     for (job, outcome) in run.jobs.iter().zip(&run.outcomes) {
         digest.number(job.writer.sum());
         take_outcome(outcome, digest);

@@ -20,16 +20,20 @@ pub(crate) fn awkward(alloc: Global, size: u32, chance: &mut Chance) -> Result<D
     let mut digest = Digest::new();
     for _ in 0..8 {
         let text = refused_file(alloc, size, 0, chance)?;
-        digest_reports(alloc, &text, &mut digest)?;
-        digest_reports_with_member(alloc, &text, &mut digest)?;
+        digest_all_reports(alloc, &text, &mut digest)?;
     }
     for fault in 1..=12u32 {
         let text = refused_file(alloc, size / 4, fault, chance)?;
-        digest_reports(alloc, &text, &mut digest)?;
-        digest_reports_with_member(alloc, &text, &mut digest)?;
+        digest_all_reports(alloc, &text, &mut digest)?;
     }
     verified(alloc, size, chance, &mut digest)?;
     Ok(digest)
+}
+
+/// The reports on a file, as they are and with one more member.
+fn digest_all_reports(alloc: Global, text: &[u8], digest: &mut Digest) -> Result<(), Memory> {
+    digest_reports(alloc, text, digest)?;
+    digest_reports_with_member(alloc, text, digest)
 }
 
 /// The reports on a file, for a program and for a person.

@@ -12,19 +12,37 @@ use std::alloc::Global;
 /// in another order, and territories of some codes.
 pub(crate) fn crowd(alloc: Global, parties: u32, chance: &mut Chance) -> Result<Vec<u8>, Memory> {
     let mut form = Form::new(alloc, b"NWR", CRLF)?;
-    for party in shuffled(alloc, parties, chance)? {
+    push_publishers(&mut form, &shuffled(alloc, parties, chance)?)?;
+    form.push_writer(999_999_999, 10_000)?;
+    push_links(&mut form, &shuffled(alloc, parties, chance)?)?;
+    push_territories(&mut form, &shuffled(alloc, parties, chance)?)?;
+    file_of(alloc, &form, chance)
+}
+
+/// A publisher of each of these parties.
+fn push_publishers(form: &mut Form, parties: &[u32]) -> Result<(), Memory> {
+    for party in parties {
         form.push(
             b"SPU",
             55,
-            &[(20, b"01"), (22, &nine(party)), (31, b"MUSIC HOUSE")],
+            &[(20, b"01"), (22, &nine(*party)), (31, b"MUSIC HOUSE")],
         )?;
     }
-    form.push_writer(999_999_999, 10_000)?;
-    for party in shuffled(alloc, parties, chance)? {
-        form.push(b"PWR", 55, &[(20, &nine(party)), (29, b"MUSIC HOUSE")])?;
+    Ok(())
+}
+
+/// A link to the publisher of each of these parties.
+fn push_links(form: &mut Form, parties: &[u32]) -> Result<(), Memory> {
+    for party in parties {
+        form.push(b"PWR", 55, &[(20, &nine(*party)), (29, b"MUSIC HOUSE")])?;
     }
-    for territory in shuffled(alloc, parties, chance)? {
-        let code = five(territory % 10_000);
+    Ok(())
+}
+
+/// A territory of the writer for each of these numbers.
+fn push_territories(form: &mut Form, territories: &[u32]) -> Result<(), Memory> {
+    for territory in territories {
+        let code = five(*territory % 10_000);
         form.push(
             b"SWT",
             52,
@@ -36,7 +54,7 @@ pub(crate) fn crowd(alloc: Global, parties: u32, chance: &mut Chance) -> Result<
             ],
         )?;
     }
-    file_of(alloc, &form, chance)
+    Ok(())
 }
 
 /// A file of one work of `records` records, each with a fault of its own: publishers and writers without a party.

@@ -38,17 +38,44 @@ pub(crate) fn stamp() -> Result<Stamp, Memory> {
 /// revisions, and works that other submitters have claimed.
 pub(crate) fn nights(alloc: Global, size: u32, chance: &mut Chance) -> Result<Digest, Memory> {
     let mut digest = Digest::new();
-    let files = large_files(alloc, size, chance)?;
-    let book = run(alloc, new_book(alloc), &files, &mut digest)?;
-    let register = register_of(alloc, &book, &mut digest)?;
-    let Ok(book) = read_book(alloc, &mut Feed::new(&register, CHUNK, None)) else {
-        return Err(Memory);
-    };
-    let files = small_files(alloc, size, chance)?;
-    let book = run(alloc, book, &files, &mut digest)?;
-    let book = one_at_a_time(alloc, size, chance, book, &mut digest)?;
-    let _ = register_of(alloc, &book, &mut digest)?;
+    let register = first_night(alloc, size, chance, &mut digest)?;
+    let _ = second_night(alloc, size, chance, &register, &mut digest)?;
     Ok(digest)
+}
+
+/// Works the large files, and returns the register that they leave.
+fn first_night(
+    alloc: Global,
+    size: u32,
+    chance: &mut Chance,
+    digest: &mut Digest,
+) -> Result<Vec<u8>, Memory> {
+    let files = large_files(alloc, size, chance)?;
+    let book = run(alloc, new_book(alloc), &files, digest)?;
+    register_of(alloc, &book, digest)
+}
+
+/// Works the smaller files, then those that come one at a time, and returns the register that they leave. `alloc`
+/// allocates, `size` sets the number of works, and `chance` gives the numbers. `register` is that of the night before,
+/// and `digest` takes the results.
+fn second_night(
+    alloc: Global,
+    size: u32,
+    chance: &mut Chance,
+    register: &[u8],
+    digest: &mut Digest,
+) -> Result<Vec<u8>, Memory> {
+    let files = small_files(alloc, size, chance)?;
+    let book = run(alloc, book_of(alloc, register)?, &files, digest)?;
+    let book = one_at_a_time(alloc, size, chance, book, digest)?;
+    register_of(alloc, &book, digest)
+}
+
+/// The book of a register.
+pub(crate) fn book_of(alloc: Global, register: &[u8]) -> Result<Book, Memory>
+    ensures { IfOk result (λ book. is_opening book.history ≡ true) }
+{
+    read_book(alloc, &mut Feed::new(register, CHUNK, None)).map_err(|_| Memory)
 }
 
 /// The new works of sixteen submitters, a file each. The works of two submitters have many records each, and come in
@@ -124,19 +151,26 @@ fn one_at_a_time(
         let first = 90_000_000u32.saturating_add(chance.below(100_000));
         let order = new_works(Style::Shared, 200u32.saturating_add(number), first, 20);
         let text = file(alloc, chance, &order)?;
-        let (worked, job, outcome) = work_alone(alloc, book, 1, job_of(&text), &stamp);
-        take_job(&job, &outcome, digest);
-        book = worked;
+        book = work_one(alloc, book, &text, &stamp, digest);
     }
     Ok(book)
+}
+
+/// The book after a file that is worked alone at it. `alloc` allocates, `text` is worked into `book`, `stamp` is that
+/// of the acknowledgement, and `digest` takes the results.
+fn work_one(alloc: Global, book: Book, text: &[u8], stamp: &Stamp, digest: &mut Digest) -> Book {
+    let (worked, job, outcome) = work_alone(alloc, book, 1, job_of(text), stamp);
+    take_job(&job, &outcome, digest);
+    worked
 }
 
 /// Works files in turn at a book, and returns it as one whose entries are all of its opening.
 fn run(alloc: Global, book: Book, files: &[Vec<u8>], digest: &mut Digest) -> Result<Book, Memory>
     requires { is_opening book.history ≡ true }
 {
+    let stamp = stamp()?;
     let jobs = jobs_of(alloc, files)?;
-    match serve_in_turn(alloc, jobs, book, &stamp()?) {
+    match serve_in_turn(alloc, jobs, book, &stamp) {
         Ok(run) => {
             take_run(&run, digest);
             Ok(run.book.reopened())

@@ -13,14 +13,7 @@ use std::alloc::Global;
 /// Reports on catalogues with few faults, and on works of which each record has one.
 pub(crate) fn reports(alloc: Global, size: u32, chance: &mut Chance) -> Result<Digest, Memory> {
     let mut digest = Digest::new();
-    let order = new_works(Style::Mixed, 1, 1, size);
-    let (mut text, places) = file_with_places(alloc, chance, &order)?;
-    for _ in 0..30 {
-        change(&mut text, &places, chance);
-        take(remarked_json(alloc, &text)?, &mut digest);
-        change(&mut text, &places, chance);
-        take(remarked_long(alloc, &text)?, &mut digest);
-    }
+    on_catalogues(alloc, size, chance, &mut digest)?;
     for _ in 0..6 {
         let text = crowd_without_parties(alloc, size.saturating_mul(16), chance)?;
         take(remarked_json(alloc, &text)?, &mut digest);
@@ -28,6 +21,24 @@ pub(crate) fn reports(alloc: Global, size: u32, chance: &mut Chance) -> Result<D
         take(remarked_long(alloc, &text)?, &mut digest);
     }
     Ok(digest)
+}
+
+/// Reports on one catalogue, changed each time.
+fn on_catalogues(
+    alloc: Global,
+    size: u32,
+    chance: &mut Chance,
+    digest: &mut Digest,
+) -> Result<(), Memory> {
+    let order = new_works(Style::Mixed, 1, 1, size);
+    let (mut text, places) = file_with_places(alloc, chance, &order)?;
+    for _ in 0..30 {
+        change(&mut text, &places, chance);
+        take(remarked_json(alloc, &text)?, digest);
+        change(&mut text, &places, chance);
+        take(remarked_long(alloc, &text)?, digest);
+    }
+    Ok(())
 }
 
 /// Takes a report.

@@ -3,11 +3,11 @@
 use crate::chance::Chance;
 use crate::digest::Digest;
 use crate::digits::{nine, work_number};
-use crate::nights::{CHUNK, register_of};
+use crate::nights::{CHUNK, book_of, register_of};
 use crate::titles::{quoted_title, title};
 use byte_streams::Feed;
 use cwr_field::Memory;
-use register_store::{MAX_REGISTER_BYTES, REGISTER_WINDOW, audit_source, new_book, read_book};
+use register_store::{MAX_REGISTER_BYTES, REGISTER_WINDOW, audit_source, new_book};
 use register_tables::{TableError, Wanted, claims_text, history_text, summary_text, works_text};
 use std::alloc::Global;
 use work_registry::{Book, Call, Fault, Faults, WorkKind};
@@ -48,11 +48,21 @@ fn claims(
         submitter: Some(submitter(chance.below(SUBMITTERS))),
         ..Wanted::all()
     };
+    claims_of(alloc, &book, &wanted, digest)
+}
+
+/// Makes a table of all claims, and one of those that are wanted.
+fn claims_of(
+    alloc: Global,
+    book: &Book,
+    wanted: &Wanted,
+    digest: &mut Digest,
+) -> Result<(), Memory> {
     take(
-        claims_text(alloc, Vec::new(alloc), &book, &Wanted::all()),
+        claims_text(alloc, Vec::new(alloc), book, &Wanted::all()),
         digest,
     )?;
-    take(claims_text(alloc, Vec::new(alloc), &book, &wanted), digest)
+    take(claims_text(alloc, Vec::new(alloc), book, wanted), digest)
 }
 
 /// Makes a table of the works of a register.
@@ -76,11 +86,21 @@ fn history(
         work: Some(chance.below(size / 4).saturating_add(1)),
         ..Wanted::all()
     };
+    history_of(alloc, &book, &wanted, digest)
+}
+
+/// Makes a table of the whole history, and one of the entries that are wanted.
+fn history_of(
+    alloc: Global,
+    book: &Book,
+    wanted: &Wanted,
+    digest: &mut Digest,
+) -> Result<(), Memory> {
     take(
-        history_text(alloc, Vec::new(alloc), &book, &Wanted::all()),
+        history_text(alloc, Vec::new(alloc), book, &Wanted::all()),
         digest,
     )?;
-    take(history_text(alloc, Vec::new(alloc), &book, &wanted), digest)
+    take(history_text(alloc, Vec::new(alloc), book, wanted), digest)
 }
 
 /// Makes the summaries of a register.
@@ -108,20 +128,32 @@ fn take(table: Result<Vec<u8>, TableError>, digest: &mut Digest) -> Result<(), M
 /// The book that is read from a register of `size` entries.
 fn new_book_read(alloc: Global, size: u32, chance: &mut Chance) -> Result<Book, Memory> {
     let register = new_register(alloc, size, chance)?;
-    read_book(alloc, &mut Feed::new(&register, CHUNK, None)).map_err(|_| Memory)
+    book_of(alloc, &register)
 }
 
 /// A register of `size` entries: new works, revisions, duplicates, conflicts and rejections, in no order of their keys.
 fn new_register(alloc: Global, size: u32, chance: &mut Chance) -> Result<Vec<u8>, Memory> {
     let mut book = new_book(alloc);
     for _ in 0..size {
-        if let Some(call) = new_call(alloc, size, chance)? {
-            if book.apply(1, call).is_err() {
-                return Err(Memory);
-            }
-        }
+        apply_call(alloc, size, chance, &mut book)?;
     }
     register_of(alloc, &book, &mut Digest::new())
+}
+
+/// Hands a call in at the book of such a register, if its numbers make one.
+fn apply_call(
+    alloc: Global,
+    size: u32,
+    chance: &mut Chance,
+    book: &mut Book,
+) -> Result<(), Memory> {
+    let Some(call) = new_call(alloc, size, chance)? else {
+        return Ok(());
+    };
+    match book.apply(1, call) {
+        Ok(_) => Ok(()),
+        Err(_) => Err(Memory),
+    }
 }
 
 /// A call of one of some submitters, on one of the works of a register of `size` entries.

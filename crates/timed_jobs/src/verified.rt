@@ -3,12 +3,11 @@
 use crate::catalogue::{Order, Style, file, new_works};
 use crate::chance::Chance;
 use crate::digest::Digest;
-use crate::nights::{CHUNK, register_of};
-use crate::verifying::{Sent, spoil, verify_all, worked};
-use byte_streams::Feed;
+use crate::nights::register_of;
+use crate::verifying::{Sent, verify_twice, work_all};
 use cwr_desk::Book;
 use cwr_field::Memory;
-use register_store::{new_book, read_book};
+use register_store::new_book;
 use std::alloc::Global;
 
 /// Verifies files of one work and of thousands: new works, their revisions, catalogues that are sent again, and one
@@ -21,84 +20,89 @@ pub(crate) fn verified(
     digest: &mut Digest,
 ) -> Result<(), Memory> {
     let mut sent = Vec::new(alloc);
-    let book = new_book(alloc);
-    let book = small(alloc, size, chance, book, &mut sent)?;
-    let book = large(alloc, size, chance, book, &mut sent)?;
-    let book = again_and_again(alloc, size / 4, chance, book, &mut sent)?;
-    let register = register_of(alloc, &book.reopened(), digest)?;
-    let Ok(book) = read_book(alloc, &mut Feed::new(&register, CHUNK, None)) else {
-        return Err(Memory);
-    };
-    verify_all(alloc, &book, &sent, digest)?;
-    spoil(&mut sent, chance);
-    verify_all(alloc, &book, &sent, digest)
+    let register = register_of_all(alloc, size, chance, &mut sent, digest)?;
+    verify_twice(alloc, &register, &mut sent, chance, digest)
 }
 
-/// `size` files of one work each, of some submitters. `alloc` allocates, and `chance` gives the numbers. The files are
-/// worked into `book`, and put behind `sent` with their acknowledgements.
-fn small(
+/// Works all files, and returns the register that they leave. `alloc` allocates, `size` sets the number of works, and
+/// `chance` gives the numbers. The files are put in `sent` with their acknowledgements, and `digest` takes the
+/// register.
+fn register_of_all(
     alloc: Global,
     size: u32,
     chance: &mut Chance,
-    mut book: Book,
     sent: &mut Vec<Sent>,
-) -> Result<Book, Memory> {
+    digest: &mut Digest,
+) -> Result<Vec<u8>, Memory> {
+    let small = single_works(alloc, size, chance)?;
+    let large = catalogues(alloc, size, chance)?;
+    let revisions = revisions(alloc, size / 4, chance)?;
+    let book = work_all(alloc, new_book(alloc), small, sent)?;
+    let book = work_all(alloc, book, large, sent)?;
+    let book = work_revisions(alloc, book, revisions, sent)?;
+    register_of(alloc, &book.reopened(), digest)
+}
+
+/// `size` files of one work each, of some submitters.
+fn single_works(alloc: Global, size: u32, chance: &mut Chance) -> Result<Vec<Vec<u8>>, Memory> {
+    let mut files = Vec::new(alloc);
     for number in 0..size {
         let order = new_works(Style::Shared, number % 50, chance.below(size), 1);
-        let text = file(alloc, chance, &order)?;
-        book = worked(alloc, book, text, sent)?;
+        files.push(file(alloc, chance, &order)?)?;
     }
-    Ok(book)
+    Ok(files)
 }
 
-/// Three catalogues, each sent, sent again as it is, and then revised. `alloc` allocates, `size` sets the number of
-/// works, and `chance` gives the numbers. The files are worked into `book`, and put behind `sent` with their
-/// acknowledgements.
-fn large(
-    alloc: Global,
-    size: u32,
-    chance: &mut Chance,
-    mut book: Book,
-    sent: &mut Vec<Sent>,
-) -> Result<Book, Memory> {
+/// Three catalogues, each sent, sent again as it is, and then revised.
+fn catalogues(alloc: Global, size: u32, chance: &mut Chance) -> Result<Vec<Vec<u8>>, Memory> {
+    let mut files = Vec::new(alloc);
     for number in 0..3u32 {
         let submitter = 100 + number;
         let order = new_works(Style::Shared, submitter, 1_000_000, size.saturating_mul(2));
         let text = file(alloc, chance, &order)?;
-        let again = text.clone()?;
-        book = worked(alloc, book, text, sent)?;
-        book = worked(alloc, book, again, sent)?;
+        files.push(text.clone()?)?;
+        files.push(text)?;
         let revised = Order {
             kind: b"REV",
             ..order
         };
-        let text = file(alloc, chance, &revised)?;
-        book = worked(alloc, book, text, sent)?;
+        files.push(file(alloc, chance, &revised)?)?;
     }
-    Ok(book)
+    Ok(files)
 }
 
-/// `files` files of one work, the last ones in front. `alloc` allocates, and `chance` gives the numbers. The files are
-/// worked into `book`, and put in `sent` with their acknowledgements.
-fn again_and_again(
-    alloc: Global,
-    files: u32,
-    chance: &mut Chance,
-    mut book: Book,
-    sent: &mut Vec<Sent>,
-) -> Result<Book, Memory> {
-    let mut revisions = Vec::new(alloc);
-    for _ in 0..files {
+/// `count` files of one work: the first registers it, and the others are its revisions.
+fn revisions(alloc: Global, count: u32, chance: &mut Chance) -> Result<Vec<Vec<u8>>, Memory> {
+    let mut files = Vec::new(alloc);
+    for _ in 0..count {
         let order = Order {
             kind: b"REV",
             ..new_works(Style::Thin, 200, 2_000_000, 1)
         };
-        let text = file(alloc, chance, &order)?;
-        book = worked(alloc, book, text, &mut revisions)?;
+        files.push(file(alloc, chance, &order)?)?;
     }
-    revisions.reverse();
-    for revision in revisions {
-        sent.push(revision)?;
-    }
+    Ok(files)
+}
+
+/// Works files one after the other at a book, and puts them with their acknowledgements behind those that were sent,
+/// the last ones in front.
+fn work_revisions(
+    alloc: Global,
+    book: Book,
+    files: Vec<Vec<u8>>,
+    sent: &mut Vec<Sent>,
+) -> Result<Book, Memory> {
+    let mut last = Vec::new(alloc);
+    let book = work_all(alloc, book, files, &mut last)?;
+    push_reversed(sent, last)?;
     Ok(book)
+}
+
+/// Puts these behind those that were sent, the last ones in front.
+fn push_reversed(sent: &mut Vec<Sent>, mut last: Vec<Sent>) -> Result<(), Memory> {
+    last.reverse();
+    for one in last {
+        sent.push(one)?;
+    }
+    Ok(())
 }

@@ -5,12 +5,12 @@ ghost use Rattle.std.specs.Prelude.{◌≡◌, IfOk, false};
 use crate::catalogue::{Style, file, new_works};
 use crate::chance::Chance;
 use crate::digest::Digest;
-use crate::nights::{CHUNK, register_of, stamp};
+use crate::nights::{CHUNK, book_of, register_of, stamp};
 use byte_streams::{Feed, Spool};
 use cwr_desk::{Book, Job, work_alone};
 use cwr_field::Memory;
 use cwr_verify::{SentFile, VerifyError, verify};
-use register_store::{new_book, read_book};
+use register_store::new_book;
 use std::alloc::Global;
 
 /// A file that was sent, and its acknowledgement.
@@ -25,25 +25,29 @@ pub(crate) struct Sent {
 pub(crate) fn verifying(alloc: Global, size: u32, chance: &mut Chance) -> Result<Digest, Memory> {
     let mut digest = Digest::new();
     let mut sent = Vec::new(alloc);
-    let book = year(alloc, size, chance, &mut sent)?;
-    let register = register_of(alloc, &book, &mut digest)?;
-    let Ok(book) = read_book(alloc, &mut Feed::new(&register, CHUNK, None)) else {
-        return Err(Memory);
-    };
-    verify_all(alloc, &book, &sent, &mut digest)?;
-    spoil(&mut sent, chance);
-    verify_all(alloc, &book, &sent, &mut digest)?;
+    let register = register_of_year(alloc, size, chance, &mut sent, &mut digest)?;
+    verify_twice(alloc, &register, &mut sent, chance, &mut digest)?;
     Ok(digest)
 }
 
-/// Works `size` files of a hundred works one after the other.
-fn year(
+/// Works the files of a year, and returns the register that they leave. `alloc` allocates, `size` is the number of
+/// files, and `chance` gives the numbers. The files are put in `sent` with their acknowledgements, and `digest` takes
+/// the register.
+fn register_of_year(
     alloc: Global,
     size: u32,
     chance: &mut Chance,
     sent: &mut Vec<Sent>,
-) -> Result<Book, Memory> {
-    let mut book = new_book(alloc);
+    digest: &mut Digest,
+) -> Result<Vec<u8>, Memory> {
+    let files = year(alloc, size, chance)?;
+    let book = work_all(alloc, new_book(alloc), files, sent)?;
+    register_of(alloc, &book.reopened(), digest)
+}
+
+/// `size` files of a hundred works.
+fn year(alloc: Global, size: u32, chance: &mut Chance) -> Result<Vec<Vec<u8>>, Memory> {
+    let mut files = Vec::new(alloc);
     for number in 0..size {
         let style = if number % 4 == 3 {
             Style::Shared
@@ -52,19 +56,26 @@ fn year(
         };
         let first = chance.below(20).saturating_mul(50_000);
         let order = new_works(style, number % 300, first.saturating_add(number), 100);
-        let text = file(alloc, chance, &order)?;
+        files.push(file(alloc, chance, &order)?)?;
+    }
+    Ok(files)
+}
+
+/// Works files one after the other at a book, and puts each with its acknowledgement behind those that were sent.
+pub(crate) fn work_all(
+    alloc: Global,
+    mut book: Book,
+    files: Vec<Vec<u8>>,
+    sent: &mut Vec<Sent>,
+) -> Result<Book, Memory> {
+    for text in files {
         book = worked(alloc, book, text, sent)?;
     }
-    Ok(book.reopened())
+    Ok(book)
 }
 
 /// Works a file at a book, and puts it with its acknowledgement behind those that were sent.
-pub(crate) fn worked(
-    alloc: Global,
-    book: Book,
-    text: Vec<u8>,
-    sent: &mut Vec<Sent>,
-) -> Result<Book, Memory> {
+fn worked(alloc: Global, book: Book, text: Vec<u8>, sent: &mut Vec<Sent>) -> Result<Book, Memory> {
     let (book, acknowledgement) = worked_alone(alloc, book, &text)?;
     sent.push(Sent {
         text,
@@ -89,8 +100,24 @@ fn spool_job<'a>(alloc: Global, text: &'a [u8]) -> Job<Feed<'a>, Spool>
     }
 }
 
+/// Verifies all files against the book of a register, and once more with one changed acknowledgement. `alloc`
+/// allocates, and the book is that of `register`. `sent` has the files, `chance` says which acknowledgement is changed,
+/// and `digest` takes the results.
+pub(crate) fn verify_twice(
+    alloc: Global,
+    register: &[u8],
+    sent: &mut Vec<Sent>,
+    chance: &mut Chance,
+    digest: &mut Digest,
+) -> Result<(), Memory> {
+    let book = book_of(alloc, register)?;
+    verify_all(alloc, &book, sent, digest)?;
+    spoil(sent, chance);
+    verify_all(alloc, &book, sent, digest)
+}
+
 /// Changes a byte of one of the last acknowledgements.
-pub(crate) fn spoil(sent: &mut Vec<Sent>, chance: &mut Chance) {
+fn spoil(sent: &mut Vec<Sent>, chance: &mut Chance) {
     let count = sent.len();
     let back = 1 + chance.below(5) as usize;
     if back <= count {
@@ -103,7 +130,7 @@ pub(crate) fn spoil(sent: &mut Vec<Sent>, chance: &mut Chance) {
 }
 
 /// Verifies all files, and takes the entries that answer them, or what does not fit.
-pub(crate) fn verify_all(
+fn verify_all(
     alloc: Global,
     book: &Book,
     sent: &[Sent],
