@@ -143,8 +143,9 @@ fn expect_too_long(run: &Run<Endless, Room>) -> Result<(), Fail> {
 /// A run of that job alone, in turn, into an empty book.
 fn run_endless(alloc: Global) -> Result<Run<Endless, Room>, Fail> {
     let stamp = stamp()?;
+    let job = endless_job(alloc)?;
     let mut jobs = Vec::new(alloc);
-    jobs.push(endless_job(alloc)?)?;
+    jobs.push(job)?;
     match serve_in_turn(alloc, jobs, Book::new(alloc, 100), &stamp) {
         Ok(run) => Ok(run),
         Err(_) => Err(Fail::new("memory")),

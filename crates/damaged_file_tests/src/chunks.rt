@@ -67,12 +67,13 @@ impl Source for Cut<'_> {
 
 /// The plain file in three pieces is acknowledged.
 fn expect_chunks(alloc: Global, chunks: [&[u8]; 3], written: &[u8]) -> Result<(), Fail> {
+    let stamp = stamp()?;
     let mut reader = Cut {
         chunks,
         reads: ReadCount::zero(),
     };
     let mut writer = Room::new(alloc, written.len(), true)?;
-    let end = acknowledge(alloc, &mut reader, &mut writer, &stamp()?);
+    let end = acknowledge(alloc, &mut reader, &mut writer, &stamp);
     let [first, second, _] = chunks;
     let cuts = (first.len(), second.len());
     same(

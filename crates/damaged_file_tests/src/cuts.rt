@@ -31,9 +31,10 @@ fn faults(all: usize) -> [(usize, FileOutcome); 9] {
 
 /// How a file ends, worked alone.
 fn end_of(alloc: Global, bytes: &[u8]) -> Result<FileOutcome, Fail> {
+    let stamp = stamp()?;
     let mut reader = Feed::new(bytes, 4096, None);
     let mut writer = Room::new(alloc, 425, true)?;
-    Ok(acknowledge(alloc, &mut reader, &mut writer, &stamp()?))
+    Ok(acknowledge(alloc, &mut reader, &mut writer, &stamp))
 }
 
 /// What remains is refused, in each way for the same fault: that of the list, if it is in the list.

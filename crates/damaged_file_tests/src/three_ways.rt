@@ -1,14 +1,16 @@
 //! One file, from a reader to a writer, alone, in turn and at the desk.
-ghost use Rattle.std.specs.Prelude.{◌≡◌, IfOk, false};
+ghost use Rattle.std.specs.Prelude.{◌≡◌, ◌<◌, All, IfOk, false, vec_len};
 
 use byte_streams::{Feed, Room};
-use cwr_desk::{Book, FileOutcome, Job, OpenGate, Reply, acknowledge, serve, serve_in_turn};
+use cwr_desk::{
+    Book, FileOutcome, Job, OpenGate, Reply, ServeRefused, acknowledge, serve, serve_in_turn,
+};
 use std::alloc::Global;
 use std::sync::Wait;
 use std::test::Fail;
 use std::thread::Threads;
 use test_files::{same, same_bytes, stamp};
-use test_jobs::{accepted, expect_run};
+use test_jobs::{MemoryRun, expect_run};
 
 type MemoryJob<'a> = Job<Feed<'a>, Room>;
 
@@ -76,23 +78,44 @@ fn job<'a>(alloc: Global, ends: Ends<'a>) -> Result<MemoryJob<'a>, Fail>
     })
 }
 
+/// The one job of a run.
+fn jobs<'a>(alloc: Global, ends: Ends<'a>) -> Result<Vec<MemoryJob<'a>>, Fail>
+    ensures few { IfOk result (λ jobs. vec_len jobs < 64) }
+    ensures works { IfOk result (λ jobs. All (λ j. (j.reader.has_failed ≡ false) × (j.writer.has_failed ≡ false)) jobs.items) }
+{
+    let job = job(alloc, ends)?;
+    let mut jobs = Vec::new(alloc);
+    jobs.push(job)?;
+    Ok(jobs)
+}
+
 /// Works a file alone.
 pub(crate) fn expect_alone(alloc: Global, ends: Ends, wanted: Wanted) -> Result<(), Fail> {
+    let stamp = stamp()?;
     let mut reader = reader(ends);
     let mut writer = Room::new(alloc, ends.room, ends.fails)?;
-    let outcome = acknowledge(alloc, &mut reader, &mut writer, &stamp()?);
+    let outcome = acknowledge(alloc, &mut reader, &mut writer, &stamp);
     same("how the file ended", &outcome, &wanted.end)?;
     same_bytes("what was written", writer.bytes(), wanted.written)
 }
 
+/// How the run of one job must have ended.
+fn expect_served(
+    ended: Result<MemoryRun, ServeRefused<Feed, Room>>,
+    wanted: Wanted,
+) -> Result<(), Fail> {
+    match ended {
+        Ok(run) => expect_run(&run, wanted.end, wanted.written, wanted.replies),
+        Err(_) => Err(Fail::new("memory")),
+    }
+}
+
 /// Works a file in turn, into an empty book.
 fn expect_in_turn(alloc: Global, ends: Ends, wanted: Wanted) -> Result<(), Fail> {
-    let mut jobs = Vec::new(alloc);
-    jobs.push(job(alloc, ends)?)?;
-    let run = serve_in_turn(alloc, jobs, Book::new(alloc, 100), &stamp()?)
-        .ok()
-        .ok_or("memory")?;
-    expect_run(&run, wanted.end, wanted.written, wanted.replies)
+    let stamp = stamp()?;
+    let jobs = jobs(alloc, ends)?;
+    let ended = serve_in_turn(alloc, jobs, Book::new(alloc, 100), &stamp);
+    expect_served(ended, wanted)
 }
 
 /// Works a file at the desk, into an empty book.
@@ -102,12 +125,10 @@ fn expect_at_desk<T: Threads + Wait + Sync>(
     ends: Ends,
     wanted: Wanted,
 ) -> Result<(), Fail> {
-    let mut jobs = Vec::new(alloc);
-    jobs.push(job(alloc, ends)?)?;
-    let run = serve(rt, alloc, jobs, Book::new(alloc, 100), &stamp()?, &OpenGate)
-        .ok()
-        .ok_or("memory")?;
-    expect_run(&run, wanted.end, wanted.written, wanted.replies)
+    let stamp = stamp()?;
+    let jobs = jobs(alloc, ends)?;
+    let ended = serve(rt, alloc, jobs, Book::new(alloc, 100), &stamp, &OpenGate);
+    expect_served(ended, wanted)
 }
 
 /// Works a file alone, in turn and at the desk.

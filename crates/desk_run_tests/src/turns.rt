@@ -8,8 +8,8 @@ use test_files::{
     one_work, plain_file, same, same_bytes, three_works,
 };
 use test_jobs::{
-    ACKED, MemoryRun, accepted, expect_ends, expect_history, expect_run, expect_written,
-    run_in_turn, unread, whole, with_room,
+    ACKED, MemoryRun, accepted, all_with_room, expect_ends, expect_history, expect_run,
+    expect_written, run_in_turn, unread, whole, with_room,
 };
 
 /// A run without files leaves no outcome and no job, and the book as it was: empty, with room for 100 entries.
@@ -194,10 +194,7 @@ fn files_of(alloc: Global, all: &[Filed]) -> Result<Vec<Vec<u8>>, Fail> {
 
 /// Works these files in turn, into an empty book of 100 entries.
 fn run_all(alloc: Global, files: &[Vec<u8>]) -> Result<MemoryRun<'_>, Fail> {
-    let mut inputs = Vec::new(alloc);
-    for file in files {
-        inputs.push(whole(file))?;
-    }
+    let inputs = all_with_room(alloc, files, 1000)?;
     run_in_turn(alloc, Book::new(alloc, 100), &inputs)
 }
 

@@ -1,6 +1,7 @@
 //! Calls to a book.
 
-use failing_alloc::{Ended, FailingAlloc, Sweep, answered, refuse_each, refused};
+use crate::at_book::{AtBook, BookFirst, Made};
+use failing_alloc::{Ended, FailingAlloc, answered, refuse_each, refused};
 use std::test::Fail;
 use test_books::{CALLS, call, gives_back, holds, reply_to};
 use test_files::same;
@@ -58,16 +59,20 @@ fn apply_all<'m>(memory: &'m FailingAlloc, book: &mut Book<&'m FailingAlloc>) ->
 }
 
 /// All calls to one book.
+#[derive(Drop)]
 struct Apply;
 
-impl Sweep for Apply {
-    fn ends(&self, memory: &FailingAlloc) -> Ended {
-        let mut book = Book::new(memory, 100);
-        apply_all(memory, &mut book)
+impl AtBook for Apply {
+    fn made<'m>(&self, memory: &'m FailingAlloc) -> Made<'m> {
+        Ok(Some(Book::new(memory, 100)))
+    }
+
+    fn ends_at<'m>(&self, memory: &'m FailingAlloc, book: &mut Book<&'m FailingAlloc>) -> Ended {
+        apply_all(memory, book)
     }
 }
 
 #[test]
 fn calls_to_a_book(rt: HostRuntime) -> Result<(), Fail> {
-    refuse_each(rt.alloc(), &Apply)
+    refuse_each(rt.alloc(), &BookFirst(Apply))
 }

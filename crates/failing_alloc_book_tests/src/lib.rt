@@ -3,6 +3,8 @@
 #![tactic(auto)]
 
 #[cfg(test)]
+mod at_book;
+#[cfg(test)]
 mod calls;
 #[cfg(test)]
 mod registers;

@@ -1,5 +1,6 @@
 //! Registers that are written, read and audited.
 
+use crate::at_book::{AtBook, BookFirst, Made};
 use failing_alloc::{Ended, FailingAlloc, Sweep, answered, refuse_each, refused};
 use std::alloc::Global;
 use std::test::Fail;
@@ -13,12 +14,13 @@ const TOLD: u16 = 12;
 #[derive(Drop)]
 struct WriteRegister<'a>(&'a [u8]);
 
-impl Sweep for WriteRegister<'_> {
-    fn ends(&self, memory: &FailingAlloc) -> Ended {
-        let Some(book) = book_of(memory, TOLD)? else {
-            return Ok(true);
-        };
-        written(memory, &book, self.0)
+impl AtBook for WriteRegister<'_> {
+    fn made<'m>(&self, memory: &'m FailingAlloc) -> Made<'m> {
+        book_of(memory, TOLD)
+    }
+
+    fn ends_at<'m>(&self, memory: &'m FailingAlloc, book: &mut Book<&'m FailingAlloc>) -> Ended {
+        written(memory, book, self.0)
     }
 }
 
@@ -38,12 +40,13 @@ fn written<'m>(memory: &'m FailingAlloc, book: &Book<&'m FailingAlloc>, text: &[
 #[derive(Drop)]
 struct WriteChunks<'a>(&'a [u8]);
 
-impl Sweep for WriteChunks<'_> {
-    fn ends(&self, memory: &FailingAlloc) -> Ended {
-        let Some(book) = book_of(memory, TOLD)? else {
-            return Ok(true);
-        };
-        written_in_chunks(memory, &book, self.0)
+impl AtBook for WriteChunks<'_> {
+    fn made<'m>(&self, memory: &'m FailingAlloc) -> Made<'m> {
+        book_of(memory, TOLD)
+    }
+
+    fn ends_at<'m>(&self, memory: &'m FailingAlloc, book: &mut Book<&'m FailingAlloc>) -> Ended {
+        written_in_chunks(memory, book, self.0)
     }
 }
 
@@ -65,13 +68,17 @@ fn written_in_chunks<'m>(
 #[derive(Drop)]
 struct ReadRegister<'a>(&'a [u8]);
 
-impl Sweep for ReadRegister<'_> {
-    fn ends(&self, memory: &FailingAlloc) -> Ended {
+impl AtBook for ReadRegister<'_> {
+    fn made<'m>(&self, memory: &'m FailingAlloc) -> Made<'m> {
         match read_register(memory, self.0, 100) {
-            Ok(book) => answered(expect_told(&book)),
-            Err(RegisterRefusal::Memory) => Ok(true),
+            Ok(book) => Ok(Some(book)),
+            Err(RegisterRefusal::Memory) => Ok(None),
             Err(RegisterRefusal::Fault { .. }) => Err(Fail::new("a fault")),
         }
+    }
+
+    fn ends_at<'m>(&self, _memory: &'m FailingAlloc, book: &mut Book<&'m FailingAlloc>) -> Ended {
+        answered(expect_told(book))
     }
 }
 
@@ -97,9 +104,9 @@ fn register_of(alloc: Global) -> Result<Vec<u8>, Fail> {
 /// Refuses each request of what writes, reads and audits this register.
 fn refuse_registers(alloc: Global, text: &[u8]) -> Result<(), Fail> {
     same_bytes("line 1", text.get(..12).unwrap_or(&[]), b"REG00000012\n")?;
-    refuse_each(alloc, &WriteRegister(text))?;
-    refuse_each(alloc, &WriteChunks(text))?;
-    refuse_each(alloc, &ReadRegister(text))?;
+    refuse_each(alloc, &BookFirst(WriteRegister(text)))?;
+    refuse_each(alloc, &BookFirst(WriteChunks(text)))?;
+    refuse_each(alloc, &BookFirst(ReadRegister(text)))?;
     refuse_each(alloc, &Audit(text))
 }
 

@@ -1,6 +1,7 @@
 //! Summaries of registers.
 
-use failing_alloc::{Ended, FailingAlloc, Sweep, answered, refuse_each, refused};
+use crate::at_book::{AtBook, BookFirst, Made};
+use failing_alloc::{Ended, FailingAlloc, answered, refuse_each, refused};
 use html_pages::{PageError, summary_page};
 use register_tables::{SubmitterEntries, most_entries};
 use std::alloc::Global;
@@ -36,7 +37,7 @@ const END: &[u8] =
 </html>\n";
 
 /// The book of the register; `None` if an allocation failed.
-fn read<'m>(memory: &'m FailingAlloc) -> Result<Option<Book<&'m FailingAlloc>>, Fail> {
+fn read<'m>(memory: &'m FailingAlloc) -> Made<'m> {
     match read_register(memory, REGISTER, 100) {
         Ok(book) => Ok(Some(book)),
         Err(RegisterRefusal::Memory) => Ok(None),
@@ -44,14 +45,16 @@ fn read<'m>(memory: &'m FailingAlloc) -> Result<Option<Book<&'m FailingAlloc>>, 
     }
 }
 
+#[derive(Drop)]
 struct MostEntries;
 
-impl Sweep for MostEntries {
-    fn ends(&self, memory: &FailingAlloc) -> Ended {
-        let Some(book) = read(memory)? else {
-            return Ok(true);
-        };
-        match most_entries(memory, &book) {
+impl AtBook for MostEntries {
+    fn made<'m>(&self, memory: &'m FailingAlloc) -> Made<'m> {
+        read(memory)
+    }
+
+    fn ends_at<'m>(&self, memory: &'m FailingAlloc, book: &mut Book<&'m FailingAlloc>) -> Ended {
+        match most_entries(memory, book) {
             Ok(most) => answered(same_lists("submitters", &most, &both_submitters())),
             Err(_) => refused(same("entries", &book.len(), &3)),
         }
@@ -79,13 +82,14 @@ struct SummaryPage<'a> {
     page: &'a [u8],
 }
 
-impl Sweep for SummaryPage<'_> {
-    fn ends(&self, memory: &FailingAlloc) -> Ended {
-        let Some(book) = read(memory)? else {
-            return Ok(true);
-        };
+impl AtBook for SummaryPage<'_> {
+    fn made<'m>(&self, memory: &'m FailingAlloc) -> Made<'m> {
+        read(memory)
+    }
+
+    fn ends_at<'m>(&self, memory: &'m FailingAlloc, book: &mut Book<&'m FailingAlloc>) -> Ended {
         let mut text = Vec::new(self.alloc);
-        match summary_page(memory, &mut text, NAME, &book) {
+        match summary_page(memory, &mut text, NAME, book) {
             Ok(_) => answered(same_bytes("page", &text, self.page)),
             Err(PageError::Memory) => refused(same("what is written", &text.len(), &0)),
             Err(PageError::Write) => Err(Fail::new("a failed write")),
@@ -95,27 +99,37 @@ impl Sweep for SummaryPage<'_> {
 
 /// The page of the register.
 fn page_of(alloc: Global) -> Result<Vec<u8>, Fail> {
-    let Ok(book) = read_register(alloc, REGISTER, 100) else {
-        return Err(Fail::new("the register is refused"));
-    };
-    match summary_page(alloc, Vec::new(alloc), NAME, &book) {
+    match read_register(alloc, REGISTER, 100) {
+        Ok(book) => page_of_book(alloc, &book),
+        Err(_) => Err(Fail::new("the register is refused")),
+    }
+}
+
+/// The page of its book.
+fn page_of_book(alloc: Global, book: &Book) -> Result<Vec<u8>, Fail> {
+    match summary_page(alloc, Vec::new(alloc), NAME, book) {
         Ok(page) => Ok(page),
         Err(_) => Err(Fail::new("the page is not written")),
     }
 }
 
+/// Its begin, its heading and its end.
+fn expect_parts(page: &[u8]) -> Result<(), Fail> {
+    let has = page.windows(HEADING.len()).any(|part| part == HEADING);
+    same("whether it has the heading", &has, &true)?;
+    same("its begin", &page.starts_with(b"<!DOCTYPE html>\n"), &true)?;
+    same("its end", &page.ends_with(END), &true)
+}
+
 #[test]
 fn submitters_with_the_most_entries(rt: HostRuntime) -> Result<(), Fail> {
-    refuse_each(rt.alloc(), &MostEntries)
+    refuse_each(rt.alloc(), &BookFirst(MostEntries))
 }
 
 #[test]
 fn pages_of_summaries(rt: HostRuntime) -> Result<(), Fail> {
     let alloc = rt.alloc();
     let page = page_of(alloc)?;
-    let has = page.windows(HEADING.len()).any(|part| part == HEADING);
-    same("whether it has the heading", &has, &true)?;
-    same("its begin", &page.starts_with(b"<!DOCTYPE html>\n"), &true)?;
-    same("its end", &page.ends_with(END), &true)?;
-    refuse_each(alloc, &SummaryPage { alloc, page: &page })
+    expect_parts(&page)?;
+    refuse_each(alloc, &BookFirst(SummaryPage { alloc, page: &page }))
 }

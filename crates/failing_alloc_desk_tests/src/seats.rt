@@ -1,5 +1,5 @@
 //! Desks that are opened, and turns of their seats.
-ghost use Rattle.std.specs.Prelude.{◌≡◌, ◌≢◌, true};
+ghost use Rattle.std.specs.Prelude.{◌≡◌, ◌≢◌, IfOk, true};
 ghost use Rattle.work_registry.specs.Replay.{is_opening};
 
 use failing_alloc::{Ended, FailingAlloc, Sweep, refuse_each};
@@ -13,6 +13,16 @@ use test_files::same;
 /// The book must hold the first `count` calls, those after the first `before` of session 1.
 fn expect_book(book: &Book<&FailingAlloc>, before: u16, count: u16) -> Result<(), Fail> {
     holds(book, before, count)
+}
+
+/// The same book, which must have no entry but those of the opening.
+fn opening<'m>(book: Book<&'m FailingAlloc>) -> Result<Book<&'m FailingAlloc>, Fail>
+    ensures opening { IfOk result (λ b. is_opening b.history ≡ true) }
+{
+    if !book.is_opening() {
+        return Err(Fail::new("no opening"));
+    }
+    Ok(book)
 }
 
 /// Opens a desk for three seats with this book, and closes it.
@@ -35,19 +45,12 @@ fn handed_back<'m>(
     book: Book<&'m FailingAlloc>,
     works: u16,
 ) -> Result<Option<Book<&'m FailingAlloc>>, Fail> {
-    if !book.is_opening() {
-        return Err(Fail::new("no opening"));
-    }
-    match open_and_close(memory, book) {
-        Ok(book) => {
-            expect_book(&book, works, works)?;
-            Ok(None)
-        }
-        Err(OpenRefused { book }) => {
-            expect_book(&book, works, works)?;
-            Ok(Some(book))
-        }
-    }
+    let (book, is_refused) = match open_and_close(memory, opening(book)?) {
+        Ok(book) => (book, false),
+        Err(OpenRefused { book }) => (book, true),
+    };
+    expect_book(&book, works, works)?;
+    Ok(is_refused.then_some(book))
 }
 
 /// A desk over a book of a number of works.
@@ -197,6 +200,9 @@ fn turn_inside<'m>(
     (inside.leave(desk), taken)
 }
 
+/// The book after a call inside a turn, and the result of the call.
+type Applied<'m> = (Book<&'m FailingAlloc>, Taken);
+
 /// The result of a call inside a turn of the one seat of a desk, and the book then; `None` if the desk could not be
 /// allocated. `rt` ends the test if the turn does not come, `memory` allocates, and the desk is opened with `book`.
 /// `call` is handed in, and `number` is its number, from 1.
@@ -206,7 +212,7 @@ fn applied_inside<'m>(
     book: Book<&'m FailingAlloc>,
     call: Call<&'m FailingAlloc>,
     number: u16,
-) -> Option<(Book<&'m FailingAlloc>, Taken)>
+) -> Option<Applied<'m>>
     requires opening { is_opening book.history ≡ true }
 {
     let (desk, mut opening) = Desk::open(memory, book, 2).ok()?;
@@ -225,18 +231,36 @@ struct InsideApply<'a, T: Abort> {
 
 impl<T: Abort> Sweep for InsideApply<'_, T> {
     fn ends(&self, memory: &FailingAlloc) -> Ended {
-        let number = self.works.saturating_add(1);
-        let Some(book) = book_of(memory, self.works)? else {
-            return Ok(true);
-        };
-        if !book.is_opening() {
-            return Err(Fail::new("no opening"));
+        match book_of(memory, self.works)? {
+            Some(book) => self.ends_at(memory, opening(book)?),
+            None => Ok(true),
         }
+    }
+}
+
+impl<T: Abort> InsideApply<'_, T> {
+    /// How the call ended, made at this book of its works.
+    fn ends_at<'m>(&self, memory: &'m FailingAlloc, book: Book<&'m FailingAlloc>) -> Ended
+        requires opening { is_opening book.history ≡ true }
+    {
+        let number = self.works.saturating_add(1);
+        match self.applied(memory, book, number)? {
+            Some((book, taken)) => is_taken_by(&book, taken, self.works, number),
+            None => Ok(true),
+        }
+    }
+
+    /// The result of the call with this number, and the book then; `None` if the desk could not be allocated.
+    fn applied<'m>(
+        &self,
+        memory: &'m FailingAlloc,
+        book: Book<&'m FailingAlloc>,
+        number: u16,
+    ) -> Result<Option<Applied<'m>>, Fail>
+        requires opening { is_opening book.history ≡ true }
+    {
         let call = call(memory, number)?;
-        let Some((book, taken)) = applied_inside(self.rt, memory, book, call, number) else {
-            return Ok(true);
-        };
-        is_taken_by(&book, taken, self.works, number)
+        Ok(applied_inside(self.rt, memory, book, call, number))
     }
 }
 
@@ -307,18 +331,51 @@ fn call_and_pass<'m, T: Wait + Abort>(
     (Pair { one, other }, taken)
 }
 
+/// Two calls that are handed in one after the other.
+#[derive(Drop)]
+struct TwoCalls<'m> {
+    one: Call<&'m FailingAlloc>,
+    other: Call<&'m FailingAlloc>,
+}
+
+/// The calls with this number, from 1, and the next one.
+fn two_calls(memory: &FailingAlloc, first: u16) -> Result<TwoCalls<'_>, Fail> {
+    let one = call(memory, first)?;
+    let other = call(memory, first.saturating_add(1))?;
+    Ok(TwoCalls { one, other })
+}
+
+/// Two calls of the one seat of a pair, and the result of each. `rt` waits, and ends the test if a turn fails. `pair`
+/// has both seats of `desk`, `calls` are handed in, and `first` is the number of the first, from 1.
+fn call_both<'m, T: Wait + Abort>(
+    rt: &T,
+    desk: &Desk<&'m FailingAlloc>,
+    pair: Pair<'m>,
+    calls: TwoCalls<'m>,
+    first: u16,
+) -> (Pair<'m>, (Taken, Taken))
+    requires one { pair.one.desk ≡ desk.now }
+    requires other { pair.other.desk ≡ desk.now }
+    ensures one { result.0.one.desk ≡ desk.now }
+    ensures other { result.0.other.desk ≡ desk.now }
+{
+    let TwoCalls { one, other } = calls;
+    let (pair, one_taken) = call_and_pass(rt, desk, pair, one, first);
+    let (pair, other_taken) = call_and_pass(rt, desk, pair, other, first.saturating_add(1));
+    (pair, (one_taken, other_taken))
+}
+
 /// What two calls of a seat leave: the book, the result of each call, and the turns that both seats have left.
 type Called<'m> = (Book<&'m FailingAlloc>, (Taken, Taken), (u32, u32));
 
 /// Two calls of one of two seats of a desk; `None` if the desk could not be allocated. `rt` waits, and ends the test if
-/// a turn fails. `memory` allocates, and the desk is opened with `book`. `call_one` and `call_two` are handed in, and
-/// `first` is the number of the first, from 1.
+/// a turn fails. `memory` allocates, and the desk is opened with `book`. `calls` are handed in, and `first` is the
+/// number of the first, from 1.
 fn called_twice<'m, T: Wait + Abort>(
     rt: &T,
     memory: &'m FailingAlloc,
     book: Book<&'m FailingAlloc>,
-    call_one: Call<&'m FailingAlloc>,
-    call_two: Call<&'m FailingAlloc>,
+    calls: TwoCalls<'m>,
     first: u16,
 ) -> Option<Called<'m>>
     requires opening { is_opening book.history ≡ true }
@@ -326,15 +383,12 @@ fn called_twice<'m, T: Wait + Abort>(
     let (desk, mut opening) = Desk::open(memory, book, 3).ok()?;
     let one = desk.split(&mut opening);
     let other = desk.split(&mut opening);
-    let pair = Pair { one, other };
-    let (pair, first_taken) = call_and_pass(rt, &desk, pair, call_one, first);
-    let second = first.saturating_add(1);
-    let (pair, second_taken) = call_and_pass(rt, &desk, pair, call_two, second);
+    let (pair, taken) = call_both(rt, &desk, Pair { one, other }, calls, first);
     let Pair { one, other } = pair;
     let left = (one.turns_left(), other.turns_left());
     desk.meet(&mut opening, one);
     desk.meet(&mut opening, other);
-    Some((desk.close(opening), (first_taken, second_taken), left))
+    Some((desk.close(opening), taken, left))
 }
 
 /// Whether one of the two calls was refused before it was taken. Both must have been taken, and each seat must have the
@@ -356,37 +410,49 @@ struct HandIn<'a, T: Wait + Abort> {
 
 impl<T: Wait + Abort> Sweep for HandIn<'_, T> {
     fn ends(&self, memory: &FailingAlloc) -> Ended {
-        let first = self.works.saturating_add(1);
-        let second = first.saturating_add(1);
-        let Some(book) = book_of(memory, self.works)? else {
-            return Ok(true);
-        };
-        if !book.is_opening() {
-            return Err(Fail::new("no opening"));
+        match book_of(memory, self.works)? {
+            Some(book) => self.ends_at(memory, opening(book)?),
+            None => Ok(true),
         }
-        let call_one = call(memory, first)?;
-        let call_two = call(memory, second)?;
-        let called = called_twice(self.rt, memory, book, call_one, call_two, first);
-        let Some((book, taken, left)) = called else {
-            return Ok(true);
-        };
-        are_both_taken(&book, taken, left, self.works, second)
     }
 }
 
-/// Two calls must have been taken after those of the opening. Returns whether one was refused before. `book` has the
-/// entries, `taken` is the result of each call, and `left` the turns that both seats have left. `works` is the number
-/// of calls of the opening, and `second` the number of the second call, from 1.
-fn are_both_taken(
-    book: &Book<&FailingAlloc>,
-    taken: (Taken, Taken),
-    left: (u32, u32),
-    works: u16,
-    second: u16,
-) -> Ended {
-    let is_refused = is_one_refused(taken, left)?;
-    expect_book(book, works, second)?;
-    Ok(is_refused)
+impl<T: Wait + Abort> HandIn<'_, T> {
+    /// How both calls ended, made at this book of their works.
+    fn ends_at<'m>(&self, memory: &'m FailingAlloc, book: Book<&'m FailingAlloc>) -> Ended
+        requires opening { is_opening book.history ≡ true }
+    {
+        match self.called(memory, book)? {
+            Some((book, taken, left)) => self.are_both_taken(&book, taken, left),
+            None => Ok(true),
+        }
+    }
+
+    /// What the two calls after those of the opening leave; `None` if the desk could not be allocated.
+    fn called<'m>(
+        &self,
+        memory: &'m FailingAlloc,
+        book: Book<&'m FailingAlloc>,
+    ) -> Result<Option<Called<'m>>, Fail>
+        requires opening { is_opening book.history ≡ true }
+    {
+        let first = self.works.saturating_add(1);
+        let calls = two_calls(memory, first)?;
+        Ok(called_twice(self.rt, memory, book, calls, first))
+    }
+
+    /// Two calls must have been taken after those of the opening. Returns whether one was refused before. `book` has
+    /// the entries, `taken` is the result of each call, and `left` the turns that both seats have left.
+    fn are_both_taken(
+        &self,
+        book: &Book<&FailingAlloc>,
+        taken: (Taken, Taken),
+        left: (u32, u32),
+    ) -> Ended {
+        let is_refused = is_one_refused(taken, left)?;
+        expect_book(book, self.works, self.works.saturating_add(2))?;
+        Ok(is_refused)
+    }
 }
 
 /// The turns that both seats must have left. The seat whose call was refused has taken one more than two, and the other

@@ -43,9 +43,10 @@ pub(crate) fn ended<'r>(
 /// A run, and whether it was refused at first.
 pub(crate) type Ran<'a, 'm> = (FailingAllocRun<'a, 'm>, bool);
 
-/// How a run ended. It may have been refused at first, or a job may have been stopped. A refused run has memory when it
-/// is run again, so that no job is stopped.
-pub(crate) fn end_at_last(is_refused: bool, is_stopped: bool) -> Ended {
+/// How a run ended. It may have been refused at first, or a job may have been stopped, as `end` says. A refused run has
+/// memory when it is run again, so that no job is stopped.
+pub(crate) fn end_at_last(is_refused: bool, end: Ended) -> Ended {
+    let is_stopped = end?;
     same("stopped, with memory", &(is_refused && is_stopped), &false)?;
     Ok(is_refused || is_stopped)
 }
@@ -95,22 +96,6 @@ fn run_of_one(alloc: Global, run: &FailingAllocRun) -> Ended {
     same("outcomes", &(run.outcomes.len(), run.jobs.len()), &(1, 1))?;
     let (outcome, written) = ended(run, 0)?;
     end_of_one(alloc, &run.book, &outcome, written)
-}
-
-#[derive(Drop)]
-struct InTurn<'a> {
-    alloc: Global,
-    stamp: Stamp,
-    file: &'a [u8],
-}
-
-impl Sweep for InTurn<'_> {
-    fn ends(&self, memory: &FailingAlloc) -> Ended {
-        match run_at_last(memory, self.alloc, &[self.file], &self.stamp)? {
-            Some((run, is_refused)) => end_at_last(is_refused, run_of_one(self.alloc, &run)?),
-            None => Ok(true),
-        }
-    }
 }
 
 /// What is decided on a file of three new works.
@@ -175,17 +160,30 @@ fn run_of_two(alloc: Global, run: &FailingAllocRun) -> Ended {
     Ok(is_first || is_second)
 }
 
+/// Files that are run in turn: one that holds a work twice, or one file twice.
 #[derive(Drop)]
-struct TwiceInTurn<'a> {
+struct InTurn<'a> {
     alloc: Global,
     stamp: Stamp,
-    file: &'a [u8],
+    files: &'a [&'a [u8]],
+    ghost few: { length files.now < 64 },
 }
 
-impl Sweep for TwiceInTurn<'_> {
+impl InTurn<'_> {
+    /// The end of their run.
+    fn end_of_run(&self, run: &FailingAllocRun) -> Ended {
+        if self.files.len() == 1 {
+            run_of_one(self.alloc, run)
+        } else {
+            run_of_two(self.alloc, run)
+        }
+    }
+}
+
+impl Sweep for InTurn<'_> {
     fn ends(&self, memory: &FailingAlloc) -> Ended {
-        match run_at_last(memory, self.alloc, &[self.file, self.file], &self.stamp)? {
-            Some((run, is_refused)) => end_at_last(is_refused, run_of_two(self.alloc, &run)?),
+        match run_at_last(memory, self.alloc, self.files, &self.stamp)? {
+            Some((run, is_refused)) => end_at_last(is_refused, self.end_of_run(&run)),
             None => Ok(true),
         }
     }
@@ -199,7 +197,7 @@ fn a_work_twice(rt: HostRuntime) -> Result<(), Fail> {
     let sweep = InTurn {
         alloc,
         stamp,
-        file: &file,
+        files: &[&file],
     };
     refuse_each(alloc, &sweep)
 }
@@ -209,10 +207,10 @@ fn a_file_twice(rt: HostRuntime) -> Result<(), Fail> {
     let alloc = rt.alloc();
     let stamp = stamp()?;
     let file = three_works(alloc)?;
-    let sweep = TwiceInTurn {
+    let sweep = InTurn {
         alloc,
         stamp,
-        file: &file,
+        files: &[&file, &file],
     };
     refuse_each(alloc, &sweep)
 }

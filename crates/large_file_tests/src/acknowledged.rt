@@ -11,9 +11,20 @@ use test_files::{
 
 /// Acknowledges a file: how it must end, and what must be written.
 fn expect(alloc: Global, input: &[u8], end: FileOutcome, written: &[u8]) -> Result<(), Fail> {
+    let stamp = stamp()?;
     let mut reader = Feed::new(input, 65_536, None);
     let mut writer = Room::new(alloc, written.len(), true)?;
-    let outcome = acknowledge(alloc, &mut reader, &mut writer, &stamp()?);
+    let outcome = acknowledge(alloc, &mut reader, &mut writer, &stamp);
+    expect_left(outcome, &writer, end, written)
+}
+
+/// A file ended like this, and this was written.
+fn expect_left(
+    outcome: FileOutcome,
+    writer: &Room,
+    end: FileOutcome,
+    written: &[u8],
+) -> Result<(), Fail> {
     same("how the file ended", &outcome, &end)?;
     same_bytes("what was written", writer.bytes(), written)
 }

@@ -54,8 +54,19 @@ fn expect_100_000(alloc: Global, run: &MemoryRun, register: &[u8]) -> Result<(),
 fn works_100_000_transactions(rt: HostRuntime) -> Result<(), Fail> {
     let alloc = rt.alloc();
     let files = two_files(alloc)?;
+    let register = register(alloc)?;
     let run = run_two(alloc, Book::new(alloc, 100_000), &files)?;
-    expect_100_000(alloc, &run, &register(alloc)?)
+    expect_100_000(alloc, &run, &register)
+}
+
+/// The first file was acknowledged, and the last transaction of the second was refused, since the book was full.
+fn expect_99_999(run: &MemoryRun) -> Result<(), Fail> {
+    let full = FileOutcome::Stopped {
+        handed: 49_999,
+        why: Why::Full,
+    };
+    expect_ends(run, &[WHOLE, full])?;
+    same("entries", &run.book.len(), &99_999)
 }
 
 /// The last transaction of both is one too many.
@@ -64,12 +75,7 @@ fn stops_at_the_last_of_100_000(rt: HostRuntime) -> Result<(), Fail> {
     let alloc = rt.alloc();
     let files = two_files(alloc)?;
     let run = run_two(alloc, Book::new(alloc, 99_999), &files)?;
-    let full = FileOutcome::Stopped {
-        handed: 49_999,
-        why: Why::Full,
-    };
-    expect_ends(&run, &[WHOLE, full])?;
-    same("entries", &run.book.len(), &99_999)
+    expect_99_999(&run)
 }
 
 /// A book has `entries` entries and this register.

@@ -38,12 +38,17 @@ impl Gate for AllCome {
     fn after(&self, _worker: u32, _index: u32) {}
 }
 
-/// The files of 40 works each, of the submitters 1 to 63.
+/// A file of 40 works of a submitter.
+fn file_of(alloc: Global, submitter: u32) -> Result<Vec<u8>, Fail> {
+    let sender = format!(in alloc; "{submitter:09}")?;
+    many_works(alloc, &sender, WORKS)
+}
+
+/// The files of the submitters 1 to 63.
 fn files(alloc: Global) -> Result<Vec<Vec<u8>>, Fail> {
     let mut files = Vec::new(alloc);
     for submitter in 1..64u32 {
-        let sender = format!(in alloc; "{submitter:09}")?;
-        files.push(many_works(alloc, &sender, WORKS)?)?;
+        files.push(file_of(alloc, submitter)?)?;
     }
     Ok(files)
 }

@@ -235,6 +235,19 @@ fn run_freely<'a>(alloc: Global, files: &'a [Vec<u8>]) -> Result<MemoryRun<'a>, 
     run_in_turn(alloc, Book::new(alloc, 4000), &inputs)
 }
 
+/// A run must have left what the same files leave in turn.
+fn expect_as_freely(alloc: Global, files: &[Vec<u8>], run: &WaitingRun) -> Result<(), Fail> {
+    let wanted = run_freely(alloc, files)?;
+    expect_same_runs(alloc, run, &wanted)
+}
+
+/// Two runs must have left the same.
+fn expect_same_runs(alloc: Global, run: &WaitingRun, wanted: &MemoryRun) -> Result<(), Fail> {
+    same_lists("how the jobs ended", &run.outcomes, &wanted.outcomes)?;
+    expect_same_bytes(run, wanted)?;
+    expect_same_books(alloc, "the book", &run.book, &wanted.book)
+}
+
 /// Files worked in their order must leave what they leave in turn, whoever waits for whom.
 fn expect_beside<T: Threads + Sync>(
     rt: &T,
@@ -246,10 +259,7 @@ fn expect_beside<T: Threads + Sync>(
 {
     let counted = AtomicU64::new(0);
     let run = run_waiting(rt, alloc, files, waits, &counted)?;
-    let wanted = run_freely(alloc, files)?;
-    same_lists("how the jobs ended", &run.outcomes, &wanted.outcomes)?;
-    expect_same_bytes(&run, &wanted)?;
-    expect_same_books(alloc, "the book", &run.book, &wanted.book)
+    expect_as_freely(alloc, files, &run)
 }
 
 #[test]

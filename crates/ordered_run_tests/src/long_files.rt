@@ -3,6 +3,7 @@ ghost use Rattle.std.specs.Prelude.{◌≤◌};
 
 use crate::beginnings::Beginning;
 use crate::same_runs::expect_as_in_turn;
+use crate::stock::put;
 use cwr_desk::{FileOutcome, Why};
 use std::alloc::Global;
 use std::test::Fail;
@@ -17,23 +18,21 @@ const AMPLE: usize = 200_000;
 /// sixth file has one transaction too few for that, and behind the eighth one of the group there is none to be decided
 /// meanwhile.
 fn push_group(files: &mut Vec<Vec<u8>>, alloc: Global) -> Result<(), Fail> {
-    files.push(many_works(alloc, SENDER, 1001)?)?;
-    files.push(plain_file(alloc)?)?;
-    files.push(many_works(alloc, SENDER, 1001)?)?;
-    files.push(three_works(alloc)?)?;
-    files.push(many_works(alloc, OTHER_SENDER, 1000)?)?;
-    files.push(many_works(alloc, "000000789", 999)?)?;
-    files.push(miscounted(alloc)?)?;
-    files.push(many_works(alloc, "000000790", 1002)?)?;
-    Ok(())
+    put(files, many_works(alloc, SENDER, 1001))?;
+    put(files, plain_file(alloc))?;
+    put(files, many_works(alloc, SENDER, 1001))?;
+    put(files, three_works(alloc))?;
+    put(files, many_works(alloc, OTHER_SENDER, 1000))?;
+    put(files, many_works(alloc, "000000789", 999))?;
+    put(files, miscounted(alloc))?;
+    put(files, many_works(alloc, "000000790", 1002))
 }
 
 /// Puts the files of a second group behind other files. One of their acknowledgements is written on a thread.
 fn push_rest(files: &mut Vec<Vec<u8>>, alloc: Global) -> Result<(), Fail> {
-    files.push(plain_file(alloc)?)?;
-    files.push(many_works(alloc, "000000791", 1003)?)?;
-    files.push(three_works(alloc)?)?;
-    Ok(())
+    put(files, plain_file(alloc))?;
+    put(files, many_works(alloc, "000000791", 1003))?;
+    put(files, three_works(alloc))
 }
 
 /// Eleven files.

@@ -101,6 +101,11 @@ fn earlier_book(alloc: Global, numbers: &mut Numbers, stock: &[Vec<u8>]) -> Resu
 /// A book that goes on from the register of an earlier run, and may hold up to thirty more entries.
 fn continued(alloc: Global, numbers: &mut Numbers, stock: &[Vec<u8>]) -> Result<Beginning, Fail> {
     let book = earlier_book(alloc, numbers, stock)?;
+    beginning_after(alloc, numbers, &book)
+}
+
+/// What begins with the register of this book, which has room for some entries more or none.
+fn beginning_after(alloc: Global, numbers: &mut Numbers, book: &Book) -> Result<Beginning, Fail> {
     let entries = book.len().saturating_add(numbers.below(31));
     let limit = u32::try_from(entries)?.clamp(1, MANY);
     Ok(Beginning::after(book.write_register(alloc)?, limit))

@@ -43,6 +43,32 @@ pub(crate) fn expect_same_books(
     same_bytes(what, &register, &wanted.write_register(alloc)?)
 }
 
+/// Two runs must have left the same.
+fn expect_same_runs(
+    alloc: Global,
+    what: &str,
+    found: &MemoryRun,
+    wanted: &MemoryRun,
+) -> Result<(), Fail> {
+    same_lists(what, &found.outcomes, &wanted.outcomes)?;
+    expect_same_jobs(what, &found.jobs, &wanted.jobs)?;
+    expect_same_books(alloc, what, &found.book, &wanted.book)
+}
+
+/// Works files in their order, which must leave what they left in turn. `rt` starts threads, and `alloc` allocates.
+/// `what` names the test, `beginning` gives the run its book, and `inputs` are worked. `wanted` is what they left.
+fn expect_in_order<T: Threads + Sync>(
+    rt: &T,
+    alloc: Global,
+    what: &str,
+    beginning: &Beginning,
+    inputs: &[Input],
+    wanted: &MemoryRun,
+) -> Result<(), Fail> {
+    let found = run_in_order(rt, alloc, beginning.book(alloc)?, inputs)?;
+    expect_same_runs(alloc, what, &found, wanted)
+}
+
 /// Works files in turn and in their order. Both must leave the same, which is returned. `rt` starts threads, and
 /// `alloc` allocates. `what` names the test, `beginning` gives each run its book, and `inputs` are worked.
 pub(crate) fn expect_as_in_turn<'a, T: Threads + Sync>(
@@ -53,9 +79,6 @@ pub(crate) fn expect_as_in_turn<'a, T: Threads + Sync>(
     inputs: &[Input<'a>],
 ) -> Result<MemoryRun<'a>, Fail> {
     let wanted = run_in_turn(alloc, beginning.book(alloc)?, inputs)?;
-    let found = run_in_order(rt, alloc, beginning.book(alloc)?, inputs)?;
-    same_lists(what, &found.outcomes, &wanted.outcomes)?;
-    expect_same_jobs(what, &found.jobs, &wanted.jobs)?;
-    expect_same_books(alloc, what, &found.book, &wanted.book)?;
+    expect_in_order(rt, alloc, what, beginning, inputs, &wanted)?;
     Ok(wanted)
 }

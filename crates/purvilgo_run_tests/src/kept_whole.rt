@@ -154,6 +154,16 @@ fn expect_replaced<T: AllocGlobal + Threads + Wait + Sync>(
     expect_left(rt.alloc(), disk, &("", "", Some(425), false, true))
 }
 
+/// The same, by these calls.
+fn expect_written<T: AllocGlobal + Threads + Wait + Sync>(
+    rt: &T,
+    disk: &Disk,
+    wanted: &str,
+) -> Result<(), Fail> {
+    expect_replaced(rt, disk)?;
+    expect_made(disk, wanted)
+}
+
 /// The calls of the table, a line each.
 fn all_calls(alloc: Global) -> Result<String, Fail> {
     let mut calls = String::new(alloc);
@@ -168,8 +178,7 @@ fn all_calls(alloc: Global) -> Result<String, Fail> {
 fn writes_in_this_order(rt: HostRuntime) -> Result<(), Fail> {
     let wanted = all_calls(rt.alloc())?;
     let disk = told(rt.alloc(), 0, "")?;
-    expect_replaced(&rt, &disk)?;
-    expect_made(&disk, &wanted)
+    expect_written(&rt, &disk, &wanted)
 }
 
 /// Runs over a disk whose call of this number is refused: this must be left.
@@ -197,10 +206,7 @@ fn leaves_the_old_or_the_new_at_each_refusal(rt: HostRuntime) -> Result<(), Fail
 fn withholds_what_the_disk_did_not_take(rt: HostRuntime) -> Result<(), Fail> {
     let disk = told(rt.alloc(), 0, "sync")?;
     let stopped = "register: stopped: write after 360 bytes\n";
-    run_into_itself(&rt, &disk, ExitCode::FAILURE, ACKNOWLEDGED, stopped)?;
-    expect_older(rt.alloc(), &disk)?;
-    expect_draft(&disk, "a.ack", "a draft", false)?;
-    expect_draft(&disk, "book", "another", false)
+    expect_old(&rt, &disk, (ACKNOWLEDGED, stopped), false)
 }
 
 /// An acknowledgement that was cut does not outlive a register that was not kept.
@@ -209,10 +215,7 @@ fn removes_what_was_cut_where_the_register_is_not_kept(rt: HostRuntime) -> Resul
     let disk = cut_and_stopped(rt.alloc())?;
     let cut = "a: stopped after 1: write after 300 bytes\n";
     let stopped = "register: stopped: write after 300 bytes\n";
-    run_into_itself(&rt, &disk, ExitCode::FAILURE, cut, stopped)?;
-    expect_older(rt.alloc(), &disk)?;
-    expect_draft(&disk, "a.ack", "a draft", false)?;
-    expect_draft(&disk, "book", "another", false)
+    expect_old(&rt, &disk, (cut, stopped), false)
 }
 
 /// A disk on which neither the acknowledgement nor the register has room.
@@ -224,20 +227,26 @@ fn cut_and_stopped<'a>(alloc: Global) -> Result<Disk<'a>, Fail> {
     Ok(disk)
 }
 
-/// Runs over a disk that stops the register in its draft and removes nothing: both files and both drafts are there.
-fn expect_drafts<T: AllocGlobal + Threads + Wait + Sync>(rt: &T, disk: &Disk) -> Result<(), Fail> {
-    let stopped = "register: stopped: write after 200 bytes\n";
-    run_into_itself(rt, disk, ExitCode::FAILURE, ACKNOWLEDGED, stopped)?;
+/// Runs over a disk that does not keep the register, with this on standard output and standard error: both files are
+/// the old ones, and both drafts are there or none.
+fn expect_old<T: AllocGlobal + Threads + Wait + Sync>(
+    rt: &T,
+    disk: &Disk,
+    (printed, complained): (&str, &str),
+    drafts: bool,
+) -> Result<(), Fail> {
+    run_into_itself(rt, disk, ExitCode::FAILURE, printed, complained)?;
     expect_older(rt.alloc(), disk)?;
-    expect_draft(disk, "a.ack", "a draft", true)?;
-    expect_draft(disk, "book", "another", true)
+    expect_draft(disk, "a.ack", "a draft", drafts)?;
+    expect_draft(disk, "book", "another", drafts)
 }
 
 /// What cannot be removed stays if the run failed, and nothing else has changed.
 #[test]
 fn leaves_drafts_that_it_cannot_remove(rt: HostRuntime) -> Result<(), Fail> {
     let disk = told(rt.alloc(), 13, "remove")?;
-    expect_drafts(&rt, &disk)
+    let stopped = "register: stopped: write after 200 bytes\n";
+    expect_old(&rt, &disk, (ACKNOWLEDGED, stopped), true)
 }
 
 /// Puts a text of 900 bytes in the draft of a file, as a crash may leave it.

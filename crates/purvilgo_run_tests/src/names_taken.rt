@@ -86,10 +86,18 @@ fn replaces_the_register_that_it_begins_with(rt: HostRuntime) -> Result<(), Fail
         "",
     )?;
     disk.nodes.push(("book", Metadata::of_file(186)))?;
+    expect_second_entry(&rt, &disk)
+}
+
+/// Runs from the register to itself, which replaces it.
+fn expect_second_entry<T: AllocGlobal + Threads + Wait + Sync>(
+    rt: &T,
+    disk: &Disk,
+) -> Result<(), Fail> {
     let words = ["--no-clobber", "--from", "book", "--to", "book", "a"];
-    run_over(&rt, &words, &disk, (ExitCode::SUCCESS, ACKNOWLEDGED, ""))?;
-    expect_text(rt.alloc(), &disk, "book", Text::Register(2))?;
-    expect_text(rt.alloc(), &disk, "a.ack", Text::Answer("DU"))
+    run_over(rt, &words, disk, (ExitCode::SUCCESS, ACKNOWLEDGED, ""))?;
+    expect_text(rt.alloc(), disk, "book", Text::Register(2))?;
+    expect_text(rt.alloc(), disk, "a.ack", Text::Answer("DU"))
 }
 
 #[test]
@@ -107,18 +115,21 @@ fn links_a_register_that_replaces_none(rt: HostRuntime) -> Result<(), Fail> {
 #[test]
 fn leaves_a_register_that_comes_in_between(rt: HostRuntime) -> Result<(), Fail> {
     let disk = disk(rt.alloc(), &[("a.ack", b""), ("book", OLDER)], 0, "")?;
+    expect_withheld(&rt, &disk)
+}
+
+/// Runs into the register of a disk, which stays as it is, and so does the acknowledgement.
+fn expect_withheld<T: AllocGlobal + Threads + Wait + Sync>(
+    rt: &T,
+    disk: &Disk,
+) -> Result<(), Fail> {
     let stopped = "register: stopped: write after 186 bytes\n";
     let words = ["--no-clobber", "--to", "book", "a"];
-    run_over(
-        &rt,
-        &words,
-        &disk,
-        (ExitCode::FAILURE, ACKNOWLEDGED, stopped),
-    )?;
-    expect_text(rt.alloc(), &disk, "book", Text::Bytes(OLDER))?;
-    expect_text(rt.alloc(), &disk, "a.ack", Text::Bytes(b""))?;
-    expect_draft(&disk, "a.ack", "a draft", false)?;
-    expect_draft(&disk, "book", "another", false)
+    run_over(rt, &words, disk, (ExitCode::FAILURE, ACKNOWLEDGED, stopped))?;
+    expect_text(rt.alloc(), disk, "book", Text::Bytes(OLDER))?;
+    expect_text(rt.alloc(), disk, "a.ack", Text::Bytes(b""))?;
+    expect_draft(disk, "a.ack", "a draft", false)?;
+    expect_draft(disk, "book", "another", false)
 }
 
 /// It has no draft and no lock.
@@ -156,30 +167,48 @@ fn expect_two<T: AllocGlobal + Threads + Wait + Sync>(
     complained: &str,
     end: &str,
 ) -> Result<(), Fail> {
-    let alloc = rt.alloc();
-    let (file, answer) = other;
-    let disk = disk(alloc, &[("a.ack", OLDER), (answer, OLDER)], refused, "")?;
-    let input = plain_file(alloc)?;
-    let files = [
-        ("a", FakeFile::Holds(&input)),
-        (file, FakeFile::Holds(&input)),
-    ];
-    let words = run_with(alloc, &["--in-turn", "a", file])?;
-    let printed = format!(in alloc; "a: acknowledged 1\n{file}: acknowledged 1\n")?;
     let status = if refused == 0 {
         ExitCode::SUCCESS
     } else {
         ExitCode::FAILURE
     };
-    expect_on(
-        rt,
-        &words,
-        &files,
-        &disk,
-        (status, printed.as_str(), complained),
-    )?;
-    expect_both(alloc, &disk, answer)?;
-    expect_end(&disk, end)
+    let files = [("a.ack", OLDER), (other.1, OLDER)];
+    let disk = disk(rt.alloc(), &files, refused, "")?;
+    expect_two_on(rt, other, &disk, (status, complained), end)
+}
+
+/// The same on this disk. `rt` starts threads and waits, and `other` has the names of the other file and of its
+/// acknowledgement. `disk` has the acknowledgements, `ended` is the status and standard error that the run must have,
+/// and `end` has the calls that must follow the first ten.
+fn expect_two_on<T: AllocGlobal + Threads + Wait + Sync>(
+    rt: &T,
+    other: (&str, &str),
+    disk: &Disk,
+    ended: (ExitCode, &str),
+    end: &str,
+) -> Result<(), Fail> {
+    let (file, answer) = other;
+    run_in_turn(rt, file, disk, ended)?;
+    expect_both(rt.alloc(), disk, answer)?;
+    expect_end(disk, end)
+}
+
+/// Runs the file `a` and this other one over a disk. Both must be acknowledged, and the status and standard error must
+/// be these.
+fn run_in_turn<T: AllocGlobal + Threads + Wait + Sync>(
+    rt: &T,
+    file: &str,
+    disk: &Disk,
+    ended: (ExitCode, &str),
+) -> Result<(), Fail> {
+    let alloc = rt.alloc();
+    let input = plain_file(alloc)?;
+    let held = FakeFile::Holds(&input);
+    let words = run_with(alloc, &["--in-turn", "a", file])?;
+    let printed = format!(in alloc; "a: acknowledged 1\n{file}: acknowledged 1\n")?;
+    let (status, complained) = ended;
+    let ended = (status, printed.as_str(), complained);
+    expect_on(rt, &words, &[("a", held), (file, held)], disk, ended)
 }
 
 /// Both acknowledgements must have their names, and no draft.

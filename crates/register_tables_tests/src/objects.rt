@@ -47,8 +47,8 @@ fn tells_entries_as_objects(rt: HostRuntime) -> Result<(), Fail> {
     expect_narrow_objects(alloc, &book)
 }
 
-/// Hands in a transaction whose texts JSON must change, with two faults and three controls.
-fn hand_in_awkward(alloc: Global, book: &mut Book) -> Result<(), Fail> {
+/// The object of a transaction in an empty book, whose texts JSON must change, with two faults and three controls.
+fn expect_awkward(alloc: Global, book: &mut Book) -> Result<(), Fail> {
     let faults = [(0, 15, *b"NWR"), (12, 8, *b"SWT")];
     let faults = faults.map(|(sequence, number, rtype)| Fault {
         sequence,
@@ -57,24 +57,23 @@ fn hand_in_awkward(alloc: Global, book: &mut Book) -> Result<(), Fail> {
     });
     let title = filled(b"SAY, \"CAF\xc9\" \\ \x7f\xff");
     let told = (ONE, WorkKind::Nwr, title, W7, None, [20000, 0, 5]);
-    hand_in(alloc, book, told, &faults)
-}
-
-/// A byte above 127 is the character with its number, and a quote and a backslash have a backslash before them.
-#[test]
-fn tells_each_byte_as_a_character(rt: HostRuntime) -> Result<(), Fail> {
-    let alloc = rt.alloc();
-    let mut book = Book::new(alloc, 100);
-    hand_in_awkward(alloc, &mut book)?;
+    hand_in(alloc, book, told, &faults)?;
     expect_objects(
         alloc,
-        &book,
+        book,
         &Wanted::all(),
         b"{\"entry\":1,\"faults\":[{\"record\":\"NWR\",\"rule\":\"J15\",\"sequence\":0},{\"record\":\"SWT\",\"rule\":\"J8\",\"sequence\":12}],\
 \"iswc\":null,\"kind\":\"NWR\",\"mechanical_control\":0,\"number\":\"W7            \",\"performing_control\":20000,\"status\":\"RJ\",\
 \"submitter\":\"PB000000123\",\"synchronization_control\":5,\"title\":\"SAY, \\\"CAF\xc3\x89\\\" \\\\ \x7f\xc3\xbf                                            \",\
 \"version\":null,\"work\":null}\n",
     )
+}
+
+/// A byte above 127 is the character with its number, and a quote and a backslash have a backslash before them.
+#[test]
+fn tells_each_byte_as_a_character(rt: HostRuntime) -> Result<(), Fail> {
+    let alloc = rt.alloc();
+    expect_awkward(alloc, &mut Book::new(alloc, 100))
 }
 
 /// The works of the example, whose current claims leave nothing, and its conflicts.
@@ -94,23 +93,16 @@ fn sums_up_decisions_as_an_object(rt: HostRuntime) -> Result<(), Fail> {
     )
 }
 
-/// Hands in works of which is left, in this order of rights: nothing and 50.01 per cent, 25 per cent and all, 50 and
-/// 25.01.
-fn hand_in_bands(alloc: Global, book: &mut Book) -> Result<(), Fail> {
+/// The summary of two works in an empty book, of which is left, in this order of rights: nothing and 50.01 per cent,
+/// 25 per cent and all, 50 and 25.01.
+fn expect_bands(alloc: Global, book: &mut Book) -> Result<(), Fail> {
     let told = (ONE, WorkKind::Nwr, TITLE, W1, None, [10000, 7500, 5000]);
     hand_in(alloc, book, told, &[])?;
     let told = (ONE, WorkKind::Nwr, TITLE, W7, None, [4999, 0, 7499]);
-    hand_in(alloc, book, told, &[])
-}
-
-#[test]
-fn tells_what_is_left_as_an_object(rt: HostRuntime) -> Result<(), Fail> {
-    let alloc = rt.alloc();
-    let mut book = Book::new(alloc, 100);
-    hand_in_bands(alloc, &mut book)?;
+    hand_in(alloc, book, told, &[])?;
     expect_summary_object(
         alloc,
-        &book,
+        book,
         b"{\"accepted\":2,\"conflicts\":0,\"current_claims\":2,\"duplicates\":0,\"entries\":2,\"largest_conflicts\":[],\
 \"left\":{\"mechanical\":{\"all\":1,\"more_than_half\":0,\"none\":0,\"up_to_half\":0,\"up_to_quarter\":1},\
 \"performing\":{\"all\":0,\"more_than_half\":1,\"none\":1,\"up_to_half\":0,\"up_to_quarter\":0},\
@@ -118,6 +110,12 @@ fn tells_what_is_left_as_an_object(rt: HostRuntime) -> Result<(), Fail> {
 \"most_entries\":[{\"entries\":2,\"submitter\":\"PB000000123\"}],\
 \"rejected\":0,\"submitters\":1,\"works\":2}\n",
     )
+}
+
+#[test]
+fn tells_what_is_left_as_an_object(rt: HostRuntime) -> Result<(), Fail> {
+    let alloc = rt.alloc();
+    expect_bands(alloc, &mut Book::new(alloc, 100))
 }
 
 /// What an audit found.

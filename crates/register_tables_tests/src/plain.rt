@@ -27,8 +27,9 @@ fn tells_plain_decisions(rt: HostRuntime) -> Result<(), Fail> {
     expect_decisions(alloc, &book)
 }
 
-/// Hands in a transaction with shares that have hundredths and none, and one with a fault and more than all of a right.
-fn hand_in_shares(alloc: Global, book: &mut Book) -> Result<(), Fail> {
+/// The entries of a transaction with shares that have hundredths and none, and of one with a fault and more than all of
+/// a right, in an empty book.
+fn expect_shares(alloc: Global, book: &mut Book) -> Result<(), Fail> {
     let told = (ONE, WorkKind::Nwr, TITLE, W1, ISWC, [5007, 10, 1]);
     hand_in(alloc, book, told, &[])?;
     let wrong = Fault {
@@ -37,25 +38,25 @@ fn hand_in_shares(alloc: Global, book: &mut Book) -> Result<(), Fail> {
         rtype: *b"SWT",
     };
     let told = (ONE, WorkKind::Rev, TITLE, W7, None, [20000, 0, 5]);
-    hand_in(alloc, book, told, &[wrong])
+    hand_in(alloc, book, told, &[wrong])?;
+    expect_plain_history(
+        alloc,
+        book,
+        b"1,PB000000123,NWR,W1,SONG ONE,T0345246801,50.07,0.10,0.01,AS,1,1,\n\
+2,PB000000123,REV,W7,SONG ONE,,200.00,0.00,0.05,RJ,,,12:J8\n",
+    )
 }
 
 /// Shares stand in per cent, with two places.
 #[test]
 fn tells_shares_in_per_cent(rt: HostRuntime) -> Result<(), Fail> {
     let alloc = rt.alloc();
-    let mut book = Book::new(alloc, 100);
-    hand_in_shares(alloc, &mut book)?;
-    expect_plain_history(
-        alloc,
-        &book,
-        b"1,PB000000123,NWR,W1,SONG ONE,T0345246801,50.07,0.10,0.01,AS,1,1,\n\
-2,PB000000123,REV,W7,SONG ONE,,200.00,0.00,0.05,RJ,,,12:J8\n",
-    )
+    expect_shares(alloc, &mut Book::new(alloc, 100))
 }
 
-/// Hands in transactions whose texts a spreadsheet would take for formulas, and some that it would not.
-fn hand_in_formulas(alloc: Global, book: &mut Book) -> Result<(), Fail> {
+/// The claims of transactions in an empty book, whose texts a spreadsheet would take for formulas, and of some that it
+/// would not.
+fn expect_formulas(alloc: Global, book: &mut Book) -> Result<(), Fail> {
     let nwr = WorkKind::Nwr;
     let transactions: [Transaction; 4] = [
         (
@@ -77,21 +78,20 @@ fn hand_in_formulas(alloc: Global, book: &mut Book) -> Result<(), Fail> {
         (ONE, nwr, filled(b" =1"), filled(b"- 1"), None, [0; 3]),
         (ONE, nwr, filled(b""), filled(b"A  B"), None, [0; 3]),
     ];
-    hand_in_all(alloc, book, &transactions)
+    hand_in_all(alloc, book, &transactions)?;
+    expect_plain_claims(
+        alloc,
+        book,
+        b"'=1+1,'+1,1,1,'=SUM(A1),,0.00,0.00,0.00\n\
+'-1,A=B,2,1,\"'@A, B\",,0.00,0.00,0.00\n\
+PB000000123,'- 1,3,1, =1,,0.00,0.00,0.00\n\
+PB000000123,A  B,4,1,,,0.00,0.00,0.00\n",
+    )
 }
 
 /// What begins as a formula has an apostrophe before it. Blanks within a text, or before it, stay.
 #[test]
 fn guards_formulas(rt: HostRuntime) -> Result<(), Fail> {
     let alloc = rt.alloc();
-    let mut book = Book::new(alloc, 100);
-    hand_in_formulas(alloc, &mut book)?;
-    expect_plain_claims(
-        alloc,
-        &book,
-        b"'=1+1,'+1,1,1,'=SUM(A1),,0.00,0.00,0.00\n\
-'-1,A=B,2,1,\"'@A, B\",,0.00,0.00,0.00\n\
-PB000000123,'- 1,3,1, =1,,0.00,0.00,0.00\n\
-PB000000123,A  B,4,1,,,0.00,0.00,0.00\n",
-    )
+    expect_formulas(alloc, &mut Book::new(alloc, 100))
 }

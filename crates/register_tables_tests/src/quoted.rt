@@ -19,17 +19,8 @@ fn put_line(line: &mut Vec<u8>) -> Result<(), AllocError> {
     line.extend_from_slice(b",,10000,10000,10000\n")
 }
 
-/// That line must be the one claim of a book.
-fn expect_line(alloc: Global, book: &Book) -> Result<(), Fail> {
-    let mut line = Vec::new(alloc);
-    put_line(&mut line)?;
-    expect_claims(alloc, book, &Wanted::all(), &line)
-}
-
-#[test]
-fn quotes_where_needed(rt: HostRuntime) -> Result<(), Fail> {
-    let alloc = rt.alloc();
-    let mut book = Book::new(alloc, 100);
+/// That line must be the one claim of an empty book, once its transaction is handed in.
+fn expect_line(alloc: Global, book: &mut Book) -> Result<(), Fail> {
     let told = (
         ONE,
         WorkKind::Nwr,
@@ -38,12 +29,20 @@ fn quotes_where_needed(rt: HostRuntime) -> Result<(), Fail> {
         None,
         [10000; 3],
     );
-    hand_in(alloc, &mut book, told, &[])?;
-    expect_line(alloc, &book)
+    hand_in(alloc, book, told, &[])?;
+    let mut line = Vec::new(alloc);
+    put_line(&mut line)?;
+    expect_claims(alloc, book, &Wanted::all(), &line)
 }
 
-/// Hands in a transaction with three faults, and one with one.
-fn hand_in_faulty(alloc: Global, book: &mut Book) -> Result<(), Fail> {
+#[test]
+fn quotes_where_needed(rt: HostRuntime) -> Result<(), Fail> {
+    let alloc = rt.alloc();
+    expect_line(alloc, &mut Book::new(alloc, 100))
+}
+
+/// The entries of a transaction with three faults, and of one with one, in an empty book.
+fn expect_faults(alloc: Global, book: &mut Book) -> Result<(), Fail> {
     let faults = [(0, 4, *b"NWR"), (0, 15, *b"NWR"), (12, 8, *b"SWT")];
     let faults = faults.map(|(sequence, number, rtype)| Fault {
         sequence,
@@ -53,20 +52,19 @@ fn hand_in_faulty(alloc: Global, book: &mut Book) -> Result<(), Fail> {
     let told = (ONE, WorkKind::Nwr, TITLE, W1, None, [20000, 0, 5]);
     hand_in(alloc, book, told, &faults)?;
     let told = (ONE, WorkKind::Nwr, TITLE, W7, None, [0; 3]);
-    hand_in(alloc, book, told, &faults[2..])
+    hand_in(alloc, book, told, &faults[2..])?;
+    expect_history(
+        alloc,
+        book,
+        &Wanted::all(),
+        b"1,PB000000123,NWR,W1            ,SONG ONE                                                    ,,20000,0,5,RJ,,,0:J4 0:J15 12:J8\n\
+2,PB000000123,NWR,W7            ,SONG ONE                                                    ,,0,0,0,RJ,,,12:J8\n",
+    )
 }
 
 /// Faults stand with a blank between two, and so need no quotes.
 #[test]
 fn tells_each_fault(rt: HostRuntime) -> Result<(), Fail> {
     let alloc = rt.alloc();
-    let mut book = Book::new(alloc, 100);
-    hand_in_faulty(alloc, &mut book)?;
-    expect_history(
-        alloc,
-        &book,
-        &Wanted::all(),
-        b"1,PB000000123,NWR,W1            ,SONG ONE                                                    ,,20000,0,5,RJ,,,0:J4 0:J15 12:J8\n\
-2,PB000000123,NWR,W7            ,SONG ONE                                                    ,,0,0,0,RJ,,,12:J8\n",
-    )
+    expect_faults(alloc, &mut Book::new(alloc, 100))
 }

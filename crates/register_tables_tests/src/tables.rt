@@ -67,8 +67,15 @@ fn tells_of_an_empty_book(rt: HostRuntime) -> Result<(), Fail> {
     expect_no_lines(alloc, &book)
 }
 
-/// The works of a book, and their claims.
-fn expect_both_works(alloc: Global, book: &Book) -> Result<(), Fail> {
+/// The works of four transactions in an empty book, and their claims.
+fn expect_both_works(alloc: Global, book: &mut Book) -> Result<(), Fail> {
+    let transactions: [Transaction; 4] = [
+        (ONE, WorkKind::Nwr, TITLE, W1, None, [1, 20, 300]),
+        (ONE, WorkKind::Nwr, TITLE, W7, None, [0; 3]),
+        (ONE, WorkKind::Rev, TITLE, W1, ISWC, [4, 50, 600]),
+        (ONE, WorkKind::Rev, TITLE, W1, None, [7, 80, 900]),
+    ];
+    hand_in_all(alloc, book, &transactions)?;
     expect_works(
         alloc,
         book,
@@ -89,13 +96,5 @@ PB000000123,W1            ,1,3,SONG ONE                                         
 #[test]
 fn tells_each_work(rt: HostRuntime) -> Result<(), Fail> {
     let alloc = rt.alloc();
-    let mut book = Book::new(alloc, 100);
-    let transactions: [Transaction; 4] = [
-        (ONE, WorkKind::Nwr, TITLE, W1, None, [1, 20, 300]),
-        (ONE, WorkKind::Nwr, TITLE, W7, None, [0; 3]),
-        (ONE, WorkKind::Rev, TITLE, W1, ISWC, [4, 50, 600]),
-        (ONE, WorkKind::Rev, TITLE, W1, None, [7, 80, 900]),
-    ];
-    hand_in_all(alloc, &mut book, &transactions)?;
-    expect_both_works(alloc, &book)
+    expect_both_works(alloc, &mut Book::new(alloc, 100))
 }

@@ -1,11 +1,12 @@
 //! Calls of new works, a desk, and the turns of its seats.
 
-ghost use Rattle.std.specs.Prelude.{◌≡◌, ◌≤◌, [], true, IfOk};
-ghost use Rattle.registry_desk.specs.Views.{opening_view};
+ghost use Rattle.std.specs.Prelude.{◌≡◌, ◌≢◌, ◌+◌, ◌<◌, ◌≤◌, [], true, IfOk};
+ghost use Rattle.registry_desk.specs.Views.{max_turns, opening_view};
 
-use registry_desk::{Book, Call, Desk, Entry, Inside, Looked, Reply, Seat, Waiting};
+use registry_desk::{Book, Call, Desk, Entry, Inside, Looked, Refused, Reply, Seat, Waiting};
 use std::alloc::Global;
 use std::process::Abort;
+use std::sync::Wait;
 use std::test::Fail;
 use work_registry::{Faults, WorkKind};
 
@@ -53,10 +54,48 @@ pub(crate) fn open(alloc: Global, limit: u32, seats: u32) -> Result<(Desk, Seat)
     requires seats { (1 ≤ seats) × (seats ≤ 64) }
     ensures { IfOk result (λ r. r.1 ≡ record { desk = r.0; view = opening_view (record { history = []; limit = limit }) seats }) }
 {
-    match Desk::open(alloc, Book::new(alloc, limit), seats) {
-        Ok(opened) => Ok(opened),
-        Err(_refused) => Err("no memory")?,
-    }
+    let opened = Desk::open(alloc, Book::new(alloc, limit), seats).ok();
+    Ok(opened.ok_or("no memory")?)
+}
+
+/// The answer to a call.
+pub(crate) type Answer = Result<Reply, Refused>;
+
+/// Two calls that are handed in one after the other.
+#[derive(Drop)]
+pub(crate) struct TwoCalls {
+    first: Call,
+    second: Call,
+}
+
+/// The calls for two works, of each of which a letter and a number are given.
+pub(crate) fn two_calls(
+    alloc: Global,
+    first: (u8, u16),
+    second: (u8, u16),
+) -> Result<TwoCalls, Fail> {
+    let first = call(alloc, first.0, first.1)?;
+    let second = call(alloc, second.0, second.1)?;
+    Ok(TwoCalls { first, second })
+}
+
+/// Hands two calls in, and returns both answers. `rt` waits, and `seat` is one of `desk`.
+pub(crate) fn hand_in_two(
+    rt: &impl Wait,
+    desk: &Desk,
+    seat: Seat,
+    calls: TwoCalls,
+) -> (Seat, (Answer, Answer))
+    requires desk { seat.desk ≡ desk.now }
+    requires session { seat.view.session ≢ 0 }
+    requires turns { seat.view.turns + 1 < max_turns }
+    ensures desk { result.0.desk ≡ desk.now }
+    ensures turns { result.0.view.turns ≡ seat.view.turns + 2 }
+{
+    let TwoCalls { first, second } = calls;
+    let (seat, one) = desk.hand_in(rt, seat, first);
+    let (seat, other) = desk.hand_in(rt, seat, second);
+    (seat, (one, other))
 }
 
 /// The turn of a seat that waits, which must have come.
@@ -92,4 +131,9 @@ pub(crate) fn expect_new(rt: &impl Abort, k: usize, entry: &Entry, letter: u8, n
     };
     assert_eq!(rt; (work as usize, version), (k, 1));
     assert_eq!(rt; entry.call().number(), key(letter, number));
+}
+
+/// A book with this number of entries.
+pub(crate) fn expect_entries(rt: &impl Abort, book: &Book, entries: usize) {
+    assert_eq!(rt; book.len(), entries);
 }

@@ -1,6 +1,6 @@
 //! A desk that is opened on a book with entries.
 
-use crate::desks::{call, expect_new};
+use crate::desks::{Answer, TwoCalls, call, expect_new, hand_in_two, two_calls};
 use registry_desk::{Book, Call, Desk, Reply};
 use std::alloc::Global;
 use std::process::Abort;
@@ -26,19 +26,24 @@ fn opened_book(alloc: Global) -> Result<Book, Fail> {
     Ok(book)
 }
 
+/// A call for the second work of the opening, and then one for a new work.
+fn expect_known_and_new(rt: &impl Abort, answers: (Answer, Answer)) {
+    let (known, fresh) = answers;
+    assert!(rt; known.ok() == Some(Reply::Duplicate { work: 2 }));
+    assert!(rt; fresh.is_ok());
+}
+
 /// The book after a call for a work of its opening and one for a new work, handed in by the one seat of a desk. `rt`
-/// waits, and ends the test if a call is refused. `alloc` allocates, and the desk is opened with `book`. `known` and
-/// `fresh` are the two calls.
-fn gone_on<R: Wait + Abort>(rt: &R, alloc: Global, book: Book, known: Call, fresh: Call) -> Book {
+/// waits, and ends the test if a call is refused. `alloc` allocates, and the desk is opened with `book`.
+fn gone_on<R: Wait + Abort>(rt: &R, alloc: Global, book: Book, calls: TwoCalls) -> Book {
     assert!(rt; book.is_opening());
-    let Ok((desk, mut opening)) = Desk::open(alloc, book, 2) else {
-        panic!(rt; "no memory")
+    let (desk, mut opening) = match Desk::open(alloc, book, 2) {
+        Ok(opened) => opened,
+        Err(_refused) => panic!(rt; "no memory"),
     };
     let seat = desk.split(&mut opening);
-    let (seat, known) = desk.hand_in(rt, seat, known);
-    assert!(rt; known.ok() == Some(Reply::Duplicate { work: 2 }));
-    let (seat, fresh) = desk.hand_in(rt, seat, fresh);
-    assert!(rt; fresh.is_ok());
+    let (seat, answers) = hand_in_two(rt, &desk, seat, calls);
+    expect_known_and_new(rt, answers);
     desk.meet(&mut opening, seat);
     desk.close(opening)
 }
@@ -62,9 +67,8 @@ fn expect_four(rt: &impl Abort, book: &Book) {
 
 /// Opens a desk on a book with entries, after which that must hold.
 fn expect_gone_on<R: Wait + Abort>(rt: &R, alloc: Global) -> Result<(), Fail> {
-    let known = call(alloc, b'O', 2)?;
-    let fresh = call(alloc, b'A', 1)?;
-    let book = gone_on(rt, alloc, opened_book(alloc)?, known, fresh);
+    let calls = two_calls(alloc, (b'O', 2), (b'A', 1))?;
+    let book = gone_on(rt, alloc, opened_book(alloc)?, calls);
     expect_four(rt, &book);
     Ok(())
 }

@@ -1,6 +1,6 @@
 //! How seats are numbered and counted.
 
-use crate::desks::open;
+use crate::desks::{expect_entries, open};
 use registry_desk::Seat;
 use std::process::Abort;
 use std::test::Fail;
@@ -18,23 +18,33 @@ fn expect_counts(rt: &impl Abort, opening: &Seat, counts: (u32, u32, u32)) {
     );
 }
 
+/// The opening seat and the two seats that it has given, of which none has taken a turn.
+fn expect_given(rt: &impl Abort, opening: &Seat, one: &Seat, two: &Seat) {
+    expect_unused(rt, one, 1);
+    expect_unused(rt, two, 2);
+    assert_eq!(rt; two.seats_left(), 0);
+    expect_counts(rt, opening, (0, 2, 0));
+}
+
+/// The opening seat, which can give two seats.
+fn expect_opening(rt: &impl Abort, opening: &Seat) {
+    expect_unused(rt, opening, 0);
+    expect_counts(rt, opening, (2, 0, 0));
+}
+
 /// The numbers of the opening seat and of the seats that it gives.
 #[test]
 fn numbers_of_seats(rt: HostRuntime) -> Result<(), Fail> {
     let (desk, mut opening) = open(rt.alloc(), 1, 3)?;
-    expect_unused(&rt, &opening, 0);
-    expect_counts(&rt, &opening, (2, 0, 0));
+    expect_opening(&rt, &opening);
     let one = desk.split(&mut opening);
     let two = desk.split(&mut opening);
-    expect_unused(&rt, &one, 1);
-    expect_unused(&rt, &two, 2);
-    assert_eq!(rt; two.seats_left(), 0);
-    expect_counts(&rt, &opening, (0, 2, 0));
+    expect_given(&rt, &opening, &one, &two);
     desk.meet(&mut opening, two);
     expect_counts(&rt, &opening, (0, 2, 1));
     desk.meet(&mut opening, one);
     expect_counts(&rt, &opening, (0, 2, 2));
-    assert_eq!(rt; desk.close(opening).len(), 0);
+    expect_entries(&rt, &desk.close(opening), 0);
     Ok(())
 }
 
