@@ -1,13 +1,13 @@
 //! Jobs decided in their order, whose files are read on threads.
-ghost use Rattle.std.specs.Prelude.{◌<◌, length};
+ghost use Rattle.std.specs.Prelude.{◌≡◌, ◌<◌, All, false, length, true, vec_len};
+ghost use Rattle.work_registry.specs.Replay.{is_opening};
 
-use crate::at_last::{Way, serve_at_last};
 use crate::ends::{Decided, end_of, holds_of, knows};
-use crate::in_turn::{FailingAllocRun, again, ended};
-use cwr_desk::Stamp;
+use crate::in_turn::{FailingAllocRun, Ran, again, ended, is_unbegun};
+use crate::jobs::{MemoryJob, jobs_of};
+use cwr_desk::{Book, ServeRefused, Stamp, serve_in_order};
 use failing_alloc::{FailingAlloc, check_refusal};
 use std::alloc::Global;
-use std::sync::Wait;
 use std::test::Fail;
 use std::thread::Threads;
 use test_files::{plain_file, same, stamp, three_works};
@@ -97,10 +97,55 @@ fn refused_of(
     }
 }
 
-/// Runs files with this allocator, and returns whose allocation failed. `rt` starts threads and waits. `memory`
-/// allocates, but for the writers and what is expected, for which `alloc` does. `stamp` is that of the
-/// acknowledgements, and `files` are worked.
-fn run_in<T: Threads + Wait + Sync>(
+/// Runs jobs once more, which must not be refused again. `rt` starts threads, and `memory` allocates. `jobs` are worked
+/// into `book`, and `stamp` is that of the acknowledgements.
+fn run_again<'a, 'm, T: Threads + Sync>(
+    rt: &T,
+    memory: &'m FailingAlloc,
+    jobs: Vec<MemoryJob<'a>, &'m FailingAlloc>,
+    book: Book<&'m FailingAlloc>,
+    stamp: &Stamp,
+) -> Result<FailingAllocRun<'a, 'm>, Fail>
+    requires few { vec_len jobs < 64 }
+    requires opening { is_opening book.history ≡ true }
+    requires works { All (λ j. (j.reader.has_failed ≡ false) × (j.writer.has_failed ≡ false)) jobs.items }
+{
+    match serve_in_order(rt, memory, jobs, book, stamp) {
+        Ok(run) => Ok(run),
+        Err(_) => Err(Fail::new("refused again")),
+    }
+}
+
+/// Runs a job for each of these files in their order, with an empty book; `None` if the list of jobs could not be
+/// allocated. If the run is refused, the book and the jobs must come back as they were, and are run again.
+///
+/// `rt` starts threads. `memory` allocates, but for the writers, for which `alloc` does. `files` are worked, and
+/// `stamp` is that of the acknowledgements.
+fn run_at_last<'a, 'm, T: Threads + Sync>(
+    rt: &T,
+    memory: &'m FailingAlloc,
+    alloc: Global,
+    files: &[&'a [u8]],
+    stamp: &Stamp,
+) -> Result<Option<Ran<'a, 'm>>, Fail>
+    requires few { length files.now < 64 }
+{
+    let Ok(jobs) = jobs_of(memory, alloc, files) else {
+        return Ok(None);
+    };
+    match serve_in_order(rt, memory, jobs, Book::new(memory, 100), stamp) {
+        Ok(run) => Ok(Some((run, false))),
+        Err(ServeRefused { book, jobs }) => {
+            is_unbegun(&book, &jobs, files.len())?;
+            Ok(Some((run_again(rt, memory, jobs, book, stamp)?, true)))
+        }
+    }
+}
+
+/// Runs files with this allocator, and returns whose allocation failed. `rt` starts threads. `memory` allocates, but
+/// for the writers and what is expected, for which `alloc` does. `stamp` is that of the acknowledgements, and `files`
+/// are worked.
+fn run_in<T: Threads + Sync>(
     rt: &T,
     memory: &FailingAlloc,
     alloc: Global,
@@ -109,15 +154,15 @@ fn run_in<T: Threads + Wait + Sync>(
 ) -> Result<Option<Asks>, Fail>
     requires few { length files.bytes.now < 64 }
 {
-    match serve_at_last(rt, Way::InOrder, memory, alloc, files.bytes, stamp)? {
+    match run_at_last(rt, memory, alloc, files.bytes, stamp)? {
         Some((run, is_refused)) => refused_of(is_refused, stopped_of(alloc, &run, files.works)),
         None => Ok(Some(Asks::List)),
     }
 }
 
-/// Runs files with one request refused, which must be reported. `rt` starts threads and waits, and `alloc` is the
-/// allocator within. `stamp` is that of the acknowledgements, and `files` are worked. `n` is the request, from 1.
-fn run_refused<T: Threads + Wait + Sync>(
+/// Runs files with one request refused, which must be reported. `rt` starts threads, and `alloc` is the allocator
+/// within. `stamp` is that of the acknowledgements, and `files` are worked. `n` is the request, from 1.
+fn run_refused<T: Threads + Sync>(
     rt: &T,
     alloc: Global,
     stamp: &Stamp,
@@ -162,7 +207,7 @@ impl WereRefused {
 const MANY: u64 = 1000;
 
 /// Runs files once for each request that they make, with that one refused, and once more with none refused.
-fn refuse_each<T: Threads + Wait + Sync>(rt: &T, alloc: Global, files: Files) -> Result<(), Fail>
+fn refuse_each<T: Threads + Sync>(rt: &T, alloc: Global, files: Files) -> Result<(), Fail>
     requires few { length files.bytes.now < 64 }
 {
     let stamp = stamp()?;

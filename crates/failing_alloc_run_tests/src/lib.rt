@@ -2,8 +2,6 @@
 #![tactic(auto)]
 
 #[cfg(test)]
-mod at_last;
-#[cfg(test)]
 mod ends;
 #[cfg(test)]
 mod in_order;

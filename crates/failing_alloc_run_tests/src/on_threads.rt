@@ -1,9 +1,11 @@
 //! Jobs on threads of their own.
+ghost use Rattle.std.specs.Prelude.{◌≡◌, ◌<◌, All, false, length, true, vec_len};
+ghost use Rattle.work_registry.specs.Replay.{is_opening};
 
-use crate::at_last::{Way, serve_at_last};
 use crate::ends::{Decided, end_of, knows};
-use crate::in_turn::{FailingAllocRun, end_at_last, ended};
-use cwr_desk::{Book, Reply, Stamp};
+use crate::in_turn::{FailingAllocRun, Ran, end_at_last, ended, is_unbegun};
+use crate::jobs::{MemoryJob, jobs_of};
+use cwr_desk::{Book, OpenGate, Reply, ServeRefused, Stamp, serve};
 use failing_alloc::{Ended, FailingAlloc, check_refusal};
 use std::alloc::Global;
 use std::sync::Wait;
@@ -73,6 +75,51 @@ fn run_at_once(alloc: Global, run: &FailingAllocRun) -> Ended {
     Ok(is_first || is_second)
 }
 
+/// Serves jobs once more, which must not be refused again. `rt` starts threads and waits, and `memory` allocates.
+/// `jobs` are worked into `book`, and `stamp` is that of the acknowledgements.
+fn serve_again<'a, 'm, T: Threads + Wait + Sync>(
+    rt: &T,
+    memory: &'m FailingAlloc,
+    jobs: Vec<MemoryJob<'a>, &'m FailingAlloc>,
+    book: Book<&'m FailingAlloc>,
+    stamp: &Stamp,
+) -> Result<FailingAllocRun<'a, 'm>, Fail>
+    requires few { vec_len jobs < 64 }
+    requires opening { is_opening book.history ≡ true }
+    requires works { All (λ j. (j.reader.has_failed ≡ false) × (j.writer.has_failed ≡ false)) jobs.items }
+{
+    match serve(rt, memory, jobs, book, stamp, &OpenGate) {
+        Ok(run) => Ok(run),
+        Err(_) => Err(Fail::new("refused again")),
+    }
+}
+
+/// Serves a job for each of these files at once, with an empty book; `None` if the list of jobs could not be allocated.
+/// If that is refused, the book and the jobs must come back as they were, and are served again.
+///
+/// `rt` starts threads and waits. `memory` allocates, but for the writers, for which `alloc` does. `files` are worked,
+/// and `stamp` is that of the acknowledgements.
+fn serve_at_last<'a, 'm, T: Threads + Wait + Sync>(
+    rt: &T,
+    memory: &'m FailingAlloc,
+    alloc: Global,
+    files: &[&'a [u8]],
+    stamp: &Stamp,
+) -> Result<Option<Ran<'a, 'm>>, Fail>
+    requires few { length files.now < 64 }
+{
+    let Ok(jobs) = jobs_of(memory, alloc, files) else {
+        return Ok(None);
+    };
+    match serve(rt, memory, jobs, Book::new(memory, 100), stamp, &OpenGate) {
+        Ok(run) => Ok(Some((run, false))),
+        Err(ServeRefused { book, jobs }) => {
+            is_unbegun(&book, &jobs, files.len())?;
+            Ok(Some((serve_again(rt, memory, jobs, book, stamp)?, true)))
+        }
+    }
+}
+
 /// Serves one file twice, at once.
 ///
 /// `rt` starts threads and waits. `memory` allocates, but for the writers and what is expected, for which `alloc` does.
@@ -86,7 +133,7 @@ fn served<T: Threads + Wait + Sync>(
     stamp: &Stamp,
     file: &[u8],
 ) -> Ended {
-    match serve_at_last(rt, Way::AtOnce, memory, alloc, &[file, file], stamp)? {
+    match serve_at_last(rt, memory, alloc, &[file, file], stamp)? {
         Some((run, is_refused)) => end_at_last(is_refused, run_at_once(alloc, &run)),
         None => Ok(true),
     }
