@@ -6,7 +6,7 @@ use crate::memory_storage::{AS_IT_WAS, IN_PLACE, Lies, TEXT, expect, storage};
 use atomic_file::{Chunks, KeepError, MemoryStorage, Storage, keep_chunks, replace_chunks};
 use std::alloc::Global;
 use std::test::Fail;
-use test_files::same;
+use test_comparisons::same;
 
 /// A text that comes in pieces of a size, which is not 0; the last may have fewer bytes.
 #[derive(Drop)]

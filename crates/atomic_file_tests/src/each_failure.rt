@@ -8,7 +8,7 @@ use atomic_file::{
 };
 use std::alloc::Global;
 use std::test::Fail;
-use test_files::same;
+use test_comparisons::same;
 
 /// The storage must hold `now`, and `left` after a crash.
 fn expect_both(storage: &mut MemoryStorage, now: &Lies<'_>, left: &Lies<'_>) -> Result<(), Fail> {

@@ -6,7 +6,7 @@ ghost use Rattle.atomic_file.specs.Looking.{Only};
 use atomic_file::{MemoryFile, MemoryStorage, Storage};
 use std::alloc::{AllocError, Global};
 use std::test::Fail;
-use test_files::{same, same_lists};
+use test_comparisons::{same, same_lists};
 
 /// What is kept.
 pub(crate) const TEXT: &[u8] = b"NEW TEXT";

@@ -9,7 +9,7 @@ use std::os::unix::fs::{PermissionsExt, symlink};
 use std::rt::Files;
 use std::test::Fail;
 use std::thread::Threads;
-use test_files::{same, same_bytes};
+use test_comparisons::{same, same_bytes};
 
 const OLD: &[u8] = b"OLD";
 

@@ -7,7 +7,8 @@ use byte_streams::{Feed, ReadRefused};
 use cwr_check::{Checked, check_source, check_text};
 use std::alloc::Global;
 use std::test::Fail;
-use test_files::{miscounted, one_writer, plain_file, same, same_bytes};
+use test_comparisons::{same, same_bytes};
+use test_files::{miscounted, one_writer, plain_file};
 
 const GROUP: &str = "GRHNWR0000102.200000000001";
 

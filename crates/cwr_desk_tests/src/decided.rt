@@ -6,9 +6,10 @@ use std::alloc::Global;
 use std::sync::Wait;
 use std::test::Fail;
 use std::thread::Threads;
+use test_comparisons::same;
 use test_files::{
-    Answer, FaultMessage, SENDER, acknowledgement, decision, one_work, plain_file, same,
-    with_newlines, work_twice,
+    Answer, FaultMessage, SENDER, acknowledgement, decision, one_work, plain_file, with_newlines,
+    work_twice,
 };
 use test_jobs::{accepted, run_at_desk, run_in_turn, whole};
 

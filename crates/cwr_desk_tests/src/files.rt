@@ -7,7 +7,8 @@ use byte_streams::{Failed, Feed, ReadCount, ReadRefused, Room, Source, read_file
 use cwr_desk::{Book, FileOutcome, Job, Run, Why, acknowledge, outcome_line, serve_in_turn};
 use std::alloc::Global;
 use std::test::Fail;
-use test_files::{one_answer, plain_file, same, same_bytes, same_lists, stamp, with_newlines};
+use test_comparisons::{same, same_bytes, same_lists};
+use test_files::{one_answer, plain_file, stamp, with_newlines};
 
 /// Acknowledges a file. `alloc` allocates, and `reader` gives the file. The writer takes `room` bytes; then it fails if
 /// `fails` is true, and else takes nothing more. `end` is how the file must end, and `written` what must be written.

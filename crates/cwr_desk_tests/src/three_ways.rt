@@ -6,7 +6,8 @@ use std::alloc::Global;
 use std::sync::Wait;
 use std::test::Fail;
 use std::thread::Threads;
-use test_files::{same, same_bytes, stamp};
+use test_comparisons::{same, same_bytes};
+use test_files::stamp;
 use test_jobs::{expect_run, run_at_desk, run_in_turn, whole};
 
 /// A file that was worked alone ended like this, and this was written.

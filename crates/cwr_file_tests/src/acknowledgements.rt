@@ -11,7 +11,7 @@ use cwr_file::{AckItem, Fault, Faults, Header, Lines, Memory, Stamp, Status, Wor
 use cwr_record::{read_header, read_message};
 use std::alloc::Global;
 use std::test::Fail;
-use test_files::{same, same_bytes, same_lists};
+use test_comparisons::{same, same_bytes, same_lists};
 
 /// Both first lines, which the stamp alone determines.
 const START: &str = "\

@@ -8,7 +8,7 @@ use crate::visited::{VisitLog, expect_three_works, visitor_called};
 use cwr_file::{Envelope, FileReader, FileRefusal};
 use std::alloc::Global;
 use std::test::Fail;
-use test_files::same;
+use test_comparisons::same;
 
 /// The number of bytes of a file's first piece that a reader consumes.
 fn taken_of(first: &[u8], visitor: &mut VisitLog) -> Result<usize, FileRefusal> {

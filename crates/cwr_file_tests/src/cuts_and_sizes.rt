@@ -10,7 +10,7 @@ use cwr_field::put_digits;
 use cwr_file::{FileRefusal, parse_file};
 use std::alloc::{AllocError, Global};
 use std::test::Fail;
-use test_files::same;
+use test_comparisons::same;
 
 /// The file of one work with a tail after its last line.
 fn expect_tail(alloc: Global, tail: &str, wanted: Option<FileRefusal>) -> Result<(), Fail> {

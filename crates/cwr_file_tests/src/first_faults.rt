@@ -7,7 +7,7 @@ use crate::lines::{
 use cwr_file::{FileRefusal, Memory};
 use std::alloc::Global;
 use std::test::Fail;
-use test_files::same_text;
+use test_comparisons::same_text;
 
 /// A line in the place of one of the file of one work: that one's index, the line, and the number and the line of the
 /// fault.

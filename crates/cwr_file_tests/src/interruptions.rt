@@ -7,7 +7,7 @@ use std::alloc::Global;
 use std::io;
 use std::io::ErrorKind;
 use std::test::Fail;
-use test_files::{same, same_bytes};
+use test_comparisons::{same, same_bytes};
 
 /// What a call returns.
 #[derive(Clone, Copy)]

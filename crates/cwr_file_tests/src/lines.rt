@@ -3,7 +3,7 @@
 use cwr_file::{FileRefusal, Submission, parse_file};
 use std::alloc::{AllocError, Global};
 use std::test::Fail;
-use test_files::same;
+use test_comparisons::same;
 
 pub(crate) const HDR: &[u8] =
     b"HDRPB000000123PUBLISHER A                                  01.102024050112000020240501";

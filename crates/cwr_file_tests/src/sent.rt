@@ -10,7 +10,7 @@ use cwr_file::{AckError, AckItem, Fault, Memory, Room, Status, Through, WorkKind
 use std::alloc::Global;
 use std::io;
 use std::test::Fail;
-use test_files::{same, same_bytes};
+use test_comparisons::{same, same_bytes};
 
 /// A writer that takes at most this number of bytes a call.
 #[derive(Drop)]

@@ -6,7 +6,7 @@ use cwr_file::{Failed, Feed, Lines, Memory, Room, Sink, Source, Through, WriteSt
 use std::alloc::Global;
 use std::test::Fail;
 use std::{io, str};
-use test_files::{same, same_bytes, same_lists, same_text};
+use test_comparisons::{same, same_bytes, same_lists, same_text};
 
 /// What a source gives in reads of four bytes, up to its end or its failure, and the number of reads that answered.
 fn drained<R: Source>(alloc: Global, source: &mut R) -> Result<(Vec<u8>, u64), Fail> {

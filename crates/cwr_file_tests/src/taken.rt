@@ -4,7 +4,7 @@ use crate::lines::{GRH, HDR, NINE_RECORDS, NWR, ONE_WORK, SWR, expect_counts, te
 use cwr_file::{Header, RawTransaction, Submission, WorkKind, parse_file};
 use std::alloc::Global;
 use std::test::Fail;
-use test_files::{same, same_bytes};
+use test_comparisons::{same, same_bytes};
 
 /// The file of one work is taken.
 fn expect_one_work(alloc: Global, text: &[u8]) -> Result<(), Fail> {

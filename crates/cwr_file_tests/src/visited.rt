@@ -9,7 +9,7 @@ use cwr_file::{Envelope, FileRefusal, Header, Memory, Visitor, WorkKind, visit_f
 use cwr_record::RecordType;
 use std::alloc::Global;
 use std::test::Fail;
-use test_files::{same, same_bytes};
+use test_comparisons::{same, same_bytes};
 
 /// A visitor that notes what it is given. It reports an allocation failure after a number of calls.
 #[derive(Drop)]

@@ -7,7 +7,7 @@ use crate::windows::{by, visit};
 use cwr_file::{FileRefusal, visit_file};
 use std::alloc::{AllocError, Global};
 use std::test::Fail;
-use test_files::{same, same_bytes};
+use test_comparisons::{same, same_bytes};
 
 /// The bytes of the shortest line of a detail: its record type and its sequence numbers.
 const MIN: usize = 19;

@@ -9,7 +9,7 @@ use cwr_file::{Envelope, Feed};
 use cwr_source::{SourceRefused, visit_source};
 use std::alloc::Global;
 use std::test::Fail;
-use test_files::same;
+use test_comparisons::same;
 
 /// How a source gives its bytes, and how they are read.
 #[derive(Clone, Copy)]

@@ -8,7 +8,7 @@ use cwr_record::{
 };
 use std::alloc::{AllocError, Global};
 use std::test::Fail;
-use test_files::same;
+use test_comparisons::same;
 
 /// The NWR line with this work code and what follows it.
 fn registration<'a>(alloc: Global, code: &'a [u8], rest: &'a [u8]) -> Result<Vec<u8>, AllocError> {

@@ -4,7 +4,7 @@ use cwr_field::{
     iswc_text, party, put_decimal, put_digits, put_text, share, time,
 };
 use std::test::Fail;
-use test_files::{same, same_bytes, same_text};
+use test_comparisons::{same, same_bytes, same_text};
 
 #[test]
 fn cuts_fields_of_short_lines() -> Result<(), Fail> {

@@ -6,7 +6,7 @@ use cwr_field::{Clock, Day, cut, date, time};
 use std::alloc::{AllocError, Global};
 use std::fmt::Debug;
 use std::test::Fail;
-use test_files::{same, same_bytes};
+use test_comparisons::{same, same_bytes};
 
 /// A line of texts, each with the number of blanks that follow it.
 pub(crate) fn line(alloc: Global, texts: &[(&[u8], usize)]) -> Result<Vec<u8>, AllocError> {

@@ -6,7 +6,7 @@ use cwr_record::{
     party_of, publisher_of, territory_of,
 };
 use std::test::Fail;
-use test_files::same;
+use test_comparisons::same;
 
 #[test]
 fn columns() -> Result<(), Fail> {

@@ -3,7 +3,7 @@
 use crate::lines::{clock, day, text};
 use cwr_record::Stamp;
 use std::test::Fail;
-use test_files::same;
+use test_comparisons::same;
 
 #[test]
 fn parts_of_a_stamp() -> Result<(), Fail> {

@@ -2,7 +2,7 @@
 
 use cwr_record::{Ack, RecordType, WorkKind, type_of};
 use std::test::Fail;
-use test_files::same;
+use test_comparisons::same;
 
 #[test]
 fn types() -> Result<(), Fail> {

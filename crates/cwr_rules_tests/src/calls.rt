@@ -4,7 +4,7 @@ use crate::judging::judged;
 use crate::records::{HALF_WRITER, OWNER, link};
 use cwr_rules::{Call, Fault, Faults, WorkKind};
 use std::test::Fail;
-use test_files::same;
+use test_comparisons::same;
 
 /// The parts of a call, with the ISWC, and with the control of a publisher and a writer.
 #[test]

@@ -6,7 +6,7 @@ use cwr_rules::{Call, Fault, TransactionJudge, WorkKind, judge};
 use std::alloc::Global;
 use std::process::Abort;
 use std::test::Fail;
-use test_files::same;
+use test_comparisons::same;
 
 /// The header of the file.
 const HEADER: &str =

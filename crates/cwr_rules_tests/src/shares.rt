@@ -6,7 +6,7 @@ use cwr_rules::WorkKind;
 use std::alloc::Global;
 use std::process::Abort;
 use std::test::Fail;
-use test_files::same;
+use test_comparisons::same;
 
 /// A writer's line up to its shares.
 const START: &str = writer!("SWR0000000000000001000000001", "");

@@ -4,9 +4,10 @@ use crate::runs::{answered_again, expect_again, expect_none, work};
 use cwr_verify::NoAnswer;
 use std::alloc::Global;
 use std::test::Fail;
+use test_comparisons::{same, same_bytes};
 use test_files::{
     ALL, SENDER, acknowledgement, decision, file, file_of_lines, miscounted, plain_file,
-    rival_claims, same, same_bytes, three_works, work as work_head, writer,
+    rival_claims, three_works, work as work_head, writer,
 };
 use work_registry::Book;
 

@@ -3,7 +3,8 @@
 use crate::runs::{verified, work, work_three};
 use std::alloc::Global;
 use std::test::Fail;
-use test_files::{rival_claims, same_lists, three_works};
+use test_comparisons::same_lists;
+use test_files::{rival_claims, three_works};
 use work_registry::Book;
 
 /// Two rival claims are taken, three works after them, and the first claim once more.

@@ -6,7 +6,8 @@ use cwr_verify::{NoAnswer, answer};
 use failing_alloc::{Ended, FailingAlloc, Sweep, answered, refuse_each, refused};
 use std::alloc::Global;
 use std::test::Fail;
-use test_files::{SENDER, acknowledgement, decision, same_bytes, stamp, work_twice};
+use test_comparisons::same_bytes;
+use test_files::{SENDER, acknowledgement, decision, stamp, work_twice};
 use work_registry::Book;
 
 /// Makes the acknowledgement of a file again, of a book in which the file was worked.

@@ -5,7 +5,8 @@ use cwr_engine::{Job, work_alone};
 use cwr_verify::{NoAnswer, SentFile, VerifyError, answer, verify};
 use std::alloc::Global;
 use std::test::Fail;
-use test_files::{same, same_bytes, stamp};
+use test_comparisons::{same, same_bytes};
+use test_files::stamp;
 use work_registry::Book;
 
 /// Works a file at a book, and appends its acknowledgement.

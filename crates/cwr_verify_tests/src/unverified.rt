@@ -4,7 +4,8 @@ use crate::runs::{verified, work, work_three};
 use cwr_verify::VerifyError;
 use std::alloc::Global;
 use std::test::Fail;
-use test_files::{miscounted, rival_claims, same, three_works};
+use test_comparisons::same;
+use test_files::{miscounted, rival_claims, three_works};
 use work_registry::Book;
 
 /// Where the line of the first transaction ends: HDR has 167 bytes, GRH 28 and ACK 159, each with CR LF.

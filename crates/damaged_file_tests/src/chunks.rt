@@ -7,7 +7,8 @@ use byte_streams::{Failed, ReadCount, Room, Source};
 use cwr_desk::{FileOutcome, acknowledge};
 use std::alloc::Global;
 use std::test::Fail;
-use test_files::{one_answer, plain_file, same, same_bytes, stamp};
+use test_comparisons::{same, same_bytes};
+use test_files::{one_answer, plain_file, stamp};
 
 const ACKED: FileOutcome = FileOutcome::Acked { transactions: 1 };
 

@@ -7,7 +7,8 @@ use std::alloc::Global;
 use std::sync::Wait;
 use std::test::Fail;
 use std::thread::Threads;
-use test_files::{one_answer, plain_file, same, stamp};
+use test_comparisons::same;
+use test_files::{one_answer, plain_file, stamp};
 
 /// The number of bytes of the plain file's last line and its end.
 const LAST_LINE: usize = 26;

@@ -5,7 +5,8 @@ use cwr_desk::{FileOutcome, Why};
 use std::sync::Wait;
 use std::test::Fail;
 use std::thread::Threads;
-use test_files::{one_answer, plain_file, same};
+use test_comparisons::same;
+use test_files::{one_answer, plain_file};
 
 /// The reads of the plain file, a byte at a time, are one more than its bytes: the last one finds the end.
 #[test]

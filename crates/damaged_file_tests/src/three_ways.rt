@@ -9,7 +9,8 @@ use std::alloc::Global;
 use std::sync::Wait;
 use std::test::Fail;
 use std::thread::Threads;
-use test_files::{same, same_bytes, stamp};
+use test_comparisons::{same, same_bytes};
+use test_files::stamp;
 use test_jobs::{MemoryRun, expect_run};
 
 type MemoryJob<'a> = Job<Feed<'a>, Room>;

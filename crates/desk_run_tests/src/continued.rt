@@ -7,7 +7,8 @@ use std::alloc::Global;
 use std::sync::Wait;
 use std::test::Fail;
 use std::thread::Threads;
-use test_files::{acknowledgement, decision, same, three_works};
+use test_comparisons::same;
+use test_files::{acknowledgement, decision, three_works};
 use test_jobs::{
     MemoryRun, accepted, expect_ends, expect_history, expect_run, expect_written, run_at_desk,
     run_in_turn, whole,

@@ -6,9 +6,8 @@ use cwr_desk::{Book, FileOutcome, Gate, Reply, Shut, Why};
 use std::alloc::Global;
 use std::sync::Mutex;
 use std::test::Fail;
-use test_files::{
-    OTHER_SENDER, SENDER, acknowledgement, decision, same, same_lists, three_works, work_twice,
-};
+use test_comparisons::{same, same_lists};
+use test_files::{OTHER_SENDER, SENDER, acknowledgement, decision, three_works, work_twice};
 use test_jobs::{MemoryRun, accepted, expect_ends, expect_run, expect_written, run_at_desk, whole};
 
 /// A gate that is closed for one transaction of one worker.

@@ -5,7 +5,8 @@ use std::alloc::Global;
 use std::sync::Wait;
 use std::test::Fail;
 use std::thread::Threads;
-use test_files::{ALL, file, miscounted, one_answer, plain_file, same, work, writer};
+use test_comparisons::same;
+use test_files::{ALL, file, miscounted, one_answer, plain_file, work, writer};
 use test_jobs::{
     ACKED, MemoryRun, accepted, expect_ends, expect_history, expect_written, run_at_desk,
     run_whole_files, unread, with_room,

@@ -5,7 +5,8 @@ use cwr_desk::{Book, Desk, FileOutcome, Why, work};
 use std::alloc::Global;
 use std::sync::Wait;
 use std::test::Fail;
-use test_files::{one_answer, rival_claims, same, same_bytes, stamp};
+use test_comparisons::{same, same_bytes};
+use test_files::{one_answer, rival_claims, stamp};
 use test_jobs::{ACKED, accepted, expect_history};
 
 /// What two seats leave: the book, how each file ended and what was written of its acknowledgement.

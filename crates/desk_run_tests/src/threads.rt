@@ -8,7 +8,8 @@ use std::sync::Wait;
 use std::sync::atomic::{AtomicU64, Ordering};
 use std::test::Fail;
 use std::thread::{Threads, yield_now};
-use test_files::{one_answer, plain_file, rival_claims, same};
+use test_comparisons::same;
+use test_files::{one_answer, plain_file, rival_claims};
 use test_jobs::{
     ACKED, MemoryRun, accepted, expect_ends, expect_history, expect_written, run_at_desk, whole,
 };

@@ -3,9 +3,10 @@
 use cwr_desk::{Book, Claim, FileOutcome, Reply, Why};
 use std::alloc::Global;
 use std::test::Fail;
+use test_comparisons::{same, same_bytes};
 use test_files::{
     FaultMessage, OTHER_SENDER, SENDER, acknowledgement, decision, miscounted, one_answer,
-    one_work, plain_file, same, same_bytes, three_works,
+    one_work, plain_file, three_works,
 };
 use test_jobs::{
     ACKED, MemoryRun, accepted, all_with_room, expect_ends, expect_history, expect_run,

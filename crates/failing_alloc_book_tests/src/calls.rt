@@ -4,7 +4,7 @@ use crate::at_book::{AtBook, BookFirst, Made};
 use failing_alloc::{Ended, FailingAlloc, answered, refuse_each, refused};
 use std::test::Fail;
 use test_books::{CALLS, call, gives_back, holds, reply_to};
-use test_files::same;
+use test_comparisons::same;
 use work_registry::{Book, Call, Refused};
 
 /// Hands in the call with this number, which may be refused. The book is then as it was, and takes the call once there

@@ -5,7 +5,7 @@ use failing_alloc::{Ended, FailingAlloc, Sweep, answered, refuse_each, refused};
 use std::alloc::Global;
 use std::test::Fail;
 use test_books::{book_of, holds};
-use test_files::{same, same_bytes};
+use test_comparisons::{same, same_bytes};
 use work_registry::{Book, RegisterRefusal, audit, read_register};
 
 /// The number of calls in the register.

@@ -6,7 +6,7 @@ use html_pages::{PageError, summary_page};
 use register_tables::{SubmitterEntries, most_entries};
 use std::alloc::Global;
 use std::test::Fail;
-use test_files::{same, same_bytes, same_lists};
+use test_comparisons::{same, same_bytes, same_lists};
 use work_registry::{Book, RegisterRefusal, read_register};
 
 /// The name of the register.

@@ -8,7 +8,7 @@ use std::process::Abort;
 use std::sync::Wait;
 use std::test::Fail;
 use test_books::{book_of, call, gives_back, holds, reply_to};
-use test_files::same;
+use test_comparisons::same;
 
 /// The book must hold the first `count` calls, those after the first `before` of session 1.
 fn expect_book(book: &Book<&FailingAlloc>, before: u16, count: u16) -> Result<(), Fail> {

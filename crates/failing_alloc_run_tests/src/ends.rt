@@ -4,7 +4,8 @@ use cwr_desk::{Book, Claim, FileOutcome, Reply, Why};
 use failing_alloc::FailingAlloc;
 use std::alloc::Global;
 use std::test::Fail;
-use test_files::{Answer, acknowledgement, decision, same, same_bytes};
+use test_comparisons::{same, same_bytes};
+use test_files::{Answer, acknowledgement, decision};
 
 /// What must have been decided on a transaction: the submitter's number of its work, and the reply.
 pub(crate) type Decided<'a> = (&'a str, Reply);

@@ -10,7 +10,8 @@ use failing_alloc::{FailingAlloc, check_refusal};
 use std::alloc::Global;
 use std::test::Fail;
 use std::thread::Threads;
-use test_files::{plain_file, same, stamp, three_works};
+use test_comparisons::same;
+use test_files::{plain_file, stamp, three_works};
 
 /// Files of new works, and the number of works of each: W1 alone, or W1, W2 and W3.
 #[derive(Clone, Copy)]

@@ -10,7 +10,8 @@ use cwr_desk::{Book, FileOutcome, Reply, Run, ServeRefused, Stamp, serve_in_turn
 use failing_alloc::{Ended, FailingAlloc, Sweep, refuse_each};
 use std::alloc::Global;
 use std::test::Fail;
-use test_files::{SENDER, same, same_bytes, stamp, three_works, work_twice};
+use test_comparisons::{same, same_bytes};
+use test_files::{SENDER, stamp, three_works, work_twice};
 
 /// What a run with a failing allocator leaves.
 pub(crate) type FailingAllocRun<'a, 'm> = Run<Feed<'a>, Room, &'m FailingAlloc>;

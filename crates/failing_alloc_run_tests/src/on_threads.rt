@@ -11,7 +11,8 @@ use std::alloc::Global;
 use std::sync::Wait;
 use std::test::Fail;
 use std::thread::Threads;
-use test_files::{same, stamp, three_works};
+use test_comparisons::same;
+use test_files::{stamp, three_works};
 
 /// The works of the file, in order.
 const NUMBERS: [&str; 3] = ["W1", "W2", "W3"];

@@ -3,7 +3,7 @@
 use failing_alloc::FailingAlloc;
 use std::alloc::{Allocator, Global};
 use std::test::Fail;
-use test_files::same;
+use test_comparisons::same;
 
 /// Allocates three times, and returns which of the three were refused.
 fn asked_three_times<A: Allocator + Copy>(memory: A) -> [bool; 3] {

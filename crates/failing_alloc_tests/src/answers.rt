@@ -11,7 +11,8 @@ use cwr_record::{Header, Stamp, Status, WorkKind, read_header};
 use failing_alloc::{Ended, FailingAlloc, Sweep, answered, refuse_each, refused};
 use std::alloc::Global;
 use std::test::Fail;
-use test_files::{SENDER, acknowledgement, decision, header, same_bytes, stamp};
+use test_comparisons::same_bytes;
+use test_files::{SENDER, acknowledgement, decision, header, stamp};
 
 /// The share that is reported.
 const SHARE: Fault = Fault {

@@ -9,7 +9,8 @@ use cwr_rules::judge;
 use failing_alloc::{Ended, FailingAlloc, Sweep, answered, refuse_each};
 use std::alloc::Global;
 use std::test::Fail;
-use test_files::{file_of_lines, same, same_bytes, same_lists, three_works};
+use test_comparisons::{same, same_bytes, same_lists};
+use test_files::{file_of_lines, three_works};
 
 /// The submitter of the files.
 const SUBMITTER: [u8; 11] = *b"PB000000123";

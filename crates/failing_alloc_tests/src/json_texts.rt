@@ -7,7 +7,8 @@ use cwr_report::{
 };
 use std::alloc::Global;
 use std::test::Fail;
-use test_files::{plain_file, same, same_bytes};
+use test_comparisons::{same, same_bytes};
+use test_files::plain_file;
 
 /// Bytes, and their text by RFC 8259, each byte as the character with its number. The cases are: fewer bytes than are
 /// looked at together; that number of bytes which stand for themselves, next to others that do not; and one byte that

@@ -4,7 +4,8 @@ use failing_alloc::{Ended, FailingAlloc, Sweep, answered, refuse_each, refused};
 use html_pages::{PageError, WrittenPage, check_page};
 use std::alloc::Global;
 use std::test::Fail;
-use test_files::{file_of_lines, miscounted, plain_file, same, same_bytes, work};
+use test_comparisons::{same, same_bytes};
+use test_files::{file_of_lines, miscounted, plain_file, work};
 
 /// The name of each file.
 const NAME: &str = "a & b.v22";

@@ -7,7 +7,8 @@ use cwr_report::{
 use failing_alloc::{Ended, FailingAlloc, Sweep, answered, refuse_each, refused};
 use std::alloc::Global;
 use std::test::Fail;
-use test_files::{file_of_lines, miscounted, plain_file, same, same_bytes, same_lists};
+use test_comparisons::{same, same_bytes, same_lists};
+use test_files::{file_of_lines, miscounted, plain_file};
 
 /// A file of one work without a title, with two records of types that CWR 2.2 does not have.
 fn untitled_file(alloc: Global) -> Result<Vec<u8>, Fail> {

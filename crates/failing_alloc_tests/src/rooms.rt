@@ -3,7 +3,7 @@
 use byte_streams::Room;
 use failing_alloc::{Ended, FailingAlloc, Sweep, answered, refuse_each};
 use std::test::Fail;
-use test_files::same_bytes;
+use test_comparisons::same_bytes;
 
 struct NewRoom;
 

@@ -4,7 +4,7 @@ use failing_alloc::{Ended, FailingAlloc, Sweep, refuse_each};
 use std::alloc::AllocError;
 use std::process::{ExitCode, Termination};
 use std::test::Fail;
-use test_files::same;
+use test_comparisons::same;
 
 /// Allocates `times` times, up to a refusal.
 fn ask(memory: &FailingAlloc, times: u64) -> Result<(), AllocError> {

@@ -11,7 +11,7 @@ use cwr_field::{Memory, put_digits, put_text};
 use failing_alloc::{Ended, FailingAlloc, Sweep, answered, refuse_each, refused};
 use std::alloc::{Allocator, Global};
 use std::test::Fail;
-use test_files::same_bytes;
+use test_comparisons::same_bytes;
 
 /// Whether there was memory for a text.
 pub(crate) type Put = Result<Result<(), Memory>, Fail>;

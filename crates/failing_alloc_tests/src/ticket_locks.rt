@@ -2,7 +2,7 @@
 
 use failing_alloc::{Ended, FailingAlloc, Sweep, answered, refuse_each, refused};
 use std::test::Fail;
-use test_files::{same, same_lists};
+use test_comparisons::{same, same_lists};
 use ticket_core::{Event, Lock, Outcome, Phase};
 
 type FailingAllocLock<'m> = Lock<&'m FailingAlloc>;

@@ -4,9 +4,10 @@ use byte_streams::{Feed, ReadRefused, Room, read_file};
 use cwr_desk::{FileOutcome, MAX_BYTES, Why, acknowledge};
 use std::alloc::Global;
 use std::test::Fail;
+use test_comparisons::{same, same_bytes};
 use test_files::{
     SENDER, acknowledgement, crowded_faults, crowded_work, decision, many_answers, many_groups,
-    many_works, same, same_bytes, stamp,
+    many_works, stamp,
 };
 
 /// Acknowledges a file: how it must end, and what must be written.

@@ -7,7 +7,8 @@ use std::alloc::Global;
 use std::sync::Wait;
 use std::test::Fail;
 use std::thread::Threads;
-use test_files::{OTHER_SENDER, SENDER, many_answers, many_entries, many_works, same, same_bytes};
+use test_comparisons::{same, same_bytes};
+use test_files::{OTHER_SENDER, SENDER, many_answers, many_entries, many_works};
 use test_jobs::{MemoryRun, expect_ends, expect_written, run_at_desk, run_in_turn, with_room};
 
 /// A bound on the bytes of an acknowledgement here.

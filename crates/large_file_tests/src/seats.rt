@@ -6,7 +6,8 @@ use std::alloc::Global;
 use std::sync::atomic::{AtomicU64, Ordering};
 use std::test::Fail;
 use std::thread::yield_now;
-use test_files::{many_works, same};
+use test_comparisons::same;
+use test_files::many_works;
 use test_jobs::{MemoryRun, expect_ends, run_whole_files};
 
 /// The number of works of each file.

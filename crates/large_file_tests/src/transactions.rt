@@ -8,9 +8,8 @@ use cwr_rules::{Call, judge};
 use cwr_source::WINDOW;
 use std::alloc::Global;
 use std::test::Fail;
-use test_files::{
-    FaultMessage, SENDER, crowded_faults, crowded_work, many_checked, many_works, same, same_bytes,
-};
+use test_comparisons::{same, same_bytes};
+use test_files::{FaultMessage, SENDER, crowded_faults, crowded_work, many_checked, many_works};
 
 /// The transaction at a place of a file of many works.
 fn expect_transaction(transaction: &RawTransaction, place: u32) -> Result<(), Fail> {

@@ -9,9 +9,8 @@ use std::alloc::Global;
 use std::sync::atomic::{AtomicU64, Ordering};
 use std::test::Fail;
 use std::thread::{Threads, yield_now};
-use test_files::{
-    OTHER_SENDER, SENDER, many_works, plain_file, same, same_bytes, same_lists, stamp,
-};
+use test_comparisons::{same, same_bytes, same_lists};
+use test_files::{OTHER_SENDER, SENDER, many_works, plain_file, stamp};
 use test_jobs::{MemoryRun, all_with_room, run_in_turn};
 
 /// The number of times that a reader or a writer looks for the others before it gives up.

@@ -2,7 +2,7 @@
 
 use cwr_desk::{FileOutcome, Reply, Why};
 use std::test::Fail;
-use test_files::same;
+use test_comparisons::same;
 
 /// The number of times that each kind must have come, at least.
 const OFTEN: u32 = 40;

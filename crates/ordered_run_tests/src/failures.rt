@@ -7,7 +7,7 @@ use cwr_desk::{FileOutcome, Why};
 use std::alloc::Global;
 use std::test::Fail;
 use std::thread::Threads;
-use test_files::same;
+use test_comparisons::same;
 use test_jobs::{ACKED, Input, all_with_room, with_room};
 
 /// Where the three files stand: the first one and a middle one of the first eight, and the ninth. Each holds one work.

@@ -6,7 +6,7 @@ use cwr_desk::{Book, Job};
 use std::alloc::Global;
 use std::test::Fail;
 use std::thread::Threads;
-use test_files::{same, same_bytes, same_lists};
+use test_comparisons::{same, same_bytes, same_lists};
 use test_jobs::{Input, MemoryRun, run_in_order, run_in_turn};
 
 /// The writers of two runs must have taken the same bytes, and the same readers and writers must have failed.

@@ -6,7 +6,7 @@ use std::str::Lines;
 use std::sync::Wait;
 use std::test::Fail;
 use std::thread::Threads;
-use test_files::{same, same_bytes};
+use test_comparisons::{same, same_bytes};
 use test_program::{Fake, expect_program};
 
 /// The pages of a rule of each kind, in the order of the words.

@@ -5,7 +5,8 @@ use std::process::ExitCode;
 use std::sync::Wait;
 use std::test::Fail;
 use std::thread::Threads;
-use test_files::{file_of_lines, miscounted, plain_file, same, same_bytes};
+use test_comparisons::{same, same_bytes};
+use test_files::{file_of_lines, miscounted, plain_file};
 use test_program::{Fake, expect_program};
 
 /// What is printed of this file, with this status.

@@ -5,7 +5,7 @@ use crate::printed_tables::REGISTER;
 use purvilgo_command::run_program;
 use std::process::ExitCode;
 use std::test::Fail;
-use test_files::same;
+use test_comparisons::same;
 use test_program::{Fake, Given, Step, Text, expect_play};
 
 /// The header of plain claims, and the claim.

@@ -7,7 +7,8 @@ use std::process::ExitCode;
 use std::sync::Wait;
 use std::test::Fail;
 use std::thread::Threads;
-use test_files::{miscounted, plain_file, same, same_bytes, same_text};
+use test_comparisons::{same, same_bytes, same_text};
+use test_files::{miscounted, plain_file};
 use test_program::{Fake, expect_program};
 
 /// What a page begins with.

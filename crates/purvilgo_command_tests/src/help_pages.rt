@@ -5,7 +5,7 @@ use std::process::ExitCode;
 use std::sync::Wait;
 use std::test::Fail;
 use std::thread::Threads;
-use test_files::{same, same_bytes};
+use test_comparisons::{same, same_bytes};
 use test_program::Fake;
 
 /// The page for these words must name all of these, and be on standard error, with status 2.

@@ -9,7 +9,8 @@ use std::rt::Files;
 use std::sync::Wait;
 use std::test::Fail;
 use std::thread::Threads;
-use test_files::{plain_file, same};
+use test_comparisons::same;
+use test_files::plain_file;
 use test_program::{
     Fake, FakeFile, Given, Kept, KeptFile, Step, Text, expect_held, expect_play, expect_program,
     keeping, run_with,

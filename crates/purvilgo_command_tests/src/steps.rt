@@ -4,7 +4,8 @@ use std::process::ExitCode;
 use std::sync::Wait;
 use std::test::Fail;
 use std::thread::Threads;
-use test_files::{file_of_lines, miscounted, one_answer, plain_file, same, same_text};
+use test_comparisons::{same, same_text};
+use test_files::{file_of_lines, miscounted, one_answer, plain_file};
 use test_program::{
     Calls, Disk, Fake, Given, Kept, Step, Text, expect_play, expect_program, run_with,
 };

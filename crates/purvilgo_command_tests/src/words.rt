@@ -2,7 +2,7 @@
 
 use run_options::{RunFault, run_fault, words_fault};
 use std::test::Fail;
-use test_files::{same, same_text};
+use test_comparisons::{same, same_text};
 
 #[test]
 fn tells_the_first_wrong_word() -> Result<(), Fail> {

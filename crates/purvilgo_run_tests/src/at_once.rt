@@ -7,7 +7,8 @@ use std::process::ExitCode;
 use std::sync::Wait;
 use std::test::Fail;
 use std::thread::Threads;
-use test_files::{miscounted, same, same_text};
+use test_comparisons::{same, same_text};
+use test_files::miscounted;
 use test_program::{Fake, FakeFile, Meeting, run_with};
 
 /// Runs files, of which each must be refused. `rt` starts threads and waits, `words` is the command line, and `files`

@@ -7,7 +7,8 @@ use std::process::ExitCode;
 use std::sync::Wait;
 use std::test::Fail;
 use std::thread::Threads;
-use test_files::{plain_file, same, same_text};
+use test_comparisons::{same, same_text};
+use test_files::plain_file;
 use test_program::{
     Calls, Disk, Fake, FakeFile, KeptFile, Text, expect_held, expect_program, keeping, register,
     run_with,

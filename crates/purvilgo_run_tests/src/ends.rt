@@ -6,7 +6,8 @@ use std::process::ExitCode;
 use std::sync::Wait;
 use std::test::Fail;
 use std::thread::Threads;
-use test_files::{OTHER_SENDER, SENDER, acknowledgement, decision, miscounted, one_work, same};
+use test_comparisons::same;
+use test_files::{OTHER_SENDER, SENDER, acknowledgement, decision, miscounted, one_work};
 use test_program::{
     FakeFile, Given, Kept, KeptFile, Step, Text, expect, expect_held, expect_play, run_with,
 };

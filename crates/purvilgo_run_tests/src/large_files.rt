@@ -6,9 +6,10 @@ use std::process::ExitCode;
 use std::sync::Wait;
 use std::test::Fail;
 use std::thread::Threads;
+use test_comparisons::same;
 use test_files::{
     OTHER_SENDER, SENDER, acknowledgement, crowded_faults, crowded_work, decision, many_answers,
-    many_checked, many_entries, many_works, same,
+    many_checked, many_entries, many_works,
 };
 use test_program::{
     Fake, FakeFile, KeptFile, expect, expect_held, expect_program, keeping, run_with,

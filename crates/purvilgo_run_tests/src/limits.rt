@@ -8,7 +8,8 @@ use std::process::ExitCode;
 use std::sync::Wait;
 use std::test::Fail;
 use std::thread::Threads;
-use test_files::{SENDER, many_answers, many_checked, many_works, same};
+use test_comparisons::same;
+use test_files::{SENDER, many_answers, many_checked, many_works};
 use test_program::{Fake, FakeFile, KeptFile, expect, expect_held, expect_program, run_with};
 
 /// The greatest number of bytes of a file that is acknowledged or checked.

@@ -10,7 +10,8 @@ use std::process::ExitCode;
 use std::sync::Wait;
 use std::test::Fail;
 use std::thread::Threads;
-use test_files::{plain_file, same};
+use test_comparisons::same;
+use test_files::plain_file;
 use test_program::{Disk, FakeFile, Text, register, run_with};
 
 /// The register of `--from` does not exist, and nothing is printed of it.

@@ -6,7 +6,8 @@ use std::process::ExitCode;
 use std::sync::Wait;
 use std::test::Fail;
 use std::thread::Threads;
-use test_files::{miscounted, one_answer, plain_file, rival_claims, same, same_bytes};
+use test_comparisons::{same, same_bytes};
+use test_files::{miscounted, one_answer, plain_file, rival_claims};
 use test_program::{
     FakeFile, Given, Kept, KeptFile, Step, Text, expect, expect_held, expect_play, run_with,
 };

@@ -6,7 +6,7 @@ use register_tables::{
 };
 use std::alloc::Global;
 use std::test::Fail;
-use test_files::{same, same_bytes};
+use test_comparisons::{same, same_bytes};
 use work_registry::{Book, Call, Fault, Faults, WorkKind};
 
 /// The submitters of the sample files.

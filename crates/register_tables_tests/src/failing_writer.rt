@@ -9,7 +9,7 @@ use std::alloc::Global;
 use std::io;
 use std::io::Write;
 use std::test::Fail;
-use test_files::same;
+use test_comparisons::same;
 use work_registry::Book;
 
 /// A writer that takes nothing.

@@ -7,7 +7,7 @@ use cwr_field::filled;
 use register_tables::{Audited, Wanted, audit_json};
 use std::alloc::Global;
 use std::test::Fail;
-use test_files::same_bytes;
+use test_comparisons::same_bytes;
 use work_registry::{Book, Fault, Status, WorkKind};
 
 /// The third entry of the example in the profile's section on decisions, and the sixth and the seventh.

@@ -4,7 +4,7 @@ use crate::books::{TITLE, Transaction, W1, hand_in};
 use register_tables::{SubmitterEntries, most_entries};
 use std::alloc::Global;
 use std::test::Fail;
-use test_files::same_lists;
+use test_comparisons::same_lists;
 use work_registry::{Book, WorkKind};
 
 /// A submitter that ends with this letter.

@@ -1,7 +1,7 @@
 //! The pure lock, event by event.
 
 use std::test::Fail;
-use test_files::same;
+use test_comparisons::same;
 use ticket_core::{ArrayEvent, ArrayLock, ArrayOutcome, ArrayPhase, Event, Lock, Outcome, Phase};
 
 /// Of the 64 flags this one alone must be open; 64 stands for none.

@@ -7,7 +7,7 @@ ghost use Rattle.test_books.specs.Calls.{title, work_numbered, key_of, kind_numb
 
 use std::alloc::Allocator;
 use std::test::Fail;
-use test_files::same;
+use test_comparisons::same;
 use work_registry::{Book, Call, Claim, Entry, Faults, HandInError, Refused, Reply, WorkKind};
 
 /// The submitter of all calls.

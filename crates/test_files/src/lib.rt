@@ -1,15 +1,13 @@
 //! Files of the profile and the acknowledgements that answer them, line by line, for tests of the crates that read the
-//! one and write the other; and comparisons that print what differs.
+//! one and write the other.
 #![tactic(auto)]
 
 mod answers;
-mod compared;
 mod fields;
 mod files;
 mod large_files;
 
 pub use answers::{Answer, FaultMessage, acknowledgement, decision, one_answer};
-pub use compared::{same, same_bytes, same_lists, same_text};
 pub use files::{
     ALL, OTHER_SENDER, SENDER, file, file_of_lines, header, miscounted, one_work, one_writer,
     plain_file, rival_claims, stamp, three_works, with_newlines, work, work_twice, writer,

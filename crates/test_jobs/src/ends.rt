@@ -3,7 +3,7 @@
 use crate::jobs::MemoryRun;
 use cwr_desk::{Book, FileOutcome, Reply};
 use std::test::Fail;
-use test_files::{same, same_bytes, same_lists};
+use test_comparisons::{same, same_bytes, same_lists};
 
 /// A file of one transaction was acknowledged.
 pub const ACKED: FileOutcome = FileOutcome::Acked { transactions: 1 };

@@ -13,7 +13,7 @@ use std::process::ExitCode;
 use std::sync::{Mutex, Wait};
 use std::test::Fail;
 use std::thread::Threads;
-use test_files::{same, same_bytes, same_text};
+use test_comparisons::{same, same_bytes, same_text};
 
 /// The number of the system's error that there is no space left.
 const NO_SPACE: i32 = 28;

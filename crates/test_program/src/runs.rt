@@ -7,7 +7,7 @@ use std::process::ExitCode;
 use std::sync::{Mutex, Wait};
 use std::test::Fail;
 use std::thread::Threads;
-use test_files::same_bytes;
+use test_comparisons::same_bytes;
 
 /// The words of the stamp of all acknowledgements.
 const STAMP: [&str; 8] = [

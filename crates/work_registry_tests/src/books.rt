@@ -2,7 +2,7 @@
 
 use std::alloc::Global;
 use std::test::Fail;
-use test_files::same;
+use test_comparisons::same;
 use work_registry::{Book, Call, Entry, Fault, Faults, Reply, WorkKind};
 
 /// The submitters of the sample files.

@@ -5,7 +5,7 @@ ghost use Rattle.std.specs.Prelude.{◌<◌};
 use crate::registers::ONE_ENTRY;
 use std::alloc::Global;
 use std::test::Fail;
-use test_files::same;
+use test_comparisons::same;
 use work_registry::{Auditor, RegisterReader, RegisterRefusal};
 
 /// The result of an audit of a text that comes in pieces of this size.

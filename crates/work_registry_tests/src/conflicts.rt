@@ -3,7 +3,7 @@
 use crate::books::{ISWC, ONE, OTHER, W1, accepted, call, controlled, expect_reply, reply};
 use std::alloc::Global;
 use std::test::Fail;
-use test_files::same;
+use test_comparisons::same;
 use work_registry::{Book, Reply, WorkKind};
 
 const CONFLICT: Reply = Reply::Conflict { work: 1 };

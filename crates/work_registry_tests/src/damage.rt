@@ -3,7 +3,7 @@
 use crate::registers::{ONE_ENTRY, expect_fault, expect_fault_at};
 use std::alloc::Global;
 use std::test::Fail;
-use test_files::same;
+use test_comparisons::same;
 use work_registry::{RegisterRefusal, read_register};
 
 /// The register of one entry, with a text in place of the bytes of line 2 from this position, counted from 1.

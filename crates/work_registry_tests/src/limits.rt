@@ -7,7 +7,7 @@ use crate::books::{
 };
 use std::alloc::Global;
 use std::test::Fail;
-use test_files::same;
+use test_comparisons::same;
 use work_registry::{Book, Call, Fault, HandInError, Reply, WorkKind};
 
 const W2: [u8; 14] = *b"W2            ";

@@ -4,7 +4,7 @@ use crate::books::{call, expect_reply};
 use crate::plain;
 use std::alloc::Global;
 use std::test::Fail;
-use test_files::same;
+use test_comparisons::same;
 use work_registry::{Book, Call, WorkKind};
 
 fn digit(value: u64) -> u8 {

@@ -6,7 +6,7 @@ use crate::books::{ONE, TITLE, W1, call, reply};
 use crate::registers::ONE_ENTRY;
 use std::alloc::Global;
 use std::test::Fail;
-use test_files::{same, same_bytes};
+use test_comparisons::{same, same_bytes};
 use work_registry::{Book, Call, Fault, Faults, WorkKind};
 
 /// The smallest room for a piece: that of the fields of fixed place.

@@ -3,7 +3,7 @@
 use crate::books::{ONE, TITLE, W1, call};
 use std::alloc::Global;
 use std::test::Fail;
-use test_files::same;
+use test_comparisons::same;
 use work_registry::{Call, Fault, Faults, RegisterRefusal, WorkKind, audit};
 
 /// The register of one entry: a work that the submitter calls W1 is registered.

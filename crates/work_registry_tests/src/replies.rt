@@ -2,7 +2,7 @@
 
 use crate::books::accepted;
 use std::test::Fail;
-use test_files::same;
+use test_comparisons::same;
 use work_registry::Reply;
 
 /// The Transaction Status of a reply, the work that it names, and the version of an accepted claim.

@@ -3,7 +3,7 @@
 use crate::books::{ISWC, ONE, OTHER, W1, accepted, call, call_with_fault, expect_reply};
 use std::alloc::Global;
 use std::test::Fail;
-use test_files::same;
+use test_comparisons::same;
 use work_registry::{Book, Claim, Reply, WorkKind};
 
 const W7: [u8; 14] = *b"W7            ";

@@ -7,7 +7,7 @@ use crate::registers::{expect_fault, expect_fault_at, whole_call};
 use crate::revisions::revise;
 use std::alloc::{AllocError, Global};
 use std::test::Fail;
-use test_files::{same, same_bytes};
+use test_comparisons::{same, same_bytes};
 use work_registry::{Book, RegisterRefusal, Reply, WorkKind, read_register};
 
 /// Registers a work under a number, which must be new.

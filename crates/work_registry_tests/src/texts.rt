@@ -4,7 +4,7 @@ use crate::books::{Said, W1, accepted, expect_entry, expect_reply, reply};
 use crate::registers::{ONE_ENTRY, expect_fault, faulty_call, whole_call};
 use std::alloc::{AllocError, Global};
 use std::test::Fail;
-use test_files::{same, same_bytes, same_text};
+use test_comparisons::{same, same_bytes, same_text};
 use work_registry::{Book, Call, Fault, RegisterRefusal, Reply, audit, read_register};
 
 /// The audit of a register counts `entries` entries.

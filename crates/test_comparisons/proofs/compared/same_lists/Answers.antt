@@ -1,5 +1,5 @@
 use Rattle.std.proofs.Common.{rules}
-use Rattle.test_files.proofs.compared.same_lists.Goals as goal
+use Rattle.test_comparisons.proofs.compared.same_lists.Goals as goal
 
 pub returns-then-eq : goal.returns-then-eq
 returns-then-eq g c = search rules
