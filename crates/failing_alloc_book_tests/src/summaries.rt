@@ -2,10 +2,10 @@
 
 use crate::at_book::{AtBook, BookFirst, Made};
 use failing_alloc::{Ended, FailingAlloc, answered, refuse_each, refused};
-use html_pages::{PageError, summary_page};
 use register_tables::{SubmitterEntries, most_entries};
 use std::alloc::Global;
 use std::test::Fail;
+use summary_pages::{PageError, summary_page};
 use test_comparisons::{same, same_bytes, same_lists};
 use work_registry::{Book, RegisterRefusal, read_register};
 

@@ -1,7 +1,7 @@
 //! Pages of checks.
 
+use check_pages::{PageError, WrittenPage, check_page};
 use failing_alloc::{Ended, FailingAlloc, Sweep, answered, refuse_each, refused};
-use html_pages::{PageError, WrittenPage, check_page};
 use std::alloc::Global;
 use std::test::Fail;
 use test_comparisons::{same, same_bytes};

@@ -4,7 +4,7 @@ use crate::pages::{
     CLEAN, CLEAN_PAGE, CLEAN_SIZE, FAULTY, FAULTY_PAGE, FAULTY_SIZE, REFUSED, REFUSED_PAGE,
     REFUSED_SIZE,
 };
-use html_pages::{PageError, WrittenPage, check_page};
+use check_pages::{PageError, WrittenPage, check_page};
 use std::alloc::Global;
 use std::io;
 use std::io::Write;

@@ -1,4 +1,4 @@
-//! Files, and what stands in their pages. A script wrote these pages that shares no code with `html_pages`.
+//! Files, and what stands in their pages. A script wrote these pages that shares no code with `check_pages`.
 
 /// Faults of two rules on one line, of one of them two in the file, and a byte above 126.
 pub(crate) const FAULTY: &[u8] =

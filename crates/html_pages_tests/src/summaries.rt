@@ -1,10 +1,10 @@
 //! Pages of summaries.
 
-use html_pages::{PageError, summary_page};
 use std::alloc::Global;
 use std::io;
 use std::io::Write;
 use std::test::Fail;
+use summary_pages::{PageError, summary_page};
 use test_comparisons::{same, same_bytes};
 use work_registry::{Book, read_register};
 

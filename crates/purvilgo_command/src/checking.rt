@@ -1,9 +1,9 @@
 //! What the rules say of a file, before it is sent.
 
 use crate::arguments::{Argument, CommandWords};
-use crate::check_pages::check_as_page;
 use crate::files::{Reading, bytes_of, read_named};
 use crate::help::CHECK_HELP;
+use crate::page_of_check::check_as_page;
 use crate::printing::StandardOutput;
 use crate::status::{bad_words, status_of};
 use byte_streams::{ReadRefused, Source};

@@ -4,7 +4,6 @@
 
 mod answered_file;
 mod arguments;
-mod check_pages;
 mod checking;
 mod command_line;
 mod explain;
@@ -15,6 +14,7 @@ mod help;
 mod keeping;
 mod messages;
 mod output;
+mod page_of_check;
 mod printing;
 mod program;
 mod registers;

@@ -1,20 +1,20 @@
 //! A register as tables, and its summary.
 
 use crate::arguments::{Argument, CommandWords};
-use crate::check_pages::name_shown;
 use crate::help::{CLAIMS_HELP, HISTORY_HELP, SUMMARY_HELP, WORKS_HELP};
+use crate::page_of_check::name_shown;
 use crate::printing::StandardOutput;
 use crate::registers::{REGISTER, audited_book};
 use crate::status::{bad_words, no_memory};
 use crate::wanted_rows::wanted_in;
 use clap::ArgMatches;
-use html_pages::{PageError, summary_page};
 use register_tables::{
     Form, TableError, Wanted, WrittenTable, claims_table, history_json, history_table,
     summary_json, summary_text, works_table,
 };
 use std::process::ExitCode;
 use std::rt::Files;
+use summary_pages::{PageError, summary_page};
 use work_registry::Book;
 
 /// A table of a register.

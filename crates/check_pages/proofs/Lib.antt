@@ -1,0 +1,12 @@
+pub mod Runs
+pub mod Counts
+pub mod FewLines
+pub mod Writing
+pub mod BoxedLines
+pub mod ClosedMarks
+pub mod ContextsOfLines
+pub mod ContextsOfFaults
+pub mod ContextsOfSections
+pub mod ContextsOfRules
+pub mod ContextsOfFacts
+pub mod ContextsOfChecks

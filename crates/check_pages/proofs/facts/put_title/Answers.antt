@@ -1,0 +1,19 @@
+use Rattle.std.proofs.lemmas.Result.{on_ok_weaker}
+use Rattle.html_text.specs.FileNames.{file_name}
+use Rattle.html_text.proofs.lemmas.Chains.{last_fixed, then_fixed, then_part}
+use Rattle.check_pages.specs.Facts.{style_pieces, title_pieces}
+use Rattle.check_pages.proofs.facts.put_title.Goals as goal
+
+pub returns : goal.returns
+unfolding title_pieces
+returns g c =
+    on_ok_weaker c.put-4.result
+    (λ is.
+    (then_fixed _ _ _ _ _ c.in_ok-put.ensures
+    (then_part _ _ _ (file_name c.args.name.now) _ c.in_ok-put_name.ensures
+    (then_fixed _ _ _ _ _ c.in_ok-put-2.ensures
+    (then_part _ _ _ (style_pieces c.args.many) _ c.in_ok-put_style.ensures
+    (then_fixed _ _ _ _ _ c.in_ok-put-3.ensures
+    (then_part _ _ _ (file_name c.args.name.now) _ c.in_ok-put_name-2.ensures
+    (last_fixed _ _ _ is))))))).is)
+    c.put-4.ensures

@@ -1,0 +1,17 @@
+use Rattle.std.proofs.lemmas.Result.{on_ok_weaker}
+use Rattle.html_text.proofs.lemmas.Chains.{last_fixed, then_fixed, then_number, then_part}
+use Rattle.check_pages.specs.Faults.{rule_pieces}
+use Rattle.check_pages.specs.RuleIndex.{row_count_pieces}
+use Rattle.check_pages.proofs.rule_index.put_row_count.Goals as goal
+
+pub returns : goal.returns
+unfolding row_count_pieces
+returns g c =
+    on_ok_weaker c.put-3.result
+    (λ is.
+    (then_fixed _ _ _ _ _ c.in_ok-put.ensures
+    (then_part _ _ _ (rule_pieces c.args.letter c.args.number) _ c.in_ok-put_rule.ensures
+    (then_fixed _ _ _ _ _ c.in_ok-put-2.ensures
+    (then_number _ _ _ _ _ c.in_ok-put_number.ensures
+    (last_fixed _ _ _ is))))).is)
+    c.put-3.ensures

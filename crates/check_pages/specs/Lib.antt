@@ -1,0 +1,11 @@
+pub mod Rulers
+pub mod Boxes
+pub mod Faults
+pub mod Sections
+pub mod RefusedFiles
+pub mod RemarkSections
+pub mod RuleIndex
+pub mod Facts
+pub mod CheckPages
+pub mod Tallies
+pub mod ShownLines

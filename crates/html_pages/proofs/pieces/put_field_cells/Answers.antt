@@ -1,7 +1,0 @@
-use Rattle.html_pages.specs.Pieces.{field_cell}
-use Rattle.html_pages.proofs.Pages.{one_more}
-use Rattle.html_pages.proofs.pieces.put_field_cells.Goals as goal
-
-pub loop-byte-preserved : goal.loop-byte-preserved
-loop-byte-preserved g c =
-    one_more field_cell c.args.bytes.now c.loop-byte.byte-index _ _ _ _ c.loop-byte-test.true c.in_ok-put_field_cell.ensures c.loop-byte.invariant

@@ -1,7 +1,0 @@
-use Rattle.html_pages.specs.SummaryPage.{conflict_pieces}
-use Rattle.html_pages.proofs.Pages.{one_more}
-use Rattle.html_pages.proofs.summary_tables.put_conflict_rows.Goals as goal
-
-pub loop-one-preserved : goal.loop-one-preserved
-loop-one-preserved g c =
-    one_more (conflict_pieces c.args.whole) c.args.top.now c.loop-one.one-index _ _ _ _ c.loop-one-test.true c.in_ok-put_conflict.ensures c.loop-one.invariant

@@ -1,9 +1,0 @@
-use Rattle.std.proofs.Common.{◌≡◌, ◌++◌, drop}
-use Rattle.std.specs.List.{flat_map}
-use Rattle.html_pages.specs.Pieces.{page_text}
-use Rattle.html_pages.specs.SummaryPage.{submitter_pieces}
-use Rattle.html_pages.proofs.summary_tables.put_submitter_rows.Given as goal
-
--- what is written and what is left make the whole
-abbrev pub invariant-loop-one : goal.invariant-loop-one
-invariant-loop-one g l = l.out.items ++ page_text (flat_map (submitter_pieces l.whole) (drop l.one-index l.most)) ≡ l.fn.out.items ++ page_text (flat_map (submitter_pieces l.whole) l.fn.most)

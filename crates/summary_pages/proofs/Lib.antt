@@ -1,0 +1,4 @@
+pub mod Tables
+pub mod BarWidths
+pub mod Mapped
+pub mod ContextsOfSummaries
