@@ -3,8 +3,8 @@ use Rattle.std.proofs.Common.{◌≡◌, ◌∙◌, ℕ, List, ap, subst, length
 use Rattle.work_registry.specs.EntryValue.{EntryValue}
 use Rattle.cwr_verify.specs.Sent.{Sent}
 use Rattle.cwr_verify.specs.Verified.{AreAnswered}
-use Rattle.purvilgo_c.specs.Registers.{IsRegisterOf}
-use Rattle.purvilgo_c.specs.Verified.{IsVerified}
+use Rattle.c_values.specs.Registers.{IsRegisterOf}
+use Rattle.c_values.specs.Verified.{IsVerified}
 
 pub verified : (register : List ℕ) (history : List EntryValue) (handed given : List Sent) (owners : List ℕ) (files transactions : ℕ)
     → IsRegisterOf register history → AreAnswered owners history handed → handed ≡ given → files ≡ length handed

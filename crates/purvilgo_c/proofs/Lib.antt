@@ -1,4 +1,3 @@
-pub mod Answering
 pub mod Handles
 pub mod HandedOn
 pub mod AllPages

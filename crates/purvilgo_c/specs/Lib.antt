@@ -1,12 +1,3 @@
-pub mod Answers
-pub mod Stamps
-pub mod Outcomes
-pub mod Files
-pub mod Registers
-pub mod RegistryValue
-pub mod Registries
 pub mod Ownership
 pub mod About
 pub mod Explained
-pub mod Tables
-pub mod Verified

@@ -3,8 +3,8 @@ use Rattle.std.specs.Prelude.{Option, Some, None}
 use Rattle.std.specs.Coded.{coded_option}
 use Rattle.std.specs.Box.Ownership.{box_owns}
 use Rattle.std.specs.contracts.impls.GlobalAllocator.TheImpl.{ghosts}
-use Rattle.purvilgo_c.specs.RegistryValue.{RegistryValue}
-use Rattle.purvilgo_c.specs.contracts.registry.Registry.{the_row}
+use Rattle.c_values.specs.RegistryValue.{RegistryValue}
+use Rattle.c_values.specs.contracts.registry.Registry.{the_row}
 use mir.Syntax.{Ty}
 use base.Fml.{Fml, feq}
 use base.Stored.{Coded}

@@ -2,11 +2,11 @@ ghost use Rattle.std.specs.Prelude.{◌≡◌, ◌≢◌, length};
 ghost use Rattle.std.specs.Str.Lines.{lines};
 ghost use Rattle.cwr_check.specs.CheckText.{IsCheck};
 ghost use Rattle.cwr_remarks.specs.Checks.{IsRemarkedLong, IsRemarkedJson};
-ghost use Rattle.purvilgo_c.specs.Answers.{no_memory, IsGiven, IsTold};
+ghost use Rattle.c_values.specs.Answers.{no_memory, IsTold};
 
-use crate::handing::hand_out;
-use crate::status::NO_MEMORY;
-use cwr_check::{Checked, check_text};
+use c_values::status::NO_MEMORY;
+use c_values::write_checked;
+use cwr_check::check_text;
 use cwr_remarks::{remarked_json, remarked_long};
 use std::alloc::Global;
 
@@ -76,13 +76,4 @@ pub extern "C" fn purvilgo_check_json(
         Ok(checked) => write_checked(&checked, out, length, clean),
         Err(_) => NO_MEMORY,
     }
-}
-
-/// Hands out the result of a check.
-fn write_checked(checked: &Checked, out: &mut [u8], length: &mut usize, clean: &mut bool) -> u32
-    ensures clean { clean.new ≡ checked.now.clean }
-    ensures text { IsGiven checked.now.text.items out.old out.new length.new result }
-{
-    *clean = checked.clean;
-    hand_out(&checked.text, out, length)
 }

@@ -1,11 +1,11 @@
 ghost use Rattle.std.specs.Prelude.{◌≡◌, ◌≢◌, MatchOption};
 ghost use Rattle.rule_pages.specs.Texts.{texts_of_pages};
-ghost use Rattle.purvilgo_c.specs.Answers.{no_memory, no_rule, IsGiven};
+ghost use Rattle.c_values.specs.Answers.{no_memory, no_rule, IsGiven};
 ghost use Rattle.purvilgo_c.specs.Explained.{pages_for};
 
-use crate::handing::hand_out;
-use crate::status::{NO_MEMORY, NO_RULE};
-use rule_pages::{Page, every_page, page_named, texts_of_pages};
+use c_values::status::NO_RULE;
+use c_values::write_pages;
+use rule_pages::{every_page, page_named};
 use std::alloc::Global;
 
 /// Explains what a word names, a rule such as `F9` or an answer such as `CO`, or all of them for a word of no bytes:
@@ -30,16 +30,5 @@ pub extern "C" fn purvilgo_explain(
     match page_named(word) {
         Some(page) => write_pages(alloc, &[page], out, length),
         None => NO_RULE,
-    }
-}
-
-/// Hands out pages.
-fn write_pages(alloc: Global, pages: &[Page], out: &mut [u8], length: &mut usize) -> u32
-    ensures told { result ≢ no_memory → IsGiven (texts_of_pages pages.now) out.old out.new length.new result }
-    ensures same { result ≡ no_memory → (out.new ≡ out.old) × (length.new ≡ length.old) }
-{
-    match texts_of_pages(alloc, pages) {
-        Ok(text) => hand_out(&text, out, length),
-        Err(_) => NO_MEMORY,
     }
 }

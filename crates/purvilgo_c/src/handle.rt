@@ -1,10 +1,10 @@
 ghost use Rattle.std.specs.Prelude.{◌≡◌, Option, Some, None, is_some};
 ghost use Rattle.std.specs.Option.{option_map};
 ghost use Rattle.purvilgo_c.specs.Ownership.{owns_held, held_coded};
-ghost use Rattle.purvilgo_c.specs.RegistryValue.{RegistryValue};
+ghost use Rattle.c_values.specs.RegistryValue.{RegistryValue};
 
 use crate::bare::Bare;
-use crate::registry::Registry;
+use c_values::Registry;
 use std::alloc::Global;
 use std::marker::Model;
 use std::{mem, ptr};

@@ -1,13 +1,11 @@
 ghost use Rattle.std.specs.Prelude.{◌≡◌, ◌≢◌, length, None};
-ghost use Rattle.purvilgo_c.specs.Answers.{bad_stamp, IsTold};
-ghost use Rattle.purvilgo_c.specs.Files.{IsAnsweredFirst};
-ghost use Rattle.purvilgo_c.specs.Stamps.{stamp_in};
+ghost use Rattle.c_values.specs.Answers.{bad_stamp, IsTold};
+ghost use Rattle.c_values.specs.Files.{IsAnsweredFirst};
+ghost use Rattle.c_values.specs.Stamps.{stamp_in};
 
-use crate::handing::hand_out;
-use crate::outcome::{Outcome, numbers_of};
-use crate::stamp::{StampBytes, stamp_of};
-use crate::status::BAD_STAMP;
 use byte_streams::{Feed, Spool};
+use c_values::status::BAD_STAMP;
+use c_values::{Outcome, StampBytes, hand_out, numbers_of, stamp_of};
 use cwr_engine::{MAX_BYTES, acknowledge};
 use std::alloc::Global;
 

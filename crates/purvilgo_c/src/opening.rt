@@ -1,13 +1,12 @@
 ghost use Rattle.std.specs.Prelude.{◌≡◌, ◌≢◌, None, MatchOption, IsSomeAnd};
 ghost use Rattle.work_registry.specs.Numbers.{max_entries};
-ghost use Rattle.purvilgo_c.specs.Answers.{done, no_memory, faulty, already_open};
-ghost use Rattle.purvilgo_c.specs.Registers.{IsAuditStatus as IsReadStatus, IsFirstFault};
-ghost use Rattle.purvilgo_c.specs.Registries.{empty, IsOpened, IsOf, IsAgain};
+ghost use Rattle.c_values.specs.Answers.{done, no_memory, faulty, already_open};
+ghost use Rattle.c_values.specs.Registers.{IsAuditStatus as IsReadStatus, IsFirstFault};
+ghost use Rattle.c_values.specs.Registries.{empty, IsOpened, IsOf, IsAgain};
 
 use crate::handle::Handle;
-use crate::registers::{RegisterFault, fill_register_fault};
-use crate::registry::Registry;
-use crate::status::{ALREADY_OPEN, DONE, NO_MEMORY};
+use c_values::status::{ALREADY_OPEN, DONE, NO_MEMORY};
+use c_values::{RegisterFault, Registry, fill_register_fault};
 use cwr_engine::MAX_ENTRIES;
 use std::alloc::Global;
 use work_registry::{Book, read_register};

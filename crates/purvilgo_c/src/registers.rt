@@ -1,23 +1,13 @@
-ghost use Rattle.std.specs.Prelude.{◌≡◌, ◌≢◌, ◌⊎◌, ℕ, List};
+ghost use Rattle.std.specs.Prelude.{◌≡◌};
 ghost use Rattle.work_registry.specs.Numbers.{max_entries};
 ghost use Rattle.work_registry.specs.Register.{IsAudited};
-ghost use Rattle.work_registry.specs.RegisterFaults.{IsRefusal};
-ghost use Rattle.purvilgo_c.specs.Answers.{done, no_memory, faulty};
-ghost use Rattle.purvilgo_c.specs.Registers.{IsFirstFault, IsAuditStatus};
+ghost use Rattle.c_values.specs.Answers.{done, no_memory, faulty};
+ghost use Rattle.c_values.specs.Registers.{IsFirstFault, IsAuditStatus};
 
-use crate::status::{DONE, FAULTY, NO_MEMORY};
+use c_values::status::DONE;
+use c_values::{RegisterFault, fill_register_fault};
 use std::alloc::Global;
-use work_registry::{RegisterRefusal, audit};
-
-/// Where a register is at fault.
-#[repr(C)]
-#[derive(Clone, Copy, PartialEq, Eq)]
-pub struct RegisterFault {
-    /// The number of the fault, 1 to 4 for G1 to G4.
-    pub number: u32,
-    /// The line that has it, from 1.
-    pub line: u64,
-}
+use work_registry::audit;
 
 /// Audits a register: hands each call in again, and compares each reply.
 ///
@@ -41,23 +31,5 @@ pub extern "C" fn purvilgo_audit(
             DONE
         }
         Err(refusal) => fill_register_fault(refusal, fault),
-    }
-}
-
-/// Returns the status for a text that has no book, and sets `fault` to its fault, if it has one.
-pub(crate) fn fill_register_fault(refusal: RegisterRefusal, fault: &mut RegisterFault) -> u32
-    ensures fault { (text : List ℕ) → IsRefusal max_entries text refusal → result ≡ faulty → IsFirstFault max_entries text fault.new }
-    ensures same { result ≢ faulty → fault.new ≡ fault.old }
-    ensures status { (result ≡ faulty) ⊎ (result ≡ no_memory) }
-{
-    match refusal {
-        RegisterRefusal::Fault { number, line } => {
-            *fault = RegisterFault {
-                number: number as u32,
-                line,
-            };
-            FAULTY
-        }
-        RegisterRefusal::Memory => NO_MEMORY,
     }
 }

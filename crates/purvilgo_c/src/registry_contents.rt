@@ -1,11 +1,11 @@
 ghost use Rattle.std.specs.Prelude.{◌≡◌, ◌≢◌, length, MatchOption};
 ghost use Rattle.work_registry.specs.Register.{register_text};
-ghost use Rattle.purvilgo_c.specs.Answers.{done, no_memory, shut, IsGiven};
-ghost use Rattle.purvilgo_c.specs.Registries.{IsReadable};
+ghost use Rattle.c_values.specs.Answers.{done, no_memory, shut, IsGiven};
+ghost use Rattle.c_values.specs.Registries.{IsReadable};
 
-use crate::handing::hand_out;
 use crate::handle::Handle;
-use crate::status::{DONE, NO_MEMORY, SHUT};
+use c_values::hand_out;
+use c_values::status::{DONE, NO_MEMORY, SHUT};
 use std::alloc::Global;
 
 /// Sets `entries` to the number of entries of a registry.

@@ -1,13 +1,11 @@
 ghost use Rattle.std.specs.Prelude.{◌≡◌, ◌≢◌, MatchOption, IsSomeAnd};
-ghost use Rattle.purvilgo_c.specs.Answers.{done, bad_stamp, shut, IsGiven};
-ghost use Rattle.purvilgo_c.specs.Registries.{IsRun};
-ghost use Rattle.purvilgo_c.specs.Stamps.{stamp_in};
+ghost use Rattle.c_values.specs.Answers.{done, bad_stamp, shut, IsGiven};
+ghost use Rattle.c_values.specs.Registries.{IsRun};
+ghost use Rattle.c_values.specs.Stamps.{stamp_in};
 
-use crate::handing::hand_out;
 use crate::handle::Handle;
-use crate::outcome::Outcome;
-use crate::stamp::{StampBytes, stamp_of};
-use crate::status::{BAD_STAMP, DONE, SHUT};
+use c_values::status::{BAD_STAMP, DONE, SHUT};
+use c_values::{Outcome, StampBytes, hand_out, stamp_of};
 use std::alloc::Global;
 
 /// Runs a file: decides its transactions in file order, after all that was decided before. The file's acknowledgement

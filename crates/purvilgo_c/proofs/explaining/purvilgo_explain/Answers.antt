@@ -1,6 +1,6 @@
 use Rattle.std.proofs.Common.{◌≡◌, ◌≢◌, ◌∙◌, sym}
 use Rattle.rule_pages.specs.Texts.{texts_of_pages}
-use Rattle.purvilgo_c.specs.Answers.{no_memory, no_rule, IsGiven}
+use Rattle.c_values.specs.Answers.{no_memory, no_rule, IsGiven}
 use Rattle.purvilgo_c.proofs.AllPages.{told_of_all}
 use Rattle.purvilgo_c.proofs.explaining.purvilgo_explain.Goals as goal
 

@@ -1,7 +1,7 @@
 use Rattle.std.proofs.Common.{◌∙◌, ap, sym, refl}
 use Rattle.std.specs.Prelude.{Some, []}
 use Rattle.work_registry.specs.Numbers.{max_entries}
-use Rattle.purvilgo_c.proofs.Answering.{answered}
+use Rattle.c_values.proofs.lemmas.Answering.{answered}
 use Rattle.purvilgo_c.proofs.one_file.purvilgo_acknowledge.Goals as goal
 
 pub returns-clause-answered : goal.returns-clause-answered

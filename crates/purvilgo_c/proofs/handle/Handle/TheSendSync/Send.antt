@@ -10,9 +10,9 @@ use Rattle.std.specs.Prelude.{Option, Some, None}
 use Rattle.std.proofs.Crossing as heap
 use Rattle.std_alloc.proofs.SendSync.{quiet, lies}
 use Rattle.purvilgo_c.specs.Ownership.{owns_held}
-use Rattle.purvilgo_c.specs.RegistryValue.{RegistryValue}
-use Rattle.purvilgo_c.specs.contracts.registry.Registry as Registry
-use Rattle.purvilgo_c.proofs.registry.Registry.TheSendSync.{the_send as registry}
+use Rattle.c_values.specs.RegistryValue.{RegistryValue}
+use Rattle.c_values.specs.contracts.registry.Registry as Registry
+use Rattle.c_values.proofs.registry.Registry.TheSendSync.{the_send as registry}
 use Rattle.purvilgo_c.specs.contracts.handle.Handle.{the_row, the_type}
 
 crosses : (p : Ptr) (held : Option RegistryValue) → Keyless (owns_held p held)

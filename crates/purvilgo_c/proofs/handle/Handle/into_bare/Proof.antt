@@ -33,8 +33,8 @@ use Rattle.std.proofs.GlobalToken.{dealloc_token-Testable}
 use Rattle.core.proofs.option.Made.{Some-of, none_of}
 use Rattle.purvilgo_c.specs.Ownership.{owns_boxed, owns_held, frees}
 use Rattle.purvilgo_c.specs.declared.bare.Bare as declared
-use Rattle.purvilgo_c.specs.RegistryValue.{RegistryValue}
-use Rattle.purvilgo_c.specs.contracts.registry.Registry as Registry
+use Rattle.c_values.specs.RegistryValue.{RegistryValue}
+use Rattle.c_values.specs.contracts.registry.Registry as Registry
 use Rattle.purvilgo_c.specs.contracts.bare.Bare as Bare
 use Rattle.purvilgo_c.specs.contracts.handle.Handle as Handle
 use Rattle.purvilgo_c.specs.contracts.handle.Handle.into_bare as f

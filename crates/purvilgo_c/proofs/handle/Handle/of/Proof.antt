@@ -18,7 +18,7 @@ use denote.Triple.Walked.{Stays, walk_of, says, stay_dropped, Goes-dropped, ends
 use Rattle.std.specs.Prelude.{Some}
 use Rattle.std.proofs.raw_atomic.Walks.{proved_at}
 use Rattle.purvilgo_c.specs.declared.handle.Handle.{Handle}
-use Rattle.purvilgo_c.specs.contracts.registry.Registry as Registry
+use Rattle.c_values.specs.contracts.registry.Registry as Registry
 use Rattle.purvilgo_c.specs.contracts.bare.Bare as Bare
 use Rattle.purvilgo_c.specs.contracts.handle.Handle.of as f
 use Rattle.purvilgo_c.proofs.Handles.{word, bare_out, handle_in}

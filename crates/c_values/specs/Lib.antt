@@ -1,0 +1,10 @@
+pub mod Answers
+pub mod StatusTexts
+pub mod Stamps
+pub mod Outcomes
+pub mod Files
+pub mod Registers
+pub mod RegistryValue
+pub mod Registries
+pub mod Tables
+pub mod Verified

@@ -1,8 +1,0 @@
-use Rattle.std.proofs.Common.{refl, rules}
-use Rattle.purvilgo_c.proofs.checking.write_checked.Goals as goal
-
-pub returns-clause-clean : goal.returns-clause-clean
-returns-clause-clean c = refl
-
-pub returns-clause-text : goal.returns-clause-text
-returns-clause-text c = search rules

@@ -1,5 +1,0 @@
-use Rattle.std.proofs.Common.{rules}
-use Rattle.purvilgo_c.proofs.outcome.bytes_sent.Goals as goal
-
-pub returns-in-Write : goal.returns-in-Write
-returns-in-Write c = search rules

@@ -1,8 +1,0 @@
-use Rattle.std.proofs.Common.{rules}
-use Rattle.purvilgo_c.proofs.stamp.stamp_of.Goals as goal
-
-pub returns-in_err-date : goal.returns-in_err-date
-returns-in_err-date c = search rules
-
-pub returns : goal.returns
-returns c = search rules

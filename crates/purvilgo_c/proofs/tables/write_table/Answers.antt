@@ -1,5 +1,0 @@
-use Rattle.std.proofs.Common.{rules}
-use Rattle.purvilgo_c.proofs.tables.write_table.Goals as goal
-
-pub returns-in-Ok-text_of-clause-told : goal.returns-in-Ok-text_of-clause-told
-returns-in-Ok-text_of-clause-told c = search rules

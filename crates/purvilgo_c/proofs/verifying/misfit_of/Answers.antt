@@ -1,6 +1,0 @@
-use Rattle.std.proofs.Common.{ap, sym}
-use Rattle.purvilgo_c.specs.Verified.{misfit_of}
-use Rattle.purvilgo_c.proofs.verifying.misfit_of.Goals as goal
-
-pub returns-in-Transaction : goal.returns-in-Transaction
-returns-in-Transaction c = sym (ap misfit_of c.in-Transaction.is)
