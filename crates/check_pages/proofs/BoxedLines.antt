@@ -6,7 +6,8 @@ use Rattle.std.proofs.lemmas.Bool.{cases_lt}
 use Rattle.std.proofs.lemmas.Grind.{flat_map-append}
 use Rattle.std.proofs.lemmas.List.{drop_all, take_all}
 use Rattle.cwr_record.specs.declared.columns.Column.{Column}
-use Rattle.html_text.specs.Pieces.{Piece, Fixed, Byte, Hex, cell, field_cell, is_unprinted}
+use Rattle.cwr_field.specs.Shown.{is_unprinted}
+use Rattle.html_text.specs.Pieces.{Piece, Fixed, Byte, Hex, cell, field_cell}
 use Rattle.html_text.specs.declared.fragment.Fragment.{Fragment}
 use Rattle.html_text.specs.declared.fragment.Fragment.TheVariants.{Blank, ByteBox, ByteBoxEnd, MarkEnd}
 use Rattle.check_pages.specs.Boxes.{is_closed, is_inside, is_opened, last_place, line_shown, marked, place_shown, places, where_so}

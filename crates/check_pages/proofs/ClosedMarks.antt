@@ -2,7 +2,8 @@
 use Rattle.std.proofs.Common.{◌≡◌, ◌∙◌, ℕ, zero, suc, ◌+◌, ◌-◌, ◌<◌, Bool, true, false, cond, not, ◌&&◌, ◌||◌, List, [], ◌∷◌, ◌++◌, length, get_or, refl, sym, ap, arith, lt-ltb, eq-eqb, ne_eqb, append_assoc}
 use Rattle.std.specs.Prelude.{◌==◌, nat_lt}
 use Rattle.cwr_record.specs.declared.columns.Column.{Column}
-use Rattle.html_text.specs.Pieces.{Piece, Fixed, Byte, Hex, cell, field_cell, is_unprinted}
+use Rattle.cwr_field.specs.Shown.{is_unprinted}
+use Rattle.html_text.specs.Pieces.{Piece, Fixed, Byte, Hex, cell, field_cell}
 use Rattle.html_text.specs.declared.fragment.Fragment.{Fragment}
 use Rattle.html_text.specs.declared.fragment.Fragment.TheVariants.{Beyond, Blank, ByteBox, ByteBoxEnd, MarkEnd}
 use Rattle.check_pages.specs.Boxes.{is_before, is_closed, is_inside, is_opened, is_start, line_shown, marked, place_shown, places, where_so}

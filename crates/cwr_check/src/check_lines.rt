@@ -1,12 +1,11 @@
 ghost use Rattle.std.specs.Prelude.{◌≡◌, ◌<◌, ◌≤◌, ◌^◌, ◌∷◌, ◌++◌, [], length, OnOk};
 ghost use Rattle.std.specs.List.{flat_map};
-ghost use Rattle.std.specs.Fmt.{decimal};
 ghost use Rattle.cwr_grammar.specs.RawParts.{RawParts};
 ghost use Rattle.cwr_check.specs.CheckText.{fault_text, verdict_text, place_text, total_line};
 ghost use Rattle.cwr_check.specs.ShortReport.{IsPlaceOf};
 
 use cwr_call::Fault;
-use cwr_field::{Memory, put_decimal};
+use cwr_field::{Memory, put_decimal, put_number};
 use cwr_record::{Column, FieldValue, LineRoom, WorkKind};
 use std::alloc::Allocator;
 
@@ -108,20 +107,6 @@ fn put_fault<A: Allocator>(out: &mut Vec<u8, A>, fault: &Fault) -> Result<(), Me
     out.push(b':')?;
     out.push(b'J')?;
     put_number(out, fault.number as u64)
-}
-
-/// Appends a number in decimal digits. A number of one digit, as most are, is appended as one byte.
-///
-/// A refusal may leave a part of it.
-#[inline(always)]
-pub fn put_number<A: Allocator>(out: &mut Vec<u8, A>, number: u64) -> Result<(), Memory>
-    ensures { OnOk result (out.new.items ≡ out.old.items ++ decimal number) }
-{
-    if number < 10 {
-        out.push(b'0' + number as u8)?;
-        return Ok(());
-    }
-    put_decimal(out, number)
 }
 
 /// Appends the last line of a check: how many transactions a file has, and how many of them have faults.

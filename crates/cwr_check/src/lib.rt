@@ -9,6 +9,6 @@ mod checking;
 mod short_report;
 
 pub use byte_streams::ReadRefused;
-pub use check_lines::{put_number, put_total};
+pub use check_lines::put_total;
 pub use checking::{Checked, check_source, check_text};
 pub use cwr_field::Memory;

@@ -4,3 +4,4 @@ pub mod Share
 pub mod Calendar
 pub mod Iswc
 pub mod Scan
+pub mod Shown

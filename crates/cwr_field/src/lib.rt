@@ -29,8 +29,11 @@ pub use field::{Field, cut, is_blank, party};
 pub use memory::Memory;
 pub use number::{
     MAX_COUNT, MAX_WHOLE, MIN_WHOLE, WHOLE, digits, fill_digits, last_digits, number_of_four,
-    put_decimal, put_digits, share,
+    put_decimal, put_digits, put_number, share,
 };
-pub use scan::{BLOCK, CONTROLS, Sought, has_in_block, is_free_before, line_end};
+pub use scan::{
+    BLOCK, CONTROLS, RUN, Sought, has_byte_in_run, has_in_block, has_in_run, is_free_before,
+    line_end,
+};
 pub use text::{MIN_PRINTABLE, fill_text, filled, is_printable, put_text};
 pub use work_code::{MAX_CODE, check_digit, iswc, iswc_text};

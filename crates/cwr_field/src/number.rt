@@ -224,3 +224,20 @@ pub fn put_decimal<A: Allocator>(out: &mut Vec<u8, A>, number: u64) -> Result<()
     out.extend_from_slice(digits.format(number).as_bytes())?;
     Ok(())
 }
+
+/// Appends a number in decimal digits. A number of one digit, as most are, is appended as one byte.
+///
+/// A refusal leaves the vector as it was.
+#[inline(always)]
+pub fn put_number<A: Allocator>(out: &mut Vec<u8, A>, number: u64) -> Result<(), Memory>
+    ensures ok { OnOk result (out.new.items ≡ out.old.items ++ decimal number) }
+    ensures err { OnErr result (out.new.items ≡ out.old.items) }
+    // `Memory` is returned only where the capacity was too small.
+    ensures full { OnErr result (vec_capacity out.old < vec_len out.old + length (decimal number)) }
+{
+    if number < 10 {
+        out.push(b'0' + number as u8)?;
+        return Ok(());
+    }
+    put_decimal(out, number)
+}

@@ -13,6 +13,9 @@ pub const BLOCK: usize = 64;
 /// How many bytes are tested together where there are fewer than a block.
 const HALF: usize = 32;
 
+/// How many bytes are tested together where each is put to several tests.
+pub const RUN: usize = 16;
+
 /// Which bytes are looked for.
 #[derive(Clone, Copy, Debug, PartialEq, Eq, Hash)]
 pub enum Sought {
@@ -54,6 +57,32 @@ fn has_in_half(bytes: &[u8], at: usize, sought: Sought) -> bool
         Sought::Below(limit) => half.simd_lt(u8x32::splat(limit)).any(),
         Sought::Above(limit) => half.simd_gt(u8x32::splat(limit)).any(),
     }
+}
+
+/// Whether any of the 16 bytes from an index on is looked for.
+#[inline(always)]
+pub fn has_in_run(bytes: &[u8], at: usize, sought: Sought) -> bool
+    requires { at + 16 ≤ length bytes.now }
+    ensures none { result ≡ false → (k : ℕ) → at ≤ k → k < at + 16 → is_sought sought (slice_index bytes.now k) ≡ false }
+    ensures only_then { ((k : ℕ) → at ≤ k → k < at + 16 → is_sought sought (slice_index bytes.now k) ≡ false) → result ≡ false }
+{
+    let run = u8x16::from_slice(&bytes[at..]);
+    match sought {
+        Sought::Below(limit) => run.simd_lt(u8x16::splat(limit)).any(),
+        Sought::Above(limit) => run.simd_gt(u8x16::splat(limit)).any(),
+    }
+}
+
+/// Whether any of the 16 bytes from an index on is this one.
+#[inline(always)]
+pub fn has_byte_in_run(bytes: &[u8], at: usize, byte: u8) -> bool
+    requires { at + 16 ≤ length bytes.now }
+    ensures none { result ≡ false → (k : ℕ) → at ≤ k → k < at + 16 → (slice_index bytes.now k == byte) ≡ false }
+    ensures only_then { ((k : ℕ) → at ≤ k → k < at + 16 → (slice_index bytes.now k == byte) ≡ false) → result ≡ false }
+{
+    u8x16::from_slice(&bytes[at..])
+        .simd_eq(u8x16::splat(byte))
+        .any()
 }
 
 /// Whether none of the bytes before an index is looked for.

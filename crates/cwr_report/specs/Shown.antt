@@ -1,15 +1,7 @@
 -- Bytes of a file as a person is shown them: nothing but printable ASCII goes to a terminal.
-use Rattle.std.specs.Prelude.{ℕ, ◌+◌, ◌/◌, ◌%◌, Bool, ◌||◌, nat_lt, List, [], ◌∷◌, if◌then◌else◌}
+use Rattle.std.specs.Prelude.{ℕ, ◌/◌, ◌%◌, Bool, List, [], ◌∷◌, if◌then◌else◌}
 use Rattle.std.specs.List.{flat_map}
-use Rattle.cwr_field.specs.Layout.{is_control}
-
--- the character of a hexadecimal digit, with capitals
-abbrev pub hex_digit : ℕ → ℕ
-hex_digit digit = if nat_lt digit 10 then 48 + digit else 55 + digit
-
--- the byte has no printed character in ASCII: it is below 32 or above 126
-abbrev pub is_unprinted : ℕ → Bool
-is_unprinted byte = is_control byte || nat_lt 126 byte
+use Rattle.cwr_field.specs.Shown.{hex_digit, is_unprinted}
 
 -- the byte as it is printed: a backslash, x and two digits where it has no printed character; any other as it stands,
 -- a backslash too

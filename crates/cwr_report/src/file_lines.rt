@@ -5,8 +5,7 @@ use crate::file_finding::{FileExpected, FileFinding, RecordPlace, WrongByte};
 use crate::file_words::{file_rule_text, kind_text};
 use crate::long_lines::{put_spots, put_text};
 use crate::shown::put_shown;
-use cwr_check::put_number;
-use cwr_field::{Memory, put_decimal};
+use cwr_field::{Memory, put_decimal, put_number};
 use cwr_record::WorkKind;
 use std::alloc::Allocator;
 

@@ -10,8 +10,7 @@ use crate::finding::Spot;
 use crate::json_strings::put_json_text;
 use crate::long_lines::{put_text, stands_at};
 use crate::words::name_text;
-use cwr_check::put_number;
-use cwr_field::{Memory, put_decimal};
+use cwr_field::{Memory, put_decimal, put_number};
 use serde_json::Value;
 use std::alloc::Global;
 

@@ -1,5 +1,6 @@
 ghost use Rattle.std.specs.Prelude.{◌≡◌, ◌++◌, OnOk};
-ghost use Rattle.cwr_report.specs.Shown.{is_unprinted, shown, shown_text, bytes_as_printed};
+ghost use Rattle.cwr_field.specs.Shown.{is_unprinted};
+ghost use Rattle.cwr_report.specs.Shown.{shown, shown_text, bytes_as_printed};
 
 use crate::json_strings::hex_digit;
 use crate::long_lines::put_text;

@@ -2,7 +2,8 @@
 use Rattle.std.proofs.Common.{◌≡◌, ◌∙◌, ◌<◌, ℕ, suc, Bool, true, false, List, [], ◌∷◌, ◌++◌, length, get_or, refl, sym, ap, ap₂, arith}
 use Rattle.std.specs.Prelude.{nat_lt, ◌==◌, ◌||◌}
 use Rattle.std.proofs.lemmas.Bool.{false≢true}
-use Rattle.html_text.specs.Pieces.{Byte, byte_text, cell, field_cell, field_shown, is_changed, is_unprinted, page_text, shown, text_pieces, IsSeen}
+use Rattle.cwr_field.specs.Shown.{is_unprinted}
+use Rattle.html_text.specs.Pieces.{Byte, byte_text, cell, field_cell, field_shown, is_changed, page_text, shown, text_pieces, IsSeen}
 use Rattle.html_text.proofs.lemmas.Pages.{page_append}
 
 -- a byte that no test tells

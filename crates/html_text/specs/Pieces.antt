@@ -2,7 +2,7 @@
 use Rattle.std.specs.Prelude.{◌≡◌, ℕ, zero, suc, ◌+◌, ◌/◌, ◌%◌, ◌==◌, ◌||◌, nat_lt, Bool, false, List, [], ◌∷◌, ◌++◌, codes, if◌then◌else◌}
 use Rattle.std.specs.List.{flat_map}
 use Rattle.std.specs.Fmt.{decimal}
-use Rattle.cwr_field.specs.Layout.{is_control}
+use Rattle.cwr_field.specs.Shown.{hex_digit, is_unprinted}
 use Rattle.html_text.specs.Fragments.{fragment_text}
 use Rattle.html_text.specs.declared.fragment.Fragment.{Fragment}
 use Rattle.html_text.specs.declared.fragment.Fragment.TheVariants.{ByteBox, ByteBoxEnd, Blank}
@@ -17,14 +17,6 @@ pub data Piece : Type 0 where
   Byte : ℕ → Piece
   -- a byte of a text, by its number to the base 16
   Hex : ℕ → Piece
-
--- the character of a hexadecimal digit, with capitals
-abbrev pub hex_digit : ℕ → ℕ
-hex_digit digit = if nat_lt digit 10 then 48 + digit else 55 + digit
-
--- the byte has no printed character in ASCII: it is below 32 or above 126
-abbrev pub is_unprinted : ℕ → Bool
-is_unprinted byte = is_control byte || nat_lt 126 byte
 
 -- a byte in a text of HTML: those that begin or end a tag, an attribute or a reference are references
 abbrev pub byte_text : ℕ → List ℕ

@@ -1,13 +1,9 @@
 //! Bytes that are shown as themselves.
 
-ghost use Rattle.std.specs.Prelude.{◌≡◌, ◌+◌, ◌≤◌, ◌<◌, ◌==◌, ℕ, false, nat_lt, length, slice_index, IsTrue};
+ghost use Rattle.std.specs.Prelude.{◌≡◌, ◌+◌, ◌≤◌, ◌<◌, ◌==◌, ℕ, false, length, slice_index, IsTrue};
 ghost use Rattle.html_text.specs.Pieces.{is_changed, IsSeen};
 
-use cwr_field::MIN_PRINTABLE;
-use std::simd::prelude::*;
-
-/// The number of bytes that are looked at together.
-const BLOCK: usize = 16;
+use cwr_field::{CONTROLS, MIN_PRINTABLE, RUN, Sought, has_byte_in_run, has_in_run};
 
 /// The last printable byte of ASCII.
 pub(crate) const MAX_PRINTABLE: u8 = 126;
@@ -16,17 +12,17 @@ pub(crate) const MAX_PRINTABLE: u8 = 126;
 pub(crate) fn are_kept(bytes: &[u8]) -> bool
     ensures { IsTrue result → (k : ℕ) → k < length bytes.now → is_changed (slice_index bytes.now k) ≡ false }
 {
-    if bytes.len() < BLOCK {
+    if bytes.len() < RUN {
         return are_few_kept(bytes);
     }
     let mut at = 0;
-    while bytes.len() - at > BLOCK {
-        if !is_block_kept(bytes, at) {
+    while bytes.len() - at > RUN {
+        if !is_run_kept(bytes, at) {
             return false;
         }
-        at += BLOCK;
+        at += RUN;
     }
-    is_block_kept(bytes, bytes.len() - BLOCK)
+    is_run_kept(bytes, bytes.len() - RUN)
 }
 
 /// The same of few bytes, one by one.
@@ -68,17 +64,19 @@ fn is_kept(byte: u8) -> bool
         && byte != b'>'
 }
 
-/// True only if each byte of a block is shown as itself.
+/// True only if each byte of a run is shown as itself.
 #[inline(always)]
 #[tactic(auto, using(crate::proofs::KeptBytes::kept))]
-fn is_block_kept(bytes: &[u8], at: usize) -> bool
+fn is_run_kept(bytes: &[u8], at: usize) -> bool
     requires { at + 16 ≤ length bytes.now }
     ensures { IsTrue result → (k : ℕ) → at ≤ k → k < at + 16 → is_changed (slice_index bytes.now k) ≡ false }
 {
-    !has_control(bytes, at) && !has_high(bytes, at) && !has_delimiter(bytes, at)
+    !has_in_run(bytes, at, CONTROLS)
+        && !has_in_run(bytes, at, Sought::Above(MAX_PRINTABLE))
+        && !has_delimiter(bytes, at)
 }
 
-/// False only if a block has no byte of the markup.
+/// False only if a run has no byte of the markup.
 #[inline(always)]
 fn has_delimiter(bytes: &[u8], at: usize) -> bool
     requires { at + 16 ≤ length bytes.now }
@@ -88,42 +86,9 @@ fn has_delimiter(bytes: &[u8], at: usize) -> bool
     ensures begin { result ≡ false → (k : ℕ) → at ≤ k → k < at + 16 → (slice_index bytes.now k == 60) ≡ false }
     ensures end { result ≡ false → (k : ℕ) → at ≤ k → k < at + 16 → (slice_index bytes.now k == 62) ≡ false }
 {
-    has_byte(bytes, at, b'"')
-        || has_byte(bytes, at, b'&')
-        || has_byte(bytes, at, b'\'')
-        || has_byte(bytes, at, b'<')
-        || has_byte(bytes, at, b'>')
-}
-
-/// False only if a block has no byte below 32.
-#[inline(always)]
-fn has_control(bytes: &[u8], at: usize) -> bool
-    requires { at + 16 ≤ length bytes.now }
-    ensures { result ≡ false → (k : ℕ) → at ≤ k → k < at + 16 → nat_lt (slice_index bytes.now k) 32 ≡ false }
-{
-    u8x16::from_slice(&bytes[at..])
-        .simd_lt(u8x16::splat(MIN_PRINTABLE))
-        .any()
-}
-
-/// False only if a block does not have this byte.
-#[inline(always)]
-fn has_byte(bytes: &[u8], at: usize, byte: u8) -> bool
-    requires { at + 16 ≤ length bytes.now }
-    ensures { result ≡ false → (k : ℕ) → at ≤ k → k < at + 16 → (slice_index bytes.now k == byte) ≡ false }
-{
-    u8x16::from_slice(&bytes[at..])
-        .simd_eq(u8x16::splat(byte))
-        .any()
-}
-
-/// False only if a block has no byte above 126.
-#[inline(always)]
-fn has_high(bytes: &[u8], at: usize) -> bool
-    requires { at + 16 ≤ length bytes.now }
-    ensures { result ≡ false → (k : ℕ) → at ≤ k → k < at + 16 → nat_lt 126 (slice_index bytes.now k) ≡ false }
-{
-    u8x16::from_slice(&bytes[at..])
-        .simd_gt(u8x16::splat(MAX_PRINTABLE))
-        .any()
+    has_byte_in_run(bytes, at, b'"')
+        || has_byte_in_run(bytes, at, b'&')
+        || has_byte_in_run(bytes, at, b'\'')
+        || has_byte_in_run(bytes, at, b'<')
+        || has_byte_in_run(bytes, at, b'>')
 }

@@ -2,12 +2,13 @@ ghost use Rattle.std.specs.Prelude.{◌≡◌, ◌++◌, ◌<◌, ◌≤◌, len
 ghost use Rattle.std.specs.Fmt.{decimal};
 ghost use Rattle.cwr_record.specs.Territory.{without_trailing};
 ghost use Rattle.html_text.specs.Fragments.{fragment_text};
-ghost use Rattle.html_text.specs.Pieces.{byte_text, cell, field_cell, field_shown, hex_digit, is_unprinted, page_text, piece_text, shown, text_pieces, Hex};
+ghost use Rattle.cwr_field.specs.Shown.{hex_digit, is_unprinted};
+ghost use Rattle.html_text.specs.Pieces.{byte_text, cell, field_cell, field_shown, page_text, piece_text, shown, text_pieces, Hex};
 
 use crate::fragment::{Fragment, markup};
 use crate::kept::{MAX_PRINTABLE, are_kept, are_seen};
 use crate::signs::put_blanks;
-use cwr_field::{MIN_PRINTABLE, Memory, put_decimal};
+use cwr_field::{MIN_PRINTABLE, Memory, put_number as put_digits_of};
 use std::alloc::Allocator;
 
 /// Appends a fragment.
@@ -35,18 +36,6 @@ pub fn put_number<A: Allocator>(out: &mut Vec<u8, A>, number: u64) -> Result<(),
         return Ok(());
     }
     put_digits_of(out, number)
-}
-
-/// Appends a number, in decimal digits. One of one digit, as most are, is appended as one byte.
-#[inline(always)]
-fn put_digits_of<A: Allocator>(out: &mut Vec<u8, A>, number: u64) -> Result<(), Memory>
-    ensures { OnOk result (out.new.items ≡ out.old.items ++ decimal number) }
-{
-    if number < 10 {
-        out.push(b'0' + number as u8)?;
-        return Ok(());
-    }
-    put_decimal(out, number)
 }
 
 /// Appends bytes of a line, each in its cell: all at once if each is shown as itself.

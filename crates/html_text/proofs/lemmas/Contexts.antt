@@ -6,7 +6,8 @@ use Rattle.cwr_field.specs.Layout.{is_control}
 use Rattle.html_text.specs.Contexts.{Context, Text, behind, behind_piece}
 use Rattle.html_text.specs.FileNames.{file_name, name_byte}
 use Rattle.html_text.specs.Fragments.{fragment_text}
-use Rattle.html_text.specs.Pieces.{Piece, Fixed, Byte, Hex, cell, field_cell, is_unprinted, shown, field_shown, text_pieces}
+use Rattle.cwr_field.specs.Shown.{is_unprinted}
+use Rattle.html_text.specs.Pieces.{Piece, Fixed, Byte, Hex, cell, field_cell, shown, field_shown, text_pieces}
 use Rattle.html_text.specs.declared.fragment.Fragment.TheVariants.{Beyond, Blank, ByteBox, ByteBoxEnd}
 
 -- pieces that begin and end in text

@@ -1,5 +1,0 @@
-use Rattle.std.proofs.Common.{rules}
-use Rattle.cwr_report.proofs.json_runs.is_block_kept.Goals as goal
-
-pub returns-then-not-has_byte-2 : goal.returns-then-not-has_byte-2
-returns-then-not-has_byte-2 c = search rules
