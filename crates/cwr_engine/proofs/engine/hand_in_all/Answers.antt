@@ -51,3 +51,9 @@ loop-index-preserved g c =
       room = grind (arith, common_steps);
       turns = let t = c.decide-next.ensures.turns in let u = i.turns in omega (arith, t, u);
     }
+
+pub returns-in-Err-clause-all : goal.returns-in-Err-clause-all
+returns-in-Err-clause-all g c = tt
+
+pub returns-in-Err-clause-unmarked : goal.returns-in-Err-clause-unmarked
+returns-in-Err-clause-unmarked g c = tt

@@ -1,4 +1,4 @@
-use Rattle.std.proofs.Common.{◌≡◌, false}
+use Rattle.std.proofs.Common.{◌≡◌, false, refl}
 use Rattle.cwr_engine.specs.Account.{JobAccount}
 use Rattle.cwr_engine.proofs.lemmas.FullHistory.{account_full, account_found}
 use Rattle.cwr_engine.proofs.lemmas.Turns.{whole_turns, turned_holds, turned_round}
@@ -7,6 +7,9 @@ use Rattle.cwr_engine.proofs.in_turn.serve_in_turn.Goals as goal
 pub turn_from-book-requires-clause-works : goal.turn_from-book-requires-clause-works
 turn_from-book-requires-clause-works g c =
     turned_holds (λ j. (g.R.Source.has_failed j.reader ≡ false) × (g.W.Sink.has_failed j.writer ≡ false)) c.args.jobs.items c.reverse.new.self.items c.requires.works c.reverse.ensures.items
+
+pub returns-in_default-clause-back : goal.returns-in_default-clause-back
+returns-in_default-clause-back g c = (refl, refl)
 
 pub returns-clause-run : goal.returns-clause-run
 returns-clause-run g c =

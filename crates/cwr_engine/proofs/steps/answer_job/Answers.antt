@@ -1,3 +1,4 @@
+use Rattle.std.proofs.Common.{refl}
 use Rattle.cwr_engine.specs.JobSteps.{answers_in}
 use Rattle.cwr_engine.proofs.Accounts.{sent}
 use Rattle.cwr_engine.proofs.steps.answer_job.Goals as goal
@@ -11,3 +12,6 @@ returns-in-Ok-clause-answered g c = λ session job full entries after was.
 
 pub returns-in-Err-clause-answered : goal.returns-in-Err-clause-answered
 returns-in-Err-clause-answered g c = λ session job full entries after was. (rw c.in-Err.is at was.ended) c.args.stamp.now
+
+pub returns-in-Err-clause-ended : goal.returns-in-Err-clause-ended
+returns-in-Err-clause-ended g c = rw c.in-Err.is (refl, refl)

@@ -1,6 +1,9 @@
-use Rattle.std.proofs.Common.{ℕ, List, [], ◌∷◌, ◌++◌, sym, ap, subst, ◌∙◌, append_assoc, append-nil}
+use Rattle.std.proofs.Common.{ℕ, List, [], ◌∷◌, ◌++◌, sym, ap, subst, ◌∙◌, append_assoc, append-nil, rules}
 use Rattle.cwr_rules.specs.Judging.{IsJudging}
 use Rattle.cwr_rules.proofs.judging.judged.Goals as goal
+
+pub loop-line-init : goal.loop-line-init
+loop-line-init g c = (c.parts-details.result.0.now ∷ [], (cc), search rules)
 
 pub loop-line-preserved : goal.loop-line-preserved
 loop-line-preserved g c =

@@ -1,8 +1,15 @@
 use Rattle.std.proofs.Common.{◌≡◌, ◌∙◌, ◌<◌, ◌^◌, ℕ, List, ap, arith, drop, length}
+use Rattle.std.proofs.lemmas.Grind.{common_steps}
 use Rattle.work_registry.specs.EntryValue.{EntryValue}
 use Rattle.register_tables.specs.Counting.{submitters_noted}
 use Rattle.register_tables.proofs.Noted.{all_noted}
 use Rattle.register_tables.proofs.submitters.entries_by_submitter.Goals as goal
+
+pub loop-index-preserved : goal.loop-index-preserved
+loop-index-preserved g c = record {
+  counts = grind (arith, common_steps);
+  known = c.in_ok-note.ensures.known;
+}
 
 pub returns : goal.returns
 returns g c =

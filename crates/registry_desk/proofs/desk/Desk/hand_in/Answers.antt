@@ -15,3 +15,6 @@ leave-seat-requires g c = let e = c.apply-reply.ensures in
     same_desk c.enter-inside.result c.apply-reply.new.self c.args.call c.apply-reply.result
     (record { reply = e.reply; numbered = e.numbered; entry = e.entry; given_back = e.given_back; unchanged = e.unchanged; full = e.full; registry = e.registry; bounded = e.bounded })
     ∙ (c.enter-inside.ensures.stay.desk ∙ c.requires.desk)
+
+pub enter-inside-requires-clause-turns : goal.enter-inside-requires-clause-turns
+enter-inside-requires-clause-turns g c = c.requires.turns

@@ -1,8 +1,11 @@
-use Rattle.std.proofs.Common.{arith}
+use Rattle.std.proofs.Common.{◌∙◌, ap, arith}
 use Rattle.work_registry.specs.Rows.{rows_of}
 use Rattle.work_registry.proofs.NumberedReplies.{numbered}
 use Rattle.work_registry.proofs.SoundHistories.{sound, named_once}
 use Rattle.work_registry.proofs.book.Book.history.Goals as goal
+
+pub returns-clause-entries : goal.returns-clause-entries
+returns-clause-entries g c = c.deref.ensures.value ∙ ap (λ b. b.history) c.self.view_is
 
 pub returns-clause-lawful : goal.returns-clause-lawful
 returns-clause-lawful g c = rw (← c.self.view_is) c.self.invariant.0.lawful

@@ -1,4 +1,4 @@
-use Rattle.std.proofs.Common.{◌≡◌, ◌∙◌, ◌<◌, ◌+◌, ◌∷◌, ◌++◌, ℕ, List, Option, length, length-append, arith, ap, sym, subst}
+use Rattle.std.proofs.Common.{◌≡◌, ◌∙◌, ◌<◌, ◌≤◌, ◌+◌, ◌∷◌, ◌++◌, ℕ, List, Option, length, length-append, arith, ap, sym, subst}
 use Rattle.work_registry.specs.EntryValue.{EntryValue}
 use Rattle.work_registry.specs.RegisterReader.{LinesState, HasCounted, IsRest, IsRestAfter}
 use Rattle.work_registry.specs.RegisterFaults.{IsRefusal}
@@ -66,6 +66,13 @@ returns-in_err-read_line-clause-fault g c =
     let R : ℕ → Type 0 = λ n. IsRefusal n text refusal in
     subst R (ap (λ (s : LinesState). s.read.limit) c.self.view_is)
     (c.in_err-read_line.ensures.fault more c.self.inside.limit text count room (rest_later _ count text (line ++ 10 ∷ more) c.in-Some.is (subst P (sym c.self.view_is) left))))
+
+pub invariant_of-self-2 : goal.invariant_of-self-2
+invariant_of-self-2 g c =
+    let P : Option ℕ → Type 0 = λ o. HasCounted c.self.inside.limit o c.read_line.new.history_index in
+    let old = counted_later c.self.inside.limit c.self.inside.count c.self.inside.history_index c.in-Some.count c.in-Some.is c.self.invariant.0.counted in
+    let most : length c.read_line.new.history_index ≤ c.in-Some.count = omega (arith, old.0, c.len.ensures.value, c.if-len-count.false, c.in_ok-read_line.ensures.longer) in
+    (record { counted = subst P (sym c.in-Some.is) (most, old.1); least = c.self.invariant.0.least; most = c.self.invariant.0.most; opening = c.in_ok-read_line.ensures.opening c.self.invariant.0.opening }, λ keeps. c.in_ok-read_line.ensures.kept keeps (c.self.invariant.1 keeps))
 
 pub returns-clause-read : goal.returns-clause-read
 returns-clause-read g c = λ text more left.
