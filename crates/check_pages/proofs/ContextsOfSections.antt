@@ -9,7 +9,7 @@ use Rattle.cwr_report.specs.declared.file_finding.RecordPlace.{RecordPlace}
 use Rattle.cwr_report.specs.declared.file_finding.RecordPlace.TheVariants.{End}
 use Rattle.cwr_report.specs.declared.file_finding.WrongByte.{WrongByte}
 use Rattle.cwr_report.specs.declared.finding.Finding.{Finding}
-use Rattle.cwr_report.specs.FileText.{detail_text, place_text}
+use Rattle.report_texts.specs.FileText.{detail_text, place_text}
 use Rattle.html_text.specs.Contexts.{Context, Text, behind, behind_piece}
 use Rattle.html_text.specs.Fragments.{fragment_text}
 use Rattle.html_text.specs.Pieces.{Fixed, Number}

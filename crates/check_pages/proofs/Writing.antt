@@ -3,8 +3,7 @@ use Rattle.std.proofs.Common.{◌≡◌, ◌∙◌, ◌+◌, ◌-◌, ◌<◌, �
 use Rattle.std.specs.Io.KnownBytes.{Appends, Keeps, append_known}
 use Rattle.cwr_remarks.specs.declared.remark.Remark.{Remark}
 use Rattle.cwr_report.specs.declared.finding.Finding.{Finding}
-use Rattle.cwr_report.specs.declared.walk.Walk.{Walk}
-use Rattle.cwr_report.specs.Walks.{IsWalk, line_at}
+use Rattle.cwr_report.specs.Walks.{line_at}
 use Rattle.std.specs.Str.Lines.{lines}
 use Rattle.cwr_report.specs.Reported.{Reported}
 use Rattle.html_text.specs.Fragments.{fragment_text}
@@ -86,15 +85,6 @@ gone_on a b c piece rest left total part is more = record {
 pub completed : (a b : Option (List ℕ)) (left total : List Piece) → left ≡ [] → IsPart a b left total → Appends a b (page_text total)
 completed a b left total none part =
     subst (λ (page : List Piece). Appends a b (page_text page)) (sym (append-nil part.done) ∙ ap (λ (l : List Piece). part.done ++ l) (sym none) ∙ part.whole) part.wrote
-
--- a walk that has gone to an index of these lines has passed as many
-pub gone_to : (w : Walk) (ls all : List (List ℕ)) (k : ℕ) → ls ≡ all → IsWalk w ls k → IsWalk w all w.passed
-gone_to w ls all k same walk =
-    subst (λ (xs : List (List ℕ)). IsWalk w xs w.passed) same (subst (λ (n : ℕ). IsWalk w ls n) (sym walk.passed_is) walk)
-
--- the line that it has gone to
-pub line_is : (all ls : List (List ℕ)) (line : List ℕ) (k n : ℕ) → ls ≡ all → k ≡ n → line ≡ line_at ls k → line ≡ line_at all n
-line_is all ls line k n same index at = at ∙ ap (λ (xs : List (List ℕ)). line_at xs k) same ∙ ap (λ (m : ℕ). line_at all m) index
 
 -- the findings before those that are left are counted and written
 pub record AreWritten (lines : List (List ℕ)) (all left : List Finding) (counts : List ℕ) (before : ℕ) (old new : Option (List ℕ)) : Type 0 where

@@ -7,7 +7,7 @@ use Rattle.cwr_record.specs.Columns.{every_record_type, field_at, header_name}
 use Rattle.cwr_record.specs.Territory.{without_trailing}
 use Rattle.cwr_report.specs.declared.file_finding.FileFinding.{FileFinding}
 use Rattle.cwr_report.specs.declared.finding.Finding.{Finding}
-use Rattle.cwr_report.specs.FileText.{file_rule_text}
+use Rattle.report_texts.specs.FileText.{file_rule_text}
 use Rattle.cwr_report.specs.Reported.{Reported}
 use Rattle.cwr_report.specs.Walks.{line_at}
 use Rattle.html_text.specs.Contexts.{of_files}

@@ -6,8 +6,8 @@ use Rattle.cwr_report.specs.declared.file_finding.FileFinding.{FileFinding}
 use Rattle.cwr_report.specs.declared.file_finding.WrongByte.{WrongByte}
 use Rattle.cwr_report.specs.declared.finding.Finding.{Finding}
 use Rattle.cwr_report.specs.declared.finding.Spot.{Spot}
-use Rattle.cwr_report.specs.FileText.{file_rule_text, file_wanted_text}
-use Rattle.cwr_report.specs.LongText.{message_of, name_text, stands_at, wanted_text}
+use Rattle.report_texts.specs.FileText.{file_rule_text, file_wanted_text}
+use Rattle.report_texts.specs.LongText.{message_of, name_text, stands_at, wanted_text}
 use Rattle.html_text.specs.Contexts.{of_files, of_transactions}
 use Rattle.html_text.specs.Pieces.{Piece, Fixed, Number, Byte as Letter, field_shown, shown, text_pieces}
 use Rattle.html_text.specs.declared.fragment.Fragment.TheVariants.{Fault, FaultRule, FaultText, FaultOf, FaultNext, FaultNextEnd, FaultSmallEnd, FaultNextClose, H4End, Byte, ByteLine, ByteLineEnd, ByteBehind, ByteBehindEnd, ByteEnd, Field, FieldStart, FieldLength, FieldBytes, FieldEnd, Expected, PEnd, Beyond, Dot, Of, To}

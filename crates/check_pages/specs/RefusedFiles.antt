@@ -5,7 +5,7 @@ use Rattle.cwr_report.specs.declared.file_finding.FileFinding.{FileFinding}
 use Rattle.cwr_report.specs.declared.file_finding.RecordPlace.{RecordPlace}
 use Rattle.cwr_report.specs.declared.file_finding.RecordPlace.TheVariants.{End}
 use Rattle.cwr_report.specs.declared.file_finding.WrongByte.{WrongByte}
-use Rattle.cwr_report.specs.FileText.{place_text}
+use Rattle.report_texts.specs.FileText.{place_text}
 use Rattle.html_text.specs.Pieces.{Piece, Fixed}
 use Rattle.html_text.specs.declared.fragment.Fragment.{Fragment}
 use Rattle.html_text.specs.declared.fragment.Fragment.TheVariants.{Mark, MarkByte, SectionEnd}

@@ -4,7 +4,7 @@ use Rattle.std.specs.List.{count_by}
 use Rattle.cwr_record.specs.declared.columns.Column.{Column}
 use Rattle.cwr_report.specs.declared.finding.Finding.{Finding}
 use Rattle.cwr_report.specs.declared.finding.Spot.{Spot}
-use Rattle.cwr_report.specs.FileText.{detail_text}
+use Rattle.report_texts.specs.FileText.{detail_text}
 use Rattle.cwr_report.specs.Walks.{line_at}
 use Rattle.html_text.specs.Pieces.{Piece, Fixed, Number, text_pieces}
 use Rattle.html_text.specs.declared.fragment.Fragment.{Fragment}

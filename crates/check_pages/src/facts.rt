@@ -16,8 +16,9 @@ use crate::ruler::put_ruler;
 use cwr_field::Memory;
 use cwr_grammar::Lines;
 use cwr_record::{RecordType, field_at};
-use cwr_report::{FileFinding, Finding, Report, file_rule_text, line_of};
+use cwr_report::{FileFinding, Finding, Report, line_of};
 use html_text::{Fragment, put, put_name, put_number, put_text};
+use report_texts::file_rule_text;
 use std::alloc::Allocator;
 
 /// A page with more faults and remarks has many sections.

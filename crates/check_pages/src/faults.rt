@@ -7,13 +7,11 @@ ghost use Rattle.check_pages.specs.Faults.{byte_pieces, byte_place_pieces, count
 use crate::boxes::MOST_PLACES;
 use cwr_field::Memory;
 use cwr_record::Column;
-use cwr_report::{
-    FileFinding, Finding, Spot, WrongByte, file_rule_text, message_of, name_text, put_file_wanted,
-    put_wanted, stands_at,
-};
+use cwr_report::{FileFinding, Finding, Spot, WrongByte};
 use html_text::{
     Fragment, put, put_beyond, put_byte, put_field_shown, put_number, put_shown, put_text,
 };
+use report_texts::{file_rule_text, message_of, name_text, put_file_wanted, put_wanted, stands_at};
 use std::alloc::Allocator;
 
 /// The letter of the rules of transactions.

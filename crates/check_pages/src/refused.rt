@@ -39,7 +39,7 @@ fn put_file_heading<A: Allocator>(
     ensures { OnOk result (out.new.items ≡ out.old.items ++ page_text (file_heading_pieces refused.now)) }
 {
     text.clear();
-    cwr_report::put_place(text, &refused.rtype, &refused.place)?;
+    report_texts::put_place(text, &refused.rtype, &refused.place)?;
     put_place(out, refused.line, text)
 }
 

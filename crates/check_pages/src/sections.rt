@@ -9,8 +9,9 @@ use crate::faults::put_fault;
 use crate::rooms::Rooms;
 use cwr_field::Memory;
 use cwr_record::Column;
-use cwr_report::{Finding, Spot, put_detail};
+use cwr_report::{Finding, Spot};
 use html_text::{Fragment, put, put_number, put_text};
+use report_texts::put_detail;
 use std::alloc::Allocator;
 
 /// The most places of a line that has the ruler of three rows.

@@ -4,10 +4,10 @@ use Rattle.std.specs.Prelude.{codes, decimal}
 use Rattle.json.specs.Print.{escape_byte}
 use Rattle.serde_json.specs.Data.{Data, object, no_members, put}
 use Rattle.serde_json.specs.Written.{compact_text, comma_if}
-use Rattle.cwr_report.specs.Json.{text_data, count_data, option_data, type_data}
+use Rattle.report_json.specs.Json.{text_data, count_data, option_data, type_data}
 use Rattle.cwr_remarks.specs.declared.remark.Remark.{Remark}
 use Rattle.cwr_remarks.specs.Json.{kind_text, first_in, count_in, length_in, layout_in, remark_data}
-use Rattle.cwr_report.specs.JsonText.{option_text, string_text}
+use Rattle.report_json.specs.JsonText.{option_text, string_text}
 use Rattle.cwr_remarks.specs.JsonText.{remark_text}
 use Rattle.cwr_remarks.specs.Texts.{what_text}
 

@@ -3,9 +3,10 @@ use Rattle.std.specs.Prelude.{ℕ, Bool, List, ◌++◌, codes, Option, Some, No
 use Rattle.std.specs.Str.Lines.{lines}
 use Rattle.serde_json.specs.Data.{object, put}
 use Rattle.cwr_report.specs.declared.file_finding.FileFinding.{FileFinding}
-use Rattle.cwr_report.specs.Json.{json_line, report_members, with_file}
-use Rattle.cwr_report.specs.Report.{IsToldBy, report_text}
+use Rattle.cwr_report.specs.Report.{IsToldBy}
 use Rattle.cwr_report.specs.Reported.{Reported}
+use Rattle.report_texts.specs.ReportText.{report_text}
+use Rattle.report_json.specs.Json.{json_line, report_members, with_file}
 use Rattle.cwr_remarks.specs.declared.remark.Remark.{Remark}
 use Rattle.cwr_remarks.specs.Beginnings.{beginning, on_beginning}
 use Rattle.cwr_remarks.specs.Headers.{header_remarks}

@@ -2,8 +2,8 @@
 use Rattle.std.specs.Prelude.{ℕ, List, ◌++◌, codes}
 use Rattle.std.specs.Fmt.{decimal}
 use Rattle.serde_json.specs.Written.{compact_text}
-use Rattle.cwr_report.specs.Json.{type_data}
-use Rattle.cwr_report.specs.JsonText.{option_text, string_text}
+use Rattle.report_json.specs.Json.{type_data}
+use Rattle.report_json.specs.JsonText.{option_text, string_text}
 use Rattle.cwr_remarks.specs.declared.remark.Remark.{Remark}
 use Rattle.cwr_remarks.specs.declared.remark.Remarked.{Remarked}
 use Rattle.cwr_remarks.specs.Json.{kind_text, first_in, count_in, length_in, layout_in}

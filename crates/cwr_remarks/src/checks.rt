@@ -1,7 +1,7 @@
 ghost use Rattle.std.specs.Prelude.{◌≡◌, ◌++◌, codes, option_map, IfOk, OnOk};
 ghost use Rattle.std.specs.Str.Lines.{lines};
 ghost use Rattle.serde_json.specs.Data.{object, put as with_member};
-ghost use Rattle.cwr_report.specs.Json.{json_line, report_members, with_file};
+ghost use Rattle.report_json.specs.Json.{json_line, report_members, with_file};
 ghost use Rattle.cwr_report.specs.Report.{IsToldBy};
 ghost use Rattle.cwr_remarks.specs.Json.{remarks_data};
 ghost use Rattle.cwr_remarks.specs.Checks.{remarks_on_lines, remarks_on_file, remarked_object, IsRemarkedLong, IsRemarkedJson, IsRemarkedJsonOfFile};
@@ -14,12 +14,12 @@ use crate::remark::Remark;
 use crate::remarking::{push_remarks, push_remarks_before};
 use crate::texts::put_remarks;
 use cwr_field::Memory;
-use cwr_report::{
-    Checked, FileFinding, Report, json_text_of_file, json_text_with_text, long_text, report_on,
-};
+use cwr_report::{FileFinding, Report, report_on};
+use report_json::{json_text_of_file, json_text_with_text};
+use report_texts::{Checked, long_text};
 use std::alloc::{Allocator, Global};
 
-/// Checks a file as `cwr_report::check_long` does, and puts its remarks behind that report.
+/// Checks a file as `report_texts::check_long` does, and puts its remarks behind that report.
 ///
 /// The remarks on the file itself come first, at line 1: a byte order mark, UTF-16 or gzip; in HDR, a version of CWR
 /// that is not 2.2 and a sender type that CWR does not have. Those on the lines follow, as `remarks` has them.
@@ -38,7 +38,7 @@ pub fn remarked_long<A: Allocator + Copy>(alloc: A, bytes: &[u8]) -> Result<Chec
     Ok(Checked { text, clean })
 }
 
-/// Checks a file as `cwr_report::check_json` does, and adds its remarks as one more member, `remarks`: a list of
+/// Checks a file as `report_json::check_json` does, and adds its remarks as one more member, `remarks`: a list of
 /// objects.
 ///
 /// They are those of [`remarked_long`]. They do not change whether the file is clean. If an allocation fails, the

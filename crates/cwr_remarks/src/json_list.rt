@@ -2,7 +2,7 @@
 
 ghost use Rattle.std.specs.Prelude.{◌≡◌, ◌++◌, OnOk};
 ghost use Rattle.serde_json.specs.Written.{comma_if, compact_text};
-ghost use Rattle.cwr_report.specs.JsonText.{string_text};
+ghost use Rattle.report_json.specs.JsonText.{string_text};
 ghost use Rattle.cwr_remarks.specs.Json.{kind_text, first_in, count_in, length_in, layout_in, remark_data, remarks_data};
 ghost use Rattle.cwr_remarks.specs.JsonText.{amounts_text, remark_text};
 ghost use Rattle.cwr_remarks.specs.Texts.{what_text};
@@ -10,7 +10,7 @@ ghost use Rattle.cwr_remarks.specs.Texts.{what_text};
 use crate::remark::{Remark, Remarked};
 use crate::texts::put_what;
 use cwr_field::{Memory, put_decimal};
-use cwr_report::{put_comma, put_json_text, put_option, put_type};
+use report_json::{put_comma, put_json_text, put_option, put_type};
 use std::alloc::Global;
 
 /// Appends remarks as a JSON array, with an object for each.

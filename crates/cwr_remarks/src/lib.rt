@@ -20,7 +20,7 @@ mod types;
 
 pub use checks::{remarked_json, remarked_json_of_file, remarked_long, remarks_on_file};
 pub use cwr_field::Memory;
-pub use cwr_report::{Checked, check_faults, put_fault_lines, put_named_lines, put_shown};
 pub use remark::{Remark, Remarked};
 pub use remarking::{remarks, remarks_before};
+pub use report_texts::{Checked, check_faults, put_fault_lines, put_named_lines, put_shown};
 pub use texts::{put_remarks, put_what};

@@ -1,10 +1,10 @@
 ghost use Rattle.std.specs.Prelude.{◌≡◌, ◌++◌, OnOk};
-ghost use Rattle.cwr_report.specs.Shown.{bytes_as_printed};
+ghost use Rattle.report_texts.specs.Shown.{bytes_as_printed};
 ghost use Rattle.cwr_remarks.specs.Texts.{high_text, past_text, version_text, sender_text, what_as, line_text, type_text, remark_text, remarks_text};
 
 use crate::remark::{Remark, Remarked};
 use cwr_field::{Memory, put_decimal};
-use cwr_report::{put_bytes, put_shown, put_text};
+use report_texts::{put_bytes, put_shown, put_text};
 use std::alloc::Allocator;
 
 /// Appends a line for each remark, with LF at its end: the number of the file's line, the record type if there is one,

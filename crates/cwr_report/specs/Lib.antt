@@ -2,16 +2,10 @@ pub mod Fields
 pub mod Latest
 pub mod Walks
 pub mod Findings
-pub mod Shown
-pub mod LongText
 pub mod Before
 pub mod BytesBefore
 pub mod FileExpected
 pub mod FileFindings
-pub mod FileText
-pub mod Json
-pub mod JsonText
 pub mod Reported
 pub mod Report
 pub mod FindingPlaces
-pub mod CheckLines

@@ -1,9 +1,9 @@
 //! A report as JSON: bytes as a text, and one more member. These calls take the system's allocator.
 
 use cwr_remarks::remarked_json_of_file;
-use cwr_report::{
-    Report, json_text_of_file, json_text_with, json_text_with_text, put_json_text, report_on,
-    text_value,
+use cwr_report::{Report, report_on};
+use report_json::{
+    json_text_of_file, json_text_with, json_text_with_text, put_json_text, text_value,
 };
 use std::alloc::Global;
 use std::test::Fail;

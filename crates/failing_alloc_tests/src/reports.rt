@@ -1,10 +1,11 @@
 //! Reports on files for a person, and remarks.
 
 use cwr_remarks::{Remark, Remarked, put_remarks, remarked_long, remarks, remarks_before};
-use cwr_report::{
-    check_faults, check_long, long_text, put_fault_lines, put_named_lines, put_shown, report_on,
-};
+use cwr_report::report_on;
 use failing_alloc::{Ended, FailingAlloc, Sweep, answered, refuse_each, refused};
+use report_texts::{
+    check_faults, check_long, long_text, put_fault_lines, put_named_lines, put_shown,
+};
 use std::alloc::Global;
 use std::test::Fail;
 use test_comparisons::{same, same_bytes, same_lists};

@@ -3,7 +3,7 @@ use Rattle.std.specs.Prelude.{ℕ, List, [], ◌∷◌, ◌++◌, Option, codes}
 use Rattle.std.specs.List.{find, flat_map}
 use Rattle.std.specs.Str.{bytes_eq}
 use Rattle.cwr_acknowledgement.specs.Messages.{message_text}
-use Rattle.cwr_report.specs.FileText.{file_rule_text}
+use Rattle.report_texts.specs.FileText.{file_rule_text}
 use Rattle.rule_pages.specs.declared.rule.Rule.{Rule}
 use Rattle.rule_pages.specs.declared.rule.Rule.TheVariants as rule
 

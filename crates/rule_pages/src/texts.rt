@@ -3,7 +3,7 @@ ghost use Rattle.rule_pages.specs.Pages.{title_of, requirement_of, violation_of,
 
 use crate::rule::Rule;
 use cwr_acknowledgement::message_text;
-use cwr_report::file_rule_text;
+use report_texts::file_rule_text;
 
 /// The name of a rule's fault: for F1 to F12 as a report prints it, for J1 to J15 the text of its MSG record.
 pub fn title(rule: Rule) -> &'static [u8]

@@ -8,7 +8,8 @@ use crate::verified::verified;
 use cwr_check::Checked;
 use cwr_field::Memory;
 use cwr_remarks::{remarked_json, remarked_long};
-use cwr_report::{json_text_with, report_on, text_value};
+use cwr_report::report_on;
+use report_json::{json_text_with, text_value};
 use std::alloc::Global;
 
 /// A text with what JSON escapes, in short and as `\u001b`, and with a letter of two bytes.

@@ -3,9 +3,10 @@ use Rattle.std.specs.Io.KnownBytes.{Appends, append_known}
 use Rattle.std.specs.Str.Lines.{lines}
 use Rattle.std.proofs.lemmas.Result.{on_ok_weaker}
 use Rattle.cwr_report.specs.declared.finding.Finding.{Finding}
+use Rattle.cwr_report.proofs.lemmas.GoneTo.{gone_to, line_is}
 use Rattle.html_text.specs.Pieces.{page_text}
 use Rattle.check_pages.specs.Sections.{finding_pieces}
-use Rattle.check_pages.proofs.Writing.{AreWritten, all_written, gathered, gone_to, is_nil, kept, line_is, none_written, one_written, put_down, with_none}
+use Rattle.check_pages.proofs.Writing.{AreWritten, all_written, gathered, is_nil, kept, none_written, one_written, put_down, with_none}
 use Rattle.check_pages.proofs.check.write_findings.Goals as goal
 
 pub loop-finding-init : goal.loop-finding-init

@@ -2,10 +2,11 @@ use Rattle.std.proofs.Common.{◌≡◌, ◌∙◌, ◌-◌, ℕ, List, ◌∷�
 use Rattle.std.specs.Io.KnownBytes.{Appends, append_known}
 use Rattle.std.specs.Str.Lines.{lines}
 use Rattle.std.proofs.lemmas.Result.{on_ok_weaker}
+use Rattle.cwr_report.proofs.lemmas.GoneTo.{gone_to, line_is}
 use Rattle.cwr_remarks.specs.declared.remark.Remark.{Remark}
 use Rattle.html_text.specs.Pieces.{page_text}
 use Rattle.check_pages.specs.RemarkSections.{remark_pieces, remarks_pieces}
-use Rattle.check_pages.proofs.Writing.{IsPart, begun, completed, gathered, gone_to, is_nil, kept, line_is, no_remark, put_down, remark_written, with_none}
+use Rattle.check_pages.proofs.Writing.{IsPart, begun, completed, gathered, is_nil, kept, no_remark, put_down, remark_written, with_none}
 use Rattle.check_pages.proofs.check.write_remarks.Goals as goal
 
 pub loop-remark-init : goal.loop-remark-init

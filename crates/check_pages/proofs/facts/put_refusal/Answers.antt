@@ -1,6 +1,6 @@
 use Rattle.std.proofs.Common.{◌∙◌, ap, ◌++◌, List, ℕ}
 use Rattle.std.proofs.lemmas.Result.{on_ok_weaker}
-use Rattle.cwr_report.specs.FileText.{file_rule_text}
+use Rattle.report_texts.specs.FileText.{file_rule_text}
 use Rattle.html_text.specs.Pieces.{page_text, text_pieces}
 use Rattle.html_text.proofs.lemmas.Chains.{last_fixed, then_fixed, then_number, then_part}
 use Rattle.check_pages.specs.Facts.{refused_by_pieces, refusal_pieces}

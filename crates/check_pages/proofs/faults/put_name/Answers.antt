@@ -1,6 +1,6 @@
 use Rattle.std.proofs.Common.{◌∙◌, ap, ◌++◌, List, ℕ}
 use Rattle.std.proofs.lemmas.Result.{on_ok_weaker}
-use Rattle.cwr_report.specs.LongText.{name_text}
+use Rattle.report_texts.specs.LongText.{name_text}
 use Rattle.html_text.specs.Pieces.{page_text, text_pieces}
 use Rattle.html_text.proofs.lemmas.Chains.{last_number, then_fixed, then_number, then_part}
 use Rattle.check_pages.specs.Faults.{name_pieces}

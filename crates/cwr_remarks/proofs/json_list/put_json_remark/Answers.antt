@@ -1,4 +1,4 @@
-use Rattle.cwr_report.proofs.lemmas.Written.{eight}
+use Rattle.report_texts.proofs.lemmas.Written.{eight}
 use Rattle.cwr_remarks.proofs.json_list.put_json_remark.Goals as goal
 
 pub returns : goal.returns

@@ -1,4 +1,4 @@
-use Rattle.cwr_report.proofs.lemmas.Written.{four}
+use Rattle.report_texts.proofs.lemmas.Written.{four}
 use Rattle.cwr_remarks.proofs.texts.put_remark.Goals as goal
 
 pub returns : goal.returns

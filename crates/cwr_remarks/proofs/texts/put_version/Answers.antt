@@ -1,4 +1,4 @@
-use Rattle.cwr_report.proofs.lemmas.Written.{three}
+use Rattle.report_texts.proofs.lemmas.Written.{three}
 use Rattle.cwr_remarks.proofs.texts.put_version.Goals as goal
 
 pub returns : goal.returns

@@ -1,8 +1,0 @@
-use Rattle.std.proofs.Common.{◌≡◌, ◌++◌}
-use Rattle.std.specs.Str.Lines.{lines}
-use Rattle.cwr_report.specs.CheckLines.{fault_lines}
-use Rattle.cwr_report.proofs.check_lines.put_fault_lines.Given as goal
-
--- what is written and what is left make the whole
-abbrev pub invariant-loop-line : goal.invariant-loop-line
-invariant-loop-line g l = l.out.items ++ fault_lines l.line-iterator ≡ l.fn.out.items ++ fault_lines (lines l.fn.told)

@@ -1,5 +1,0 @@
-use Rattle.std.proofs.Common.{rules}
-use Rattle.cwr_report.proofs.json_report.check_json.Goals as goal
-
-pub returns : goal.returns
-returns c = search rules

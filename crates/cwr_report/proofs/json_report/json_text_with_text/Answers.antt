@@ -1,4 +1,0 @@
-use Rattle.cwr_report.proofs.json_report.json_text_with_text.Goals as goal
-
-pub returns-clause-text : goal.returns-clause-text
-returns-clause-text c = c.json_report_line.ensures

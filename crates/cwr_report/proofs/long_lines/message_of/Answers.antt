@@ -1,5 +1,0 @@
-use Rattle.std.proofs.Common.{rules}
-use Rattle.cwr_report.proofs.long_lines.message_of.Goals as goal
-
-pub returns-else-number-ge1 : goal.returns-else-number-ge1
-returns-else-number-ge1 c = search rules

@@ -1,5 +1,0 @@
-use Rattle.std.proofs.Common.{rules}
-use Rattle.cwr_report.proofs.shown.put_bytes.Goals as goal
-
-pub returns-else-shows : goal.returns-else-shows
-returns-else-shows g c = search rules

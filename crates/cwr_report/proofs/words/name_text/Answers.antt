@@ -1,4 +1,0 @@
-use Rattle.cwr_report.proofs.words.name_text.Goals as goal
-
-pub returns-in-MechanicalCollection : goal.returns-in-MechanicalCollection
-returns-in-MechanicalCollection c = rw c.in-MechanicalCollection.is

@@ -1,0 +1,5 @@
+use Rattle.std.proofs.Common.{rules}
+use Rattle.report_json.proofs.json_report.check_json.Goals as goal
+
+pub returns : goal.returns
+returns c = search rules

@@ -1,0 +1,5 @@
+pub mod Shown
+pub mod LongText
+pub mod FileText
+pub mod ReportText
+pub mod CheckLines
