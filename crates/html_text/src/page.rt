@@ -10,8 +10,8 @@ use std::io::Write;
 /// Why a page was not written completely.
 #[derive(Clone, Copy, Debug, PartialEq, Eq)]
 pub enum PageError {
-    /// An allocation failed. What `check_page` wrote before stays, so the page may have no end; `summary_page` has
-    /// written nothing.
+    /// An allocation failed. What was written before it stays, so the page may have no end; a page that is made whole
+    /// before it is written has then written nothing.
     Memory,
     /// A write failed or took nothing. What was written before it stays, so the page has no end.
     Write,
@@ -26,6 +26,10 @@ impl From<Memory> for PageError {
 }
 
 /// Writes a block of a page.
+///
+/// # Errors
+///
+/// `PageError::Write` where a write failed or took nothing; what was written before it stays.
 pub fn write_block<W: Write>(to: &mut W, block: &[u8]) -> Result<(), PageError>
     ensures { OnOk result (Appends (W.contents to.old) (W.contents to.new) block.now) }
 {
