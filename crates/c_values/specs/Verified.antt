@@ -1,5 +1,5 @@
 -- What is returned of a register and of files that were sent.
-use Rattle.std.specs.Prelude.{◌≡◌, ℕ, ◌⊎◌, nat_lt, List, length, count_by, map, Option, Some, None, option_map}
+use Rattle.std.specs.Prelude.{◌≡◌, ℕ, ◌⊎◌, nat_lt, List, length, count_by, map, Option, Some, None}
 use Rattle.work_registry.specs.EntryValue.{EntryValue}
 use Rattle.cwr_verify.specs.Sent.{Sent}
 use Rattle.cwr_verify.specs.VerifyErrors.{IsTold}

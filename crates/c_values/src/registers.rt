@@ -2,7 +2,7 @@ ghost use Rattle.std.specs.Prelude.{◌≡◌, ◌≢◌, ◌⊎◌, ℕ, List};
 ghost use Rattle.work_registry.specs.Numbers.{max_entries};
 ghost use Rattle.work_registry.specs.RegisterFaults.{IsRefusal};
 ghost use Rattle.c_values.specs.Answers.{no_memory, faulty};
-ghost use Rattle.c_values.specs.Registers.{IsFirstFault};
+ghost use Rattle.c_values.specs.Registers.{refusal_status, IsFirstFault};
 
 use crate::status::{FAULTY, NO_MEMORY};
 use work_registry::RegisterRefusal;
@@ -22,6 +22,7 @@ pub fn fill_register_fault(refusal: RegisterRefusal, fault: &mut RegisterFault) 
     ensures fault { (text : List ℕ) → IsRefusal max_entries text refusal → result ≡ faulty → IsFirstFault max_entries text fault.new }
     ensures same { result ≢ faulty → fault.new ≡ fault.old }
     ensures status { (result ≡ faulty) ⊎ (result ≡ no_memory) }
+    ensures by_refusal { result ≡ refusal_status refusal }
 {
     match refusal {
         RegisterRefusal::Fault { number, line } => {
