@@ -1,5 +1,5 @@
 -- The bytes of a source, through a window.
-use Rattle.std.specs.Prelude.{ℕ, ◌+◌, ◌-◌, ◌≡◌, ◌≤◌, ◌<◌, Bool, true, false, List, [], ◌++◌, length, take, drop, Option}
+use Rattle.std.specs.Prelude.{ℕ, ◌+◌, ◌-◌, ◌*◌, ◌≡◌, ◌≤◌, ◌<◌, ◌==◌, ◌&&◌, nat_lt, Bool, true, false, if◌then◌else◌, List, [], ◌++◌, length, take, drop, Option}
 use Rattle.std.specs.Io.KnownBytes.{Consumes, IsAtEnd}
 use Rattle.byte_streams.specs.declared.reading.ReadRefused.{ReadRefused}
 use Rattle.byte_streams.specs.declared.reading.ReadRefused.TheVariants.{Memory, Read, TooLong}
@@ -18,6 +18,15 @@ pub record WindowState : Type 0 where
 -- the bytes from position start, counted from 0, up to but not including position end
 abbrev pub between : List ℕ → ℕ → ℕ → List ℕ
 between bytes start end = take (end - start) (drop start bytes)
+
+-- the size of a window when one more read is to be made behind the bytes that it holds, from `start` to `end` of `size`:
+-- one whose bytes reach its end and that is smaller than `capacity` gets that size, any other one that is full of them
+-- twice its size, or one byte where it has none
+abbrev pub size_with_room : (size start end capacity : ℕ) → ℕ
+size_with_room size start end capacity =
+    if (end == size) && nat_lt size capacity then capacity
+    else if end - start == size then (if size == 0 then 1 else 2 * size)
+    else size
 
 -- one read more: these bytes came into the window behind those that it held, or the source was found to have ended
 pub record HasRead (before after : WindowState) (left_before left_after : Option (List ℕ)) (chunk : List ℕ) : Type 0 where

@@ -3,7 +3,7 @@
 ghost use Rattle.std.specs.Prelude.{◌≡◌, ◌+◌, ◌-◌, ◌≤◌, ◌<◌, ◌++◌, List, ℕ, [], true, false, length, take, drop, vec_len, IfOk, IfErr, OnOk};
 ghost use Rattle.std.specs.Io.KnownBytes.{IsAtEnd};
 ghost use Rattle.byte_streams.specs.GivenBytes.{HasGiven};
-ghost use Rattle.byte_streams.specs.Window.{HasRead, IsRest, IsStopped, between};
+ghost use Rattle.byte_streams.specs.Window.{HasRead, IsRest, IsStopped, between, size_with_room};
 
 use crate::{ReadRefused, Source};
 use cwr_field::{Memory, line_end};
@@ -155,7 +155,7 @@ impl<A: Allocator> Window<A> {
 /// Moves the bytes from `start` to `end` to the front of a window, and makes the window larger where it is full.
 ///
 /// A window below `capacity` whose bytes reach its end grows to `capacity`. Any other window that is full of held bytes
-/// doubles.
+/// doubles, and an empty one gets one byte.
 fn make_room<A: Allocator>(
     bytes: &mut Vec<u8, A>,
     start: usize,
@@ -166,12 +166,13 @@ fn make_room<A: Allocator>(
     requires inside { end ≤ vec_len bytes.old }
     ensures kept { OnOk result (take (end - start) bytes.new.items ≡ between bytes.old.items start end) }
     ensures room { OnOk result (end - start < vec_len bytes.new) }
-    ensures size { vec_len bytes.old ≤ vec_len bytes.new }
+    ensures no_smaller { vec_len bytes.old ≤ vec_len bytes.new }
+    ensures size { OnOk result (vec_len bytes.new ≡ size_with_room (vec_len bytes.old) start end capacity) }
 {
+    let size = bytes.len();
     if start > 0 {
         bytes.copy_within(start..end, 0);
     }
-    let size = bytes.len();
     if end == size && size < capacity {
         bytes.resize(capacity, 0)?;
     } else if end - start == size {

@@ -69,7 +69,7 @@ eight : (a b c d e f g h : ℕ) → a ≤ 9 → b ≤ 9 → c ≤ 9 → d ≤ 9 
     → sum_of (a ∷ b ∷ c ∷ d ∷ e ∷ f ∷ g ∷ h ∷ []) ≡ (((((((0 * 10 + a) * 10 + b) * 10 + c) * 10 + d) * 10 + e) * 10 + f) * 10 + g) * 10 + h
 eight a b c d e f g h la lb lc ld le lf lg lh = omega arith
 
-lane : (b : ℕ) → 48 ≤ b → b ≤ 57 → less b 48 ≡ b - 48
+pub lane : (b : ℕ) → 48 ≤ b → b ≤ 57 → less b 48 ≡ b - 48
 lane b low high = omega (arith, low, high)
 
 abbrev horner : ℕ → ℕ → ℕ → ℕ → ℕ → ℕ → ℕ → ℕ → ℕ

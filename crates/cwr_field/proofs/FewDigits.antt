@@ -1,6 +1,6 @@
 -- Numbers of other widths than eight, of which eight digits are read at once.
 use Rattle.std.proofs.Common.{◌≡◌, ◌∙◌, ℕ, ◌+◌, ◌-◌, ◌*◌, ◌<◌, ◌^◌, Bool, true, false, cond, eqb, ◌≤◌, List, [], ◌∷◌, ◌++◌, length, Some, None, not, subst, sym, refl, ap, arith}
-use Rattle.std.specs.Prelude.{codes, nat_le, if◌then◌else◌}
+use Rattle.std.specs.Prelude.{codes, nat_le, if◌then◌else◌, IfSome, Option}
 use Rattle.std.specs.List.{list_all}
 use Rattle.std.specs.Str.{bytes_eq}
 use Rattle.std.specs.Char.{is_ascii_digit}
@@ -30,6 +30,10 @@ pub below : (bytes : List ℕ) (n width : ℕ) → length bytes ≡ width → nu
 below bytes n width len is =
     let known = spelled bytes n (list_all is_ascii_digit bytes) refl is in
     subst (λ (w : ℕ). n < 10 ^ w) len (rw (← known.1) (digits_value-lt 10 bytes (all_digits bytes known.0)))
+
+pub bounded : (bytes : List ℕ) (number : Option ℕ) (width : ℕ) → length bytes ≡ width → number ≡ number_of bytes → IfSome number (λ n. n < 10 ^ width)
+bounded bytes None width len is = tt
+bounded bytes (Some n) width len is = below bytes n width len (sym is)
 
 -- one digit more
 pub one_more : (bytes : List ℕ) (c m : ℕ) → is_ascii_digit c ≡ true → number_of bytes ≡ Some m → number_of (bytes ++ c ∷ []) ≡ Some (m * 10 + (c - 48))

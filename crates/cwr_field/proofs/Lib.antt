@@ -3,4 +3,5 @@ mod CodeDigits
 mod EachByte
 mod EightDigits
 mod FewDigits
+mod FiveDigits
 pub mod lemmas

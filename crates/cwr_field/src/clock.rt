@@ -38,11 +38,12 @@ impl Clock {
 }
 
 /// The time that a field of six bytes names as `HHMMSS`.
+#[inline(always)]
 pub fn time(text: Field) -> Option<Clock>
     requires { length text ≡ 6 }
     ensures { result ≡ time_of text.entry }
 {
-    let number = number_in(&text.bytes::<6>())?;
+    let number = number_in(&text.whole_bytes::<6>()?)?;
     let hour = (number / 10000) as u8;
     let minute = (number / 100 % 100) as u8;
     let second = (number % 100) as u8;

@@ -44,7 +44,7 @@ pub fn date(text: Field) -> Option<Day>
     requires { length text ≡ 8 }
     ensures { result ≡ day_of text.entry }
 {
-    let number = number_of_eight(text.bytes::<8>())?;
+    let number = number_of_eight(text.whole_bytes::<8>()?)?;
     let year = (number / 10000) as u16;
     let month = (number / 100 % 100) as u8;
     let day = (number % 100) as u8;

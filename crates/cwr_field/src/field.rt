@@ -82,6 +82,20 @@ impl Field<'_> {
     {
         (self.bytes.len() == self.width).then_some(self.bytes)
     }
+
+    /// The bytes of a field that is `N` bytes wide, as they lie in the line. `None` where the line ends before the
+    /// field does.
+    #[inline(always)]
+    pub(crate) fn whole_bytes<const N: usize>(&self) -> Option<[u8; N]>
+        requires { length self.now ≡ N }
+        ensures some { IfSome result (λ bytes. bytes ≡ self.now) }
+        ensures none { IfNone result (list_any (λ b. b == 32) self.now ≡ true) }
+    {
+        match self.whole()?.first_chunk::<N>() {
+            Some(bytes) => Some(*bytes),
+            None => unreachable!(),
+        }
+    }
 }
 
 /// Whether each byte is a blank.

@@ -1,4 +1,4 @@
-ghost use Rattle.std.specs.Prelude.{◌≡◌, ◌≤◌, ◌<◌, ◌^◌, ◌+◌, ◌++◌, None, IfSome, OnOk, OnErr, length, vec_len, vec_capacity};
+ghost use Rattle.std.specs.Prelude.{◌≡◌, ◌≤◌, ◌<◌, ◌^◌, ◌+◌, ◌∷◌, ◌++◌, [], None, IfSome, OnOk, OnErr, length, take, drop, vec_len, vec_capacity};
 ghost use Rattle.std.specs.Fmt.{decimal};
 ghost use Rattle.cwr_field.specs.Number.{number_of, number_text, digit_pair};
 ghost use Rattle.cwr_field.specs.Share.{share_of, whole};
@@ -21,6 +21,9 @@ pub const MAX_WHOLE: u64 = 10006;
 /// The greatest number of eight digits, which sequences, counts and the numbers of works have.
 pub const MAX_COUNT: u32 = 99999999;
 
+/// A zero (`0`) in each of the last three of eight bytes, the first byte being the least.
+const ZEROS: u64 = 0x3030_3000_0000_0000;
+
 /// What a digit is worth at each of eight places.
 const WORTHS: [u32; 8] = [10000000, 1000000, 100000, 10000, 1000, 100, 10, 1];
 
@@ -39,13 +42,46 @@ pub(crate) fn number_of_eight(bytes: [u8; 8]) -> Option<u64>
     Some(parts.reduce_sum() as u64)
 }
 
-/// The number that four bytes spell, where each is a digit.
+/// The number that the first five of eight bytes spell, where each of the five is a digit. The others are zeros (`0`).
+///
+/// All are tested at once. Times 10 and one byte further on, each digit is added to the next. So the second byte of the
+/// product is the number of the first two digits, and the fourth that of the next two.
+#[inline(always)]
+fn number_of_front(bytes: [u8; 8]) -> Option<u64>
+    requires { drop 5 bytes ≡ 48 ∷ 48 ∷ 48 ∷ [] }
+    ensures value { result ≡ number_of (take 5 bytes) }
+    ensures bound { IfSome result (λ n. n < 10 ^ 5) }
+{
+    let lanes = u8x8::from_array(bytes) - u8x8::splat(b'0');
+    if lanes.simd_gt(u8x8::splat(9)).to_bitmask() != 0 {
+        return None;
+    }
+    let five = u64::from_le_bytes(lanes.to_array());
+    let pairs = five * (10 * 256 + 1);
+    let first = pairs / 256 % 256;
+    let second = pairs / 16777216 % 256;
+    Some(first * 1000 + second * 10 + five / 4294967296)
+}
+
+/// The number that five bytes spell, where each is a digit.
+#[inline(always)]
+fn number_of_five(bytes: [u8; 5]) -> Option<u64>
+    ensures value { result ≡ number_of bytes }
+    ensures bound { IfSome result (λ n. n < 10 ^ 5) }
+{
+    let [a, b, c, d, e] = bytes;
+    let word = ZEROS + u32::from_le_bytes([a, b, c, d]) as u64 + e as u64 * 4294967296;
+    number_of_front(word.to_le_bytes())
+}
+
+/// The number that four bytes spell, where each is a digit. It is read as five, of which the first is a zero.
 #[inline(always)]
 pub fn number_of_four(bytes: [u8; 4]) -> Option<u64>
     ensures value { result ≡ number_of bytes }
     ensures bound { IfSome result (λ n. n < 10 ^ 4) }
 {
-    number_in(&bytes)
+    let word = ZEROS + 48 + u32::from_le_bytes(bytes) as u64 * 256;
+    number_of_front(word.to_le_bytes())
 }
 
 /// The number that nine bytes spell, where each is a digit: eight at once, and the last.
@@ -94,8 +130,7 @@ pub(crate) fn number_in(bytes: &[u8]) -> Option<u64>
 
 /// The number that a field spells, where each of its bytes is a digit.
 ///
-/// Of eight, nine or twelve bytes, eight are tested at once. The five bytes of a group ID, which each transaction has,
-/// are read one by one.
+/// Of eight, nine or twelve bytes, eight are tested at once, and of five, as the group ID has, all five.
 #[inline(always)]
 pub fn digits(text: Field) -> Option<u64>
     requires { length text ≤ 18 }
@@ -103,10 +138,10 @@ pub fn digits(text: Field) -> Option<u64>
     ensures bound { IfSome result (λ n. n < 10 ^ length text.entry) }
 {
     match text.width() {
-        5 => number_in(&text.bytes::<5>()),
-        8 => number_of_eight(text.bytes::<8>()),
-        9 => number_of_nine(text.bytes::<9>()),
-        12 => number_of_twelve(text.bytes::<12>()),
+        5 => number_of_five(text.whole_bytes::<5>()?),
+        8 => number_of_eight(text.whole_bytes::<8>()?),
+        9 => number_of_nine(text.whole_bytes::<9>()?),
+        12 => number_of_twelve(text.whole_bytes::<12>()?),
         _ => number_of_others(text),
     }
 }
@@ -131,7 +166,7 @@ pub fn share(text: Field) -> Option<u16>
     ensures bound { IfSome result (λ n. n ≤ whole) }
 {
     let bytes = text.bytes::<5>();
-    match number_in(&bytes) {
+    match number_of_five(bytes) {
         Some(number) if number <= WHOLE => Some(number as u16),
         Some(_) => None,
         None => no_share(&bytes),

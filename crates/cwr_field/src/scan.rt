@@ -113,9 +113,22 @@ fn is_half_free_before(bytes: &[u8], end: usize, sought: Sought) -> bool
     ensures only_then { ((k : ℕ) → k < end → is_sought sought (slice_index bytes.now k) ≡ false) → result ≡ true }
 {
     if end < HALF {
-        return are_few_free(bytes, end, sought);
+        return is_run_free_before(bytes, end, sought);
     }
     !has_in_half(bytes, 0, sought) && !has_in_half(bytes, end - HALF, sought)
+}
+
+/// Whether none of the bytes before an index, which is at most 32, is looked for.
+#[inline(always)]
+fn is_run_free_before(bytes: &[u8], end: usize, sought: Sought) -> bool
+    requires { (end ≤ length bytes.now) × (end ≤ 32) }
+    ensures none { result ≡ true → (k : ℕ) → k < end → is_sought sought (slice_index bytes.now k) ≡ false }
+    ensures only_then { ((k : ℕ) → k < end → is_sought sought (slice_index bytes.now k) ≡ false) → result ≡ true }
+{
+    if end < RUN {
+        return are_few_free(bytes, end, sought);
+    }
+    !has_in_run(bytes, 0, sought) && !has_in_run(bytes, end - RUN, sought)
 }
 
 /// Whether none of the bytes before an index is looked for, byte by byte.

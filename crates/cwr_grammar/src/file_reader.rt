@@ -268,6 +268,8 @@ impl FileReader {
     }
 
     /// Consumes the file's header, which has no fault, and therefore is its first line.
+    #[cold]
+    #[inline(never)]
     fn take_file_header<V: Visitor>(&mut self, visitor: &mut V, line: &[u8])
         requires goes { self.old.counts.is_ended ≡ false }
         requires role { role_of line.now ≡ FileHeader true }

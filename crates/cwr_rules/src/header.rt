@@ -92,6 +92,7 @@ fn has_no_number(head: &[u8]) -> bool
 }
 
 /// Whether the copyright date of a header's line is blank, zeros or a day, as rule J5 requires.
+#[inline(always)]
 pub fn is_copyright_date(head: &[u8]) -> bool
     ensures { result ≡ is_copyright_date (field_at head.now work_head_copyright_date) }
 {
