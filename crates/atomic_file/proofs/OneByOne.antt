@@ -1,16 +1,16 @@
 -- Followers in memory that are put on the disk one after another, each unless its call fails, and what a crash leaves of them.
 use Rattle.std.proofs.Common.{◌≡◌, ◌≢◌, ◌⊎◌, ℕ, zero, suc, ◌+◌, ◌<◌, ◌≤◌, List, ◌∷◌, set, map, get_or, length, true, false, Bool, refl, sym, ◌∙◌, ap, subst, inl, inr, arith}
 use Rattle.std.specs.Prelude.{None, []}
-use Rattle.std.proofs.lemmas.List.{get_or-set_same, length-map, ext_get_or, get_or-set_other}
+use Rattle.std.proofs.lemmas.List.{get_or-set_same, length-map, ext_get_or, get_or-set_other, get_or_past}
 use borrow.Author.Count.{below_more}
 use Rattle.atomic_file.specs.declared.memory.MemoryFile.{MemoryFile}
 use Rattle.atomic_file.specs.declared.memory.Shelf.{Shelf}
 use Rattle.atomic_file.specs.Names.{Lying, Names, State, refusing_follower, IsRefused, IsSynced}
 use Rattle.atomic_file.specs.Looking.{Only}
 use Rattle.atomic_file.specs.Keeping.{follower, HaveSynced, MayRefuse, AreSettled}
-use Rattle.atomic_file.specs.Memory.{lies, left, draft_of, names_of, state_of, may_be, IsSettled, AllSettled, Changes, syncing_slot, settling_slot, undoing_slot, refusing_slot, lies_at}
+use Rattle.atomic_file.specs.Memory.{lies, left, draft_of, names_of, state_of, may_be, IsSettled, AllSettled, Changes, syncing_slot, settling_slot, undoing_slot, refusing_slot, lies_at, left_at, Crashed}
 use Rattle.atomic_file.proofs.Followers.{SetOrSame, set_or_same}
-use Rattle.atomic_file.proofs.Slots.{Within, Within-same, Within-refusing, Within-syncing, Within-settling, Within-undoing, Within-stays, left_at, kept, changed, state-refusing, state-syncing, state-settling, undone_lies}
+use Rattle.atomic_file.proofs.Slots.{Within, Within-same, Within-refusing, Within-syncing, Within-settling, Within-undoing, Within-stays, kept, changed, here, state-refusing, state-syncing, state-settling, undone_lies}
 
 -- one more told as refused
 refused_more : (at k : ℕ) (xs : List Bool) → get_or xs k false ≡ true → SetOrSame xs at true k false → get_or (set xs at true) k false ≡ true
@@ -237,6 +237,9 @@ undone_file : {A : Type 0} (old new : MemoryFile A) (x : Lying) → new ≡ undo
 undone_file old new x undone (inl e) = inr (e ∙ ap lies undone ∙ undone_lies old)
 undone_file old new x undone (inr e) = inr (e ∙ ap left undone ∙ undone_lies old)
 
+pub undone_lies_of : {A : Type 0} (old new : MemoryFile A) → new ≡ undoing_slot old → lies new ≡ left old
+undone_lies_of old new undone = ap lies undone ∙ undone_lies old
+
 pub Within-undone : {A : Type 0} (old new : Shelf A) → new.file ≡ undoing_slot old.file → new.followers ≡ old.followers → Within old new
 Within-undone old new undone same = record {
   file = λ x may. undone_file old.file new.file x undone may;
@@ -290,3 +293,68 @@ Staying-undone at stayed old mid new lost so one =
     λ k said. ap (λ ys. get_or ys k None) (changed undoing_slot at mid new one lies)
     ∙ get_or-set_other (map lies mid.followers.items) at k (lies (undoing_slot one.slot)) None (is_other at k stayed lost said)
     ∙ so k (said_less at k stayed said)
+
+-- the names of the followers below n that did not stay are undone, of those from n on a crash leaves what it left before,
+-- and all else is as it was
+pub record Undoing {A : Type 0} (n : ℕ) (stayed : List Bool) (old new : Shelf A) : Type 0 where
+  pub below : (k : ℕ) → k < n → get_or stayed k false ≡ false → lies_at k new ≡ left_at k old
+  pub later : (k : ℕ) → n ≤ k → left_at k new ≡ left_at k old
+  pub same : state_of new ≡ record (state_of old) { names = names_of new }
+
+pub Undoing-none : {A : Type 0} (stayed : List Bool) (old new : Shelf A) → new.file ≡ undoing_slot old.file → new.followers ≡ old.followers → Undoing 0 stayed old new
+Undoing-none stayed old new file same = record {
+  below = λ k before. absurd (omega (arith, before));
+  later = λ k after. ap (λ v. get_or (map left v.items) k None) same;
+  same = rw (file, same) refl;
+}
+
+-- one more is there to stay
+pub Undoing-settled : {A : Type 0} (at : ℕ) (stayed : List Bool) (old mid new : Shelf A) → get_or stayed at false ≡ true → Undoing at stayed old mid →
+    Changes settling_slot at mid new → Undoing (at + 1) stayed old new
+Undoing-settled at stayed old mid new said so one = record {
+  below = below_more (λ k. get_or stayed k false ≡ false → lies_at k new ≡ left_at k old) at
+      (λ k before lost. ap (λ ys. get_or ys k None) (kept settling_slot at mid new one lies (λ x. refl)) ∙ so.below k before lost)
+      (λ lost. cc);
+  later = λ k after. ap (λ ys. get_or ys k None) (changed settling_slot at mid new one left)
+      ∙ get_or-set_other (map left mid.followers.items) at k (left (settling_slot one.slot)) None (λ e. omega (arith, after, e))
+      ∙ so.later k (omega (arith, after));
+  same = let now = state-settling at mid new one in now ∙ so.same ∙ sym (ap (λ (s : State). record (state_of old) { names = s.names }) now);
+}
+
+-- what a crash does to the state of a follower whose name it undoes
+state-undoing : {A : Type 0} (at : ℕ) (old new : Shelf A) → Changes undoing_slot at old new → state_of new ≡ record (state_of old) { names = names_of new }
+state-undoing at old new one =
+    let waiting = kept undoing_slot at old new one draft_of (λ x. refl) in
+    let synced = kept undoing_slot at old new one (λ x. x.is_synced) (λ x. refl) in
+    let refused = kept undoing_slot at old new one (λ x. x.is_refused) (λ x. refl) in
+    let beside = kept undoing_slot at old new one (λ x. x.has_draft) (λ x. refl) in
+    let file : new.file ≡ old.file = ap (λ shelf. shelf.file) one.same in
+    rw (waiting, synced, refused, beside, file) refl
+
+-- one that did not stay is undone
+pub Undoing-undone : {A : Type 0} (at : ℕ) (stayed : List Bool) (old mid new : Shelf A) → Undoing at stayed old mid → Changes undoing_slot at mid new →
+    at < length mid.followers.items → Undoing (at + 1) stayed old new
+Undoing-undone at stayed old mid new so one bound = record {
+  below = below_more (λ k. get_or stayed k false ≡ false → lies_at k new ≡ left_at k old) at
+      (λ k before lost. ap (λ ys. get_or ys k None) (changed undoing_slot at mid new one lies)
+      ∙ get_or-set_other (map lies mid.followers.items) at k (lies (undoing_slot one.slot)) None (λ e. omega (arith, before, e))
+      ∙ so.below k before lost)
+      (λ lost. ap (λ ys. get_or ys at None) (changed undoing_slot at mid new one lies)
+      ∙ get_or-set_same (map lies mid.followers.items) at (lies (undoing_slot one.slot)) None (omega (arith, bound, length-map mid.followers.items lies))
+      ∙ undone_lies one.slot
+      ∙ sym (here undoing_slot at mid new one left None bound)
+      ∙ so.later at (omega arith));
+  later = λ k after. ap (λ ys. get_or ys k None) (changed undoing_slot at mid new one left)
+      ∙ get_or-set_other (map left mid.followers.items) at k (left (undoing_slot one.slot)) None (λ e. omega (arith, after, e))
+      ∙ so.later k (omega (arith, after));
+  same = state-undoing at mid new one ∙ ap (λ (s : State). record s { names = names_of new }) so.same;
+}
+
+-- all names are left or undone
+pub Undoing-all : {A : Type 0} (n : ℕ) (stayed : List Bool) (old new : Shelf A) → length old.followers.items ≤ n → length new.followers.items ≡ length old.followers.items →
+    lies new.file ≡ left old.file → Undoing n stayed old new → Crashed stayed old new
+Undoing-all n stayed old new done count file so = record { file = file; each = λ k lost. by k lost (cases_lt k n); same = so.same } where
+  by : (k : ℕ) → get_or stayed k false ≡ false → (k < n) ⊎ (n ≤ k) → lies_at k new ≡ left_at k old
+  by k lost (inl before) = so.below k before lost
+  by k lost (inr after) = get_or_past (map lies new.followers.items) k None (omega (arith, after, done, count, length-map new.followers.items lies))
+      ∙ sym (get_or_past (map left old.followers.items) k None (omega (arith, after, done, length-map old.followers.items left)))

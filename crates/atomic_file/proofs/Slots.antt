@@ -8,7 +8,7 @@ use Rattle.atomic_file.specs.declared.memory.Shelf.{Shelf}
 use Rattle.atomic_file.specs.Names.{Lying, Names, with_file, with_follower, placing_follower, refusing_follower, dropping_follower, IsSynced, waiting_text}
 use Rattle.atomic_file.specs.Looking.{Renames, Stays}
 use Rattle.atomic_file.specs.Keeping.{follower}
-use Rattle.atomic_file.specs.Memory.{lies, left, draft_of, state_of, may_be, Changes, placing_slot, syncing_slot, settling_slot, undoing_slot, refusing_slot, dropping_slot, lies_at}
+use Rattle.atomic_file.specs.Memory.{lies, left, draft_of, state_of, may_be, Changes, placing_slot, syncing_slot, settling_slot, undoing_slot, refusing_slot, dropping_slot, lies_at, left_at}
 use Rattle.atomic_file.proofs.Followers.{SetOrSame, set_or_same}
 
 pub same_or_other : (m n : ℕ) → (m ≡ n) ⊎ (m ≢ n)
@@ -23,10 +23,6 @@ same_or_other (suc m) (suc n) = by (same_or_other m n) where
 -- what may be found under one name
 abbrev pub IsFound : {A : Type 0} → MemoryFile A → Lying → Type 0
 IsFound slot x = (x ≡ lies slot) ⊎ (x ≡ left slot)
-
--- what a crash leaves under the name of a follower
-abbrev pub left_at : {A : Type 0} → ℕ → Shelf A → Lying
-left_at k shelf = get_or (map left shelf.followers.items) k None
 
 abbrev pub IsFoundAt : {A : Type 0} → ℕ → Shelf A → Lying → Type 0
 IsFoundAt k shelf x = (x ≡ lies_at k shelf) ⊎ (x ≡ left_at k shelf)

@@ -3,3 +3,4 @@ pub mod Looking
 pub mod Keeping
 pub mod Memory
 pub mod FileWords
+pub mod Codes

@@ -32,6 +32,11 @@ names_of shelf = record { file = lies shelf.file; followers = map lies shelf.fol
 abbrev pub lies_at : {A : Type 0} → ℕ → Shelf A → Lying
 lies_at k shelf = get_or (map lies shelf.followers.items) k None
 
+-- what a crash leaves under the name of the k-th follower, from 0, where it undoes what is not on disk; `None` where
+-- there is no such follower
+abbrev pub left_at : {A : Type 0} → ℕ → Shelf A → Lying
+left_at k shelf = get_or (map left shelf.followers.items) k None
+
 -- what a reader finds now, or whoever comes after a crash now, which undoes each name that is not on disk or leaves it
 pub record may_be {A : Type 0} (shelf : Shelf A) (c : Names) : Type 0 where
   pub file : (c.file ≡ lies shelf.file) ⊎ (c.file ≡ left shelf.file)
@@ -62,6 +67,13 @@ state_of shelf = record {
   refused = map (λ follower. follower.is_refused) shelf.followers.items;
   beside = map (λ follower. follower.has_draft) shelf.followers.items;
 }
+
+-- A crash undid the names that are not on disk: the file's, and those of the followers that are not said to have
+-- stayed. All else is as it was.
+pub record Crashed {A : Type 0} (stayed : List Bool) (old new : Shelf A) : Type 0 where
+  pub file : lies new.file ≡ left old.file
+  pub each : (k : ℕ) → get_or stayed k false ≡ false → lies_at k new ≡ left_at k old
+  pub same : state_of new ≡ record (state_of old) { names = names_of new }
 
 -- a draft lies beside the file or beside a follower
 abbrev pub has_drafts : {A : Type 0} → Shelf A → Bool

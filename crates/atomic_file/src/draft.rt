@@ -1,5 +1,8 @@
 //! Drafts in the file system.
 
+ghost use Rattle.std.specs.Prelude.{◌≢◌, ◌≡◌, ◌⊎◌, ◌↔◌, IsTrue};
+ghost use Rattle.std.specs.IoError.{error_kind};
+
 use crate::FileNames;
 use std::fs::{File, Metadata, OpenFile, OpenOptions};
 use std::io::ErrorKind;
@@ -60,11 +63,36 @@ fn new_draft<R: Files>(
     }
 }
 
+/// Whose a file is, by the numbers of the system.
+#[derive(Clone, Copy, PartialEq, Eq)]
+struct Owner {
+    user: u32,
+    group: u32,
+}
+
+impl Owner {
+    /// The owner of this file.
+    fn of(file: &Metadata) -> Owner {
+        Owner {
+            user: file.uid(),
+            group: file.gid(),
+        }
+    }
+
+    /// Whether the user is another, or the group.
+    fn differs(self, other: Owner) -> bool
+        ensures { IsTrue result ↔ (self ≢ other) }
+    {
+        self != other
+    }
+}
+
 /// Gives the draft the owner and group of the old file, where they differ and the system allows it.
 fn take_owner<R: Files>(rt: &R, names: &FileNames, old: &Metadata) {
+    let owner = Owner::of(old);
     if let Ok(draft) = fs::metadata(rt, names.draft()) {
-        if draft.uid() != old.uid() || draft.gid() != old.gid() {
-            let _ = chown(rt, names.draft(), Some(old.uid()), Some(old.gid()));
+        if Owner::of(&draft).differs(owner) {
+            let _ = chown(rt, names.draft(), Some(owner.user), Some(owner.group));
         }
     }
 }
@@ -129,7 +157,9 @@ fn link_draft<R: Files>(rt: &R, names: &FileNames) -> io::Result<()> {
 }
 
 /// Whether the system refuses every hard link.
-fn has_no_links(error: &io::Error) -> bool {
+fn has_no_links(error: &io::Error) -> bool
+    ensures { IsTrue result ↔ ((error_kind error.now ≡ ErrorKind.Unsupported) ⊎ (error_kind error.now ≡ ErrorKind.PermissionDenied)) }
+{
     matches!(
         error.kind(),
         ErrorKind::Unsupported | ErrorKind::PermissionDenied
@@ -156,7 +186,9 @@ pub fn sync_directory<R: Files>(rt: &R, directory: &str) -> io::Result<()> {
 }
 
 /// Whether the system reports that this is nothing that can be synced to disk.
-fn is_on_no_disk(error: &io::Error) -> bool {
+fn is_on_no_disk(error: &io::Error) -> bool
+    ensures { IsTrue result ↔ ((error_kind error.now ≡ ErrorKind.InvalidInput) ⊎ (error_kind error.now ≡ ErrorKind.Unsupported) ⊎ (error_kind error.now ≡ ErrorKind.IsADirectory)) }
+{
     matches!(
         error.kind(),
         ErrorKind::InvalidInput | ErrorKind::Unsupported | ErrorKind::IsADirectory

@@ -3,7 +3,7 @@ ghost use Rattle.std.specs.List.{list_any};
 ghost use Rattle.atomic_file.specs.Names.{Names, State, with_file};
 ghost use Rattle.atomic_file.specs.Looking.{Only};
 ghost use Rattle.atomic_file.specs.Keeping.{follower};
-ghost use Rattle.atomic_file.specs.Memory.{lying, lies, lies_at, draft_of, has_drafts, names_of, state_of, may_be, had_been, AllSettled, Changes, placing_slot, syncing_slot, settling_slot, undoing_slot, refusing_slot, dropping_slot};
+ghost use Rattle.atomic_file.specs.Memory.{lying, lies, lies_at, draft_of, has_drafts, names_of, state_of, may_be, had_been, AllSettled, Changes, placing_slot, syncing_slot, settling_slot, undoing_slot, refusing_slot, dropping_slot, Crashed};
 
 use crate::{CallFailed, Storage};
 use std::alloc::{Allocator, Global};
@@ -261,6 +261,7 @@ impl<A: Allocator + Copy> MemoryStorage<A> {
         ensures left { IfSome (⟦<MemoryStorage<A> as Storage>⟧.told self.new) (λ s. ⟦<MemoryStorage<A> as Storage>⟧.may_find self.old s.names) }
         ensures stays { IfSome (⟦<MemoryStorage<A> as Storage>⟧.told self.new) (λ s. Only s.names (⟦<MemoryStorage<A> as Storage>⟧.may_find self.new)) }
         ensures stayed { (k : ℕ) → get_or stayed.now k false ≡ true → lies_at k self.new.shelf ≡ lies_at k self.old.shelf }
+        ensures undone { Crashed stayed.now self.old.shelf self.new.shelf }
     {
         self.remember();
         self.shelf.file.undo();

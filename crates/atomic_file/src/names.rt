@@ -1,6 +1,8 @@
 //! The names of a file that is replaced by a draft.
 
-ghost use Rattle.std.specs.Prelude.{◌≡◌, ◌++◌, codes, map, string_bytes, IfOk};
+ghost use Rattle.std.specs.Prelude.{◌≡◌, ◌++◌, codes, map, string_bytes, IfOk, IfSome, IsSomeAnd, OnOk};
+ghost use Rattle.std.specs.Path.{path_bytes, path_buf_bytes, path_join};
+ghost use Rattle.atomic_file.specs.FileWords.{directory_of};
 
 use cwr_field::Memory;
 use std::alloc::Global;
@@ -33,19 +35,19 @@ pub struct FileNames {
 
 impl Model for FileNames {
     ghost use Rattle.std.specs.Prelude.{◌≡◌, ◌++◌, codes, string_bytes};
-    ghost use Rattle.atomic_file.specs.FileWords.{FileWords};
+    ghost use Rattle.atomic_file.specs.FileWords.{FileWords, directory_of};
 
     ghost Value = { FileWords };
 
     ghost view = { λ n. record {
       word = string_bytes n.word;
       name = string_bytes n.name;
-      directory = string_bytes n.directory;
     } };
 
     ghost invariant = { λ n.
         (string_bytes n.draft ≡ string_bytes n.name ++ codes ".new")
-        × (string_bytes n.lock ≡ string_bytes n.name ++ codes ".lock") };
+        × (string_bytes n.lock ≡ string_bytes n.name ++ codes ".lock")
+        × (string_bytes n.directory ≡ directory_of (string_bytes n.name)) };
 }
 
 impl FileNames {
@@ -84,17 +86,13 @@ impl FileNames {
     {
         let path = file_of(rt, folder, word)?;
         let name = path.as_path().as_os_str();
-        let directory = match path.as_path().parent() {
-            Some(parent) if !parent.as_os_str().is_empty() => parent.as_os_str(),
-            Some(_) | None => HERE,
-        };
         let alloc = rt.alloc();
         Ok(FileNames {
             word: String::from_str(alloc, word)?,
             name: String::from_str(alloc, name)?,
             draft: format!(in alloc; "{name}.new")?,
             lock: format!(in alloc; "{name}.lock")?,
-            directory: String::from_str(alloc, directory)?,
+            directory: String::from_str(alloc, directory_of(path.as_path()))?,
         })
     }
 
@@ -128,9 +126,19 @@ impl FileNames {
 
     /// The directory in which all of them lie.
     pub fn directory(&self) -> &str
-        ensures { result.now ≡ self.now.directory }
+        ensures { result.now ≡ directory_of self.now.name }
     {
         self.directory.as_str()
+    }
+}
+
+/// The directory of a file of this path, as a name that the system can be asked for.
+fn directory_of(path: Path<'_>) -> &str
+    ensures { result.now ≡ directory_of (path_bytes path.entry) }
+{
+    match path.parent() {
+        Some(parent) if !parent.as_os_str().is_empty() => parent.as_os_str(),
+        Some(_) | None => HERE,
     }
 }
 
@@ -153,7 +161,9 @@ impl Folder {
     }
 
     /// Asks the system for the folder of this name, unless it was asked for last.
-    fn ask<R: AllocGlobal + Files>(&mut self, rt: &R, name: &str) -> Result<(), Memory> {
+    fn ask<R: AllocGlobal + Files>(&mut self, rt: &R, name: &str) -> Result<(), Memory>
+        ensures { OnOk result (string_bytes self.new.given ≡ name.now) }
+    {
         if self.given.as_str() != name {
             self.path = found_path(fs::canonicalize(rt, name))?;
             self.given = String::from_str(rt.alloc(), name)?;
@@ -163,7 +173,9 @@ impl Folder {
 
     /// The path of a file of that name in the folder; `None` where the system did not report the folder, or where the
     /// path is too long.
-    fn path_of(&self, alloc: Global, file: &str) -> Result<Option<PathBuf>, Memory> {
+    fn path_of(&self, alloc: Global, file: &str) -> Result<Option<PathBuf>, Memory>
+        ensures { IfOk result (λ found. IfSome found (λ path. IsSomeAnd self.now.path (λ folder. path_buf_bytes path ≡ path_join (path_buf_bytes folder) file.now))) }
+    {
         let Some(folder) = &self.path else {
             return Ok(None);
         };

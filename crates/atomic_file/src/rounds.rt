@@ -1,7 +1,9 @@
 //! Drafts that threads sync to disk beside one another.
 
-ghost use Rattle.std.specs.Prelude.{◌<◌, ◌≤◌};
+ghost use Rattle.std.specs.Prelude.{ℕ, ◌≡◌, ◌^◌, ◌<◌, ◌≤◌, pos, Some};
 ghost use Rattle.std.specs.Thread.{IsSync};
+ghost use Rattle.std.specs.IoError.{error_kind, raw_os_error};
+ghost use Rattle.atomic_file.specs.Codes.{failed_code};
 
 use crate::Follower;
 use crate::draft::sync_draft;
@@ -57,15 +59,20 @@ impl Answer {
 }
 
 /// The code of an error.
-fn code_of(error: &io::Error) -> u64 {
+fn code_of(error: &io::Error) -> u64
+    ensures { result ≡ failed_code (raw_os_error error.now) }
+{
     match error.raw_os_error().map(u64::try_from) {
         Some(Ok(number)) => number.saturating_add(FAILED + 1),
         Some(Err(_)) | None => FAILED,
     }
 }
 
-/// The error of a code.
-fn error_of(code: u64) -> io::Error {
+/// The error of a code, as [`code_of`] makes it. Of an error without a number it has not the kind.
+fn error_of(code: u64) -> io::Error
+    ensures number { (n : ℕ) → n < 2 ^ 31 → code ≡ failed_code (Some (pos n)) → raw_os_error result ≡ Some (pos n) }
+    ensures none { code ≤ 2 → error_kind result ≡ ErrorKind.Other }
+{
     match code.checked_sub(FAILED + 1).map(i32::try_from) {
         Some(Ok(number)) => io::Error::from_raw_os_error(number),
         Some(Err(_)) | None => io::Error::from(ErrorKind::Other),

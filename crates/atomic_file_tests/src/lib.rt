@@ -10,4 +10,6 @@ mod each_failure;
 #[cfg(test)]
 mod memory_storage;
 #[cfg(test)]
+mod odd_system;
+#[cfg(test)]
 mod system_files;

@@ -1,10 +1,13 @@
 //! Files of the system, each test with names of its own in the folder where it runs.
 
+use crate::odd_system::{OddSystem, Refusals};
 use atomic_file::{
-    Deaf, Exclusive, FileNames, Follower, KeepError, Storage, SystemStorage, keep, lock,
+    Deaf, Exclusive, FileNames, Follower, KeepError, Listener, Storage, SystemStorage, keep, lock,
     put_followers, sync_drafts,
 };
+use std::cell::Cell;
 use std::fs::{self, Permissions};
+use std::io::{self, ErrorKind};
 use std::os::unix::fs::{PermissionsExt, symlink};
 use std::rt::Files;
 use std::test::Fail;
@@ -14,6 +17,23 @@ use test_comparisons::{same, same_bytes};
 const OLD: &[u8] = b"OLD";
 
 const NEW: &[u8] = b"NEW TEXT";
+
+/// How file systems without hard links refuse one.
+const WITHOUT_LINKS: [ErrorKind; 2] = [ErrorKind::Unsupported, ErrorKind::PermissionDenied];
+
+/// Keeps the kind of the last failure that it is told.
+#[derive(Drop)]
+struct Ear<'a> {
+    heard: &'a Cell<Option<ErrorKind>>,
+}
+
+impl Listener for Ear<'_> {
+    fn wrote(&self, _names: &FileNames, _bytes: usize) {}
+
+    fn failed(&self, _names: &FileNames, error: &io::Error) {
+        self.heard.set(Some(error.kind()));
+    }
+}
 
 /// Keeps the new text under a name without followers.
 fn keep_new<R: AllocGlobal + Files>(rt: &R, name: &str) -> Result<Result<(), KeepError>, Fail> {
@@ -88,27 +108,46 @@ fn a_link_to_a_file_that_is_not_there_yet(rt: HostRuntime) -> Result<(), Fail> {
     expect_alone(&rt, "linked_to_later", NEW)
 }
 
-/// A folder that a link leads to, and in it a link that leads out of it.
-fn make_folder<R: Files>(rt: &R) -> Result<(), Fail> {
+/// A folder that a link leads to, and in it a link that leads out of it. Another folder.
+fn make_folders<R: Files>(rt: &R) -> Result<(), Fail> {
     fs::create_dir(rt, "folder")?;
     symlink(rt, "folder", "a_folder")?;
     symlink(rt, "../outside", "folder/linked")?;
+    fs::create_dir(rt, "beside")?;
     Ok(())
 }
 
-/// Each of these names is of the file that its word leads to.
-#[test]
-fn words_of_one_folder(rt: HostRuntime) -> Result<(), Fail> {
-    make_folder(&rt)?;
-    let words = vec![in rt.alloc();
-        format!(in rt.alloc(); "a_folder/inside")?,
-        format!(in rt.alloc(); "a_folder/linked")?,
-    ]?;
-    for names in FileNames::of_words(&rt, &words)? {
-        fs::write(&rt, names.name(), NEW)?;
+/// Words of two folders by turns, and of none.
+const WORDS: [&str; 5] = [
+    "a_folder/inside",
+    "a_folder/linked",
+    "beside/inside",
+    "a_folder/again",
+    "apart",
+];
+
+/// Writes each of these words to the file that it leads to.
+fn write_words<R: AllocGlobal + Files>(rt: &R) -> Result<(), Fail> {
+    let mut words = Vec::new(rt.alloc());
+    for word in &WORDS {
+        words.push(String::from_str(rt.alloc(), word)?)?;
     }
-    expect_bytes(&rt, "folder/inside", NEW)?;
-    expect_bytes(&rt, "outside", NEW)
+    for names in FileNames::of_words(rt, &words)? {
+        fs::write(rt, names.name(), names.word().as_bytes())?;
+    }
+    Ok(())
+}
+
+/// Each of the names is of the file that its word leads to.
+#[test]
+fn words_of_folders(rt: HostRuntime) -> Result<(), Fail> {
+    make_folders(&rt)?;
+    write_words(&rt)?;
+    expect_bytes(&rt, "folder/inside", b"a_folder/inside")?;
+    expect_bytes(&rt, "outside", b"a_folder/linked")?;
+    expect_bytes(&rt, "beside/inside", b"beside/inside")?;
+    expect_bytes(&rt, "folder/again", b"a_folder/again")?;
+    expect_bytes(&rt, "apart", b"apart")
 }
 
 #[test]
@@ -127,6 +166,24 @@ fn what_is_no_regular_file(rt: HostRuntime) -> Result<(), Fail> {
     )
 }
 
+/// Where no file can be synced, no draft takes a name. What has no draft is written all the same.
+#[test]
+fn a_system_that_syncs_nothing(rt: HostRuntime) -> Result<(), Fail> {
+    let refusals = Refusals::new(None, Some(ErrorKind::Unsupported));
+    let odd = OddSystem {
+        system: &rt,
+        refusals: &refusals,
+    };
+    fs::write(&rt, "not_synced", OLD)?;
+    same(
+        "keeping",
+        &keep_new(&odd, "not_synced")?,
+        &Err(KeepError { sent: 8 }),
+    )?;
+    expect_alone(&rt, "not_synced", OLD)?;
+    same("a device", &keep_new(&odd, "/dev/null")?, &Ok(()))
+}
+
 /// No draft can take the name of a folder.
 #[test]
 fn a_folder(rt: HostRuntime) -> Result<(), Fail> {
@@ -140,24 +197,39 @@ fn a_folder(rt: HostRuntime) -> Result<(), Fail> {
     Ok(fs::remove_dir(&rt, "a_folder_there")?)
 }
 
-/// Keeps the new text under a name where no file is to be replaced.
-fn keep_first<R: AllocGlobal + Files>(rt: &R, name: &str) -> Result<Result<(), KeepError>, Fail> {
+/// Keeps the new text under a name where no file is to be replaced. Returns the kind of the failure, if one was told.
+fn keep_first<R: AllocGlobal + Files>(rt: &R, name: &str) -> Result<Option<ErrorKind>, Fail> {
+    let heard = Cell::new(None);
     let names = FileNames::of_word(rt, name)?;
     let followers = Vec::new(rt.alloc());
-    let mut storage = SystemStorage::new(rt, Some(&names), followers, Deaf);
+    let mut storage = SystemStorage::new(rt, Some(&names), followers, Ear { heard: &heard });
     storage.replace_none();
-    Ok(keep(&mut storage, NEW))
+    let kept = keep(&mut storage, NEW);
+    same("kept", &kept.is_ok(), &heard.get().is_none())?;
+    Ok(heard.get())
+}
+
+/// A file that is there stays as it is. Where none is there, the text gets the name.
+fn expect_first<R: AllocGlobal + Files>(rt: &R) -> Result<(), Fail> {
+    fs::write(rt, "the_first", OLD)?;
+    let there = Some(ErrorKind::AlreadyExists);
+    same("another", &keep_first(rt, "the_first")?, &there)?;
+    expect_alone(rt, "the_first", OLD)?;
+    same("the first", &keep_first(rt, "the_first")?, &None)?;
+    expect_alone(rt, "the_first", NEW)
 }
 
 #[test]
 fn a_file_that_replaces_none(rt: HostRuntime) -> Result<(), Fail> {
-    same("keeping", &keep_first(&rt, "the_first")?, &Ok(()))?;
-    same(
-        "keeping another",
-        &keep_first(&rt, "the_first")?,
-        &Err(KeepError { sent: 8 }),
-    )?;
-    expect_alone(&rt, "the_first", NEW)
+    expect_first(&rt)?;
+    for kind in &WITHOUT_LINKS {
+        let refusals = Refusals::new(Some(*kind), None);
+        expect_first(&OddSystem {
+            system: &rt,
+            refusals: &refusals,
+        })?;
+    }
+    Ok(())
 }
 
 /// A follower of that name, with a draft.
@@ -203,15 +275,28 @@ fn expect_third_refused<R: AllocGlobal + Files>(rt: &R) -> Result<(), Fail> {
     same("refused", &refused_of(rt, &all)?, &[false, false, true])
 }
 
+/// Each of the others is in place, and what is there for the third stays as it is.
+fn expect_followers<R: AllocGlobal + Files>(rt: &R) -> Result<(), Fail> {
+    fs::write(rt, "follows", OLD)?;
+    fs::write(rt, "is_there", OLD)?;
+    expect_third_refused(rt)?;
+    expect_alone(rt, "follows", NEW)?;
+    expect_alone(rt, "follows_alone", NEW)?;
+    fs::remove_file(rt, "is_there.new")?;
+    expect_alone(rt, "is_there", OLD)
+}
+
 #[test]
 fn followers_in_place_of_files_or_of_none(rt: HostRuntime) -> Result<(), Fail> {
-    fs::write(&rt, "follows", OLD)?;
-    fs::write(&rt, "is_there", OLD)?;
-    expect_third_refused(&rt)?;
-    expect_alone(&rt, "follows", NEW)?;
-    expect_alone(&rt, "follows_alone", NEW)?;
-    fs::remove_file(&rt, "is_there.new")?;
-    expect_alone(&rt, "is_there", OLD)
+    expect_followers(&rt)?;
+    for kind in &WITHOUT_LINKS {
+        let refusals = Refusals::new(Some(*kind), None);
+        expect_followers(&OddSystem {
+            system: &rt,
+            refusals: &refusals,
+        })?;
+    }
+    Ok(())
 }
 
 /// Writes the drafts of forty followers, in two folders by turns, but for the draft of one.
@@ -230,9 +315,13 @@ fn forty<R: AllocGlobal + Files>(rt: &R, without: usize) -> Result<Vec<FileNames
 }
 
 /// Puts followers in place whose drafts are put on disk on threads. Returns which of them is refused, if one is.
+///
+/// Threads have synced each draft that is there, and the storage syncs the two folders and nothing more. `refusals`
+/// counts the syncs of `rt`.
 fn refused_one<R: AllocGlobal + Files + Threads + Sync>(
     rt: &R,
     all: &[FileNames],
+    refusals: &Refusals,
 ) -> Result<Option<usize>, Fail>
 where
     R::File: Send,
@@ -243,8 +332,10 @@ where
         followers.push(Follower::new(names, true))?;
     }
     sync_drafts(rt, &mut followers);
+    same("syncs by threads", &refusals.syncs(), &39)?;
     let mut storage = SystemStorage::new(rt, None, followers, Deaf);
     put_followers(&mut storage);
+    same("all syncs", &refusals.syncs(), &41)?;
     Ok((0..all.len()).find(|at| storage.is_refused(*at)))
 }
 
@@ -273,7 +364,16 @@ where
     fs::create_dir(rt, "even")?;
     fs::create_dir(rt, "odd")?;
     let all = forty(rt, 17)?;
-    same("refused", &refused_one(rt, &all)?, &Some(17))?;
+    let refusals = Refusals::new(None, None);
+    let counted = OddSystem {
+        system: rt,
+        refusals: &refusals,
+    };
+    same(
+        "refused",
+        &refused_one(&counted, &all, &refusals)?,
+        &Some(17),
+    )?;
     expect_all_but(rt, &all, 17)
 }
 
