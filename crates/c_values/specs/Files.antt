@@ -11,13 +11,15 @@ use Rattle.c_values.specs.declared.outcome.Outcome.{Outcome}
 
 -- One file was worked, as a session, into a book that had these entries and has the greatest limit: the numbers are
 -- those of an outcome, and the account of the job holds of the file, the outcome, the acknowledgement and the entries
--- that its calls get. No gate closes.
+-- that its calls get. No read fails, since the file is in memory, and no gate closes. A write fails only where the
+-- memory for the acknowledgement is refused.
 pub record IsAnswered (stamp : StampParts) (file : List ℕ) (session : ℕ) (before : List EntryValue) (numbers : Outcome) (acknowledgement : List ℕ)
     (made : List EntryValue) : Type 0 where
   pub outcome : FileOutcome
   pub told : numbers ≡ numbers_of outcome
   pub replayed : made ≡ replay session before (calls_of made)
   pub ends : Ends
+  pub readable : ends.read_failed ≡ false
   pub full : ends.full ≡ nat_le max_entries (length (before ++ made))
   pub gate : ends.may_shut ≡ false
   pub account : Account ends stamp file outcome acknowledgement made

@@ -2,6 +2,7 @@ pub mod Answers
 pub mod StatusTexts
 pub mod Stamps
 pub mod Outcomes
+pub mod FileBytesValue
 pub mod Files
 pub mod Registers
 pub mod RegistryValue

@@ -2,7 +2,7 @@
 use Rattle.std.specs.Prelude.{◌≡◌, ℕ, ◌⊎◌, nat_lt, List, length, count_by, map, Option, Some, None}
 use Rattle.work_registry.specs.EntryValue.{EntryValue}
 use Rattle.cwr_verify.specs.Sent.{Sent}
-use Rattle.cwr_verify.specs.VerifyErrors.{IsTold}
+use Rattle.cwr_verify.specs.VerifyErrors.{IsUnverified}
 use Rattle.cwr_verify.specs.Verified.{AreAnswered}
 use Rattle.cwr_verify.specs.declared.verify_error.VerifyError.{VerifyError}
 use Rattle.cwr_verify.specs.declared.verify_error.VerifyError.TheVariants.{Memory, TooLong, Refused, Transaction, Acknowledgement}
@@ -33,11 +33,13 @@ misfit_of (Refused file number line) = Some (record { kind = 2; fault = number; 
 misfit_of (Transaction file group sequence) = Some (record { kind = 3; fault = 0; file = file; line = 0; group = group; transaction = sequence })
 misfit_of (Acknowledgement file line) = Some (record { kind = 4; fault = 0; file = file; line = line; group = 0; transaction = 0 })
 
--- these are the numbers of a true error about the files
-pub record IsMisfit (files : List Sent) (misfit : Misfit) : Type 0 where
+-- the text is a register, whose history does not answer the files, and these are the numbers of what is said of that
+pub record IsMisfit (register : List ℕ) (files : List Sent) (misfit : Misfit) : Type 0 where
+  pub history : List EntryValue
+  pub is_register : IsRegisterOf register history
   pub what : VerifyError
   pub numbers : misfit_of what ≡ Some misfit
-  pub told : IsTold files what
+  pub told : IsUnverified history files what
 
 -- a status that a verification can return
 abbrev pub IsVerifyStatus : ℕ → Type 0

@@ -2,12 +2,13 @@
 //!
 //! A call returns one of the [`status`] numbers. [`hand_out`] puts a text into a buffer of the caller. The functions
 //! over it hand out the text of a check, of pages, or of a [`Table`] of a register. [`StampBytes`] and [`SentBytes`]
-//! are what a call is given. An [`Outcome`], a [`RegisterFault`] and a [`Misfit`] say in numbers how it ended. A
-//! [`Registry`] is what C holds between two calls.
+//! are what a call is given, and [`FileBytes`] gives the bytes of a file to a job. An [`Outcome`], a [`RegisterFault`]
+//! and a [`Misfit`] say in numbers how it ended. A [`Registry`] is what C holds between two calls.
 #![tactic(auto)]
 
 mod checking;
 mod explaining;
+mod file_bytes;
 mod handing;
 mod outcome;
 mod registers;
@@ -19,6 +20,7 @@ mod verifying;
 
 pub use checking::write_checked;
 pub use explaining::write_pages;
+pub use file_bytes::FileBytes;
 pub use handing::hand_out;
 pub use outcome::{Outcome, numbers_of, outcome_of};
 pub use registers::{RegisterFault, fill_register_fault};

@@ -3,9 +3,10 @@ ghost use Rattle.work_registry.specs.Numbers.{max_entries};
 ghost use Rattle.work_registry.specs.Register.{register_text};
 ghost use Rattle.c_values.specs.Registries.{IsReadable, IsRun};
 
+use crate::file_bytes::FileBytes;
 use crate::outcome::{Outcome, numbers_of};
-use byte_streams::{Feed, Spool};
-use cwr_engine::{Job, MAX_BYTES, MAX_ENTRIES, work_alone};
+use byte_streams::Spool;
+use cwr_engine::{Job, MAX_ENTRIES, work_alone};
 use cwr_field::Memory;
 use cwr_record::Stamp;
 use std::alloc::Global;
@@ -53,7 +54,7 @@ impl Registry {
     {
         let book = mem::replace(&mut self.book, Book::new(alloc, MAX_ENTRIES));
         let job = Job {
-            reader: Feed::new(file, MAX_BYTES, None),
+            reader: FileBytes::new(file),
             writer: Spool::new(alloc),
         };
         let (book, job, outcome) = work_alone(alloc, book, 0, job, stamp);

@@ -17,6 +17,7 @@ const ACKNOWLEDGEMENT: u32 = 4;
 /// A file that was sent, and the acknowledgement that is to answer it: in C, two pointers, each with its length behind
 /// it.
 #[repr(C)]
+#[derive(Drop)]
 pub struct SentBytes<'a> {
     /// The bytes of the file.
     pub file: &'a [u8],

@@ -20,6 +20,7 @@ use Rattle.cwr_engine.specs.declared.judged.JudgedFile.{JudgedFile}
 use Rattle.cwr_engine.proofs.Accounts.{few_told}
 use Rattle.work_registry.specs.EntryValue.{EntryValue}
 use Rattle.work_registry.specs.Replay.{calls_of}
+use Rattle.cwr_verify.specs.Acknowledged.{stamp_in}
 use Rattle.cwr_verify.specs.Again.{IsAnsweredAgain, IsJudgedFile, IsSentInPart, IsUnanswered, IsWhyNot}
 use Rattle.cwr_verify.specs.Reading.{IsReadingOf, asked_in, transactions_in}
 use Rattle.cwr_verify.specs.Replied.{Replied, AreRepliedBy}
@@ -109,10 +110,10 @@ checked_run text reading file replied entries is judged its by =
     let read = subst (IsReadingOf text) is judged in
     file_run text file.header replied entries read.0 (subst (WasJudged text file.header) (sym (its ∙ ap transactions_in is)) read.1) by
 
-pub answered_by : (sent : Sent) (stamp : StampParts) (head : Header) (replied : Replied) (entries : List EntryValue) → IsFileRun sent.text head replied entries
-    → sent.acknowledgement ≡ ack_text stamp head (items_with_replies replied.transactions replied.replies) → IsAnsweredBy sent entries
-answered_by sent stamp head replied entries its same =
-    record { stamp = stamp; acked = subst (λ (text : List ℕ). IsAcked stamp sent.text (length entries) text entries) (sym same) (acked stamp sent.text head replied entries its) }
+pub answered_by : (sent : Sent) (stamp : StampParts) (head : Header) (replied : Replied) (entries : List EntryValue) → stamp_in sent.acknowledgement ≡ Some stamp
+    → IsFileRun sent.text head replied entries → sent.acknowledgement ≡ ack_text stamp head (items_with_replies replied.transactions replied.replies) → IsAnsweredBy sent entries
+answered_by sent stamp head replied entries its_own its same =
+    record { stamp = stamp; its_own = its_own; acked = subst (λ (text : List ℕ). IsAcked stamp sent.text (length entries) text entries) (sym same) (acked stamp sent.text head replied entries its) }
 
 -- what is known where these entries are the run of the file
 pub record IsOwnRun (text : List ℕ) (head : Header) (entry : Option ℕ) (history : List EntryValue) (replied : Replied) : Type 0 where

@@ -6,12 +6,12 @@ use Rattle.std.proofs.lemmas.Option.{slice_get-map, slice_get_read, get_or_from_
 use borrow.Author.Count.{below_more}
 use Rattle.work_registry.specs.EntryValue.{EntryValue}
 use Rattle.cwr_verify.proofs.Lists.{item_at, zip_at, zip_length}
-use Rattle.cwr_verify.proofs.Owning.{all_replied, as_many, grown}
+use Rattle.cwr_verify.proofs.Owning.{all_replied, as_many, begun, grown}
 use Rattle.cwr_verify.specs.Owned.{owned}
 use Rattle.cwr_verify.specs.Proposed.{AreFirst, wanting_of}
 use Rattle.cwr_verify.specs.Read.{AreReadFrom, IsReadFrom}
 use Rattle.cwr_verify.specs.Reading.{transactions_in}
-use Rattle.cwr_verify.specs.Replied.{Replied, AreRepliedBy}
+use Rattle.cwr_verify.specs.Replied.{Replied, AreBegunBy, AreRepliedBy}
 use Rattle.cwr_verify.specs.Sent.{Sent}
 use Rattle.cwr_verify.specs.Verified.{IsAnsweredBy}
 use Rattle.cwr_verify.specs.Wanting.{Wanting}
@@ -30,6 +30,7 @@ next_file owners history files number sent before within at here file d lt =
 pub record IsReplied {Z : Type 0} (file : ReadFile Z) (replied : Replied) (entries : List EntryValue) : Type 0 where
   pub its : replied.transactions ≡ transactions_in file.text
   pub made : length replied.replies ≡ length replied.transactions → AreRepliedBy replied entries
+  pub begun : AreBegunBy replied entries
 
 pub wanted_count : {Z : Type 0} (files : List (ReadFile Z)) (history : List EntryValue) (owners : List ℕ) (after : List Wanting) → AreFirst (map wanting_of files) history owners after
     → length after ≡ length files
@@ -42,7 +43,7 @@ replied_at files history owners after n file w first lt at now =
     let grows = grown (map wanting_of files) history owners after n (wanting_of file) w first
     (slice_get-map wanting_of files n ∙ ap (option_map wanting_of) (slice_get_read files (length files) n file refl lt at))
     (slice_get_read after (length after) n w refl (omega (arith, lt, many)) now) in
-    record { its = grows.transactions; made = all_replied (wanting_of file).replied w.replied (owned n owners history) refl grows }
+    record { its = grows.transactions; made = all_replied (wanting_of file).replied w.replied (owned n owners history) refl grows; begun = begun (wanting_of file).replied w.replied (owned n owners history) refl grows }
 
 -- the file that this one was read from
 pub sent_at : {Z : Type 0} (sent : List Sent) (files : List (ReadFile Z)) (n : ℕ) (file : ReadFile Z) → AreReadFrom sent files → n < length files → file ≡ get_or files n file

@@ -1,12 +1,14 @@
 pub mod Lists
 pub mod Owning
 pub mod Acknowledging
+pub mod Stamping
+pub mod Comparing
 pub mod Files
 pub mod Judging
-pub mod Telling
 pub mod Turns
 pub mod Proposing
 pub mod Replying
 pub mod Runs
 pub mod FileRuns
 pub mod RunReplies
+pub mod Telling

@@ -1,8 +1,8 @@
 -- The entries that a file owns once owners are proposed: they have the calls of its first transactions, which got their replies.
-use Rattle.std.proofs.Common.{◌≡◌, ◌≢◌, ◌∙◌, ℕ, Bool, true, false, List, [], ◌∷◌, ◌++◌, length, drop, map, Some, if◌then◌else◌, refl, sym, ap, subst, arith, append_assoc, append-nil}
+use Rattle.std.proofs.Common.{◌≡◌, ◌≢◌, ◌∙◌, ℕ, Bool, true, false, List, [], ◌∷◌, ◌++◌, length, take, drop, map, Some, if◌then◌else◌, refl, sym, ap, subst, arith, append_assoc, append-nil}
 use Rattle.std.specs.Prelude.{◌==◌, option_map, slice_get}
 use Rattle.std.proofs.lemmas.Bool.Decides.{nat_tests}
-use Rattle.std.proofs.lemmas.List.{drop_all, length-map, length_push}
+use Rattle.std.proofs.lemmas.List.{drop_all, length-map, length_push, take_at}
 use Rattle.cwr_call.specs.CallValue.{CallValue}
 use Rattle.work_registry.specs.EntryValue.{EntryValue}
 use Rattle.work_registry.specs.Replay.{calls_of}
@@ -11,7 +11,7 @@ use Rattle.cwr_verify.proofs.Lists.{drop_here}
 use Rattle.cwr_verify.specs.Owned.{owned}
 use Rattle.cwr_verify.specs.Proposed.{AreFirst}
 use Rattle.cwr_verify.specs.Reading.{asked_in}
-use Rattle.cwr_verify.specs.Replied.{Replied, AreRepliedBy}
+use Rattle.cwr_verify.specs.Replied.{Replied, AreBegunBy, AreRepliedBy}
 use Rattle.cwr_verify.specs.Wanting.{CanHaveMade, HasMovedOn, IsFirst, Wanting, found_by}
 
 -- these entries have the calls of the next transactions, which got their replies
@@ -72,5 +72,16 @@ all_replied before after entries none has whole =
     record {
       calls = sym (append-nil (calls_of entries)) ∙ (ap (λ (l : List CallValue). calls_of entries ++ l) (sym (drop_all (length after.replies) calls (omega (arith, over))))
           ∙ (sym has.calls ∙ (ap (λ (l : List Reply). drop (length l) calls) none ∙ ap asked_in (sym has.transactions))));
+      replies = has.replies ∙ ap (λ (l : List Reply). l ++ map (λ e. e.reply) entries) none;
+    }
+
+-- its entries have the calls of its first transactions
+pub begun : (before after : Replied) (entries : List EntryValue) → before.replies ≡ [] → HasGrown before after entries → AreBegunBy after entries
+begun before after entries none has =
+    let calls : List CallValue = asked_in before.transactions in
+    let split : calls ≡ calls_of entries ++ drop (length after.replies) calls = ap (λ (l : List Reply). drop (length l) calls) (sym none) ∙ has.calls in
+    record {
+      calls = sym (ap (λ (l : List CallValue). take (length entries) l) (ap asked_in has.transactions ∙ split)
+          ∙ take_at (calls_of entries) (drop (length after.replies) calls) (length entries) (length-map entries (λ e. e.call)));
       replies = has.replies ∙ ap (λ (l : List Reply). l ++ map (λ e. e.reply) entries) none;
     }

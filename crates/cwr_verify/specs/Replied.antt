@@ -1,5 +1,5 @@
 -- The transactions of a file, and the replies to the first of them.
-use Rattle.std.specs.Prelude.{◌≡◌, ℕ, ◌≤◌, List, [], ◌∷◌, ◌++◌, length, map, Option, slice_get}
+use Rattle.std.specs.Prelude.{◌≡◌, ℕ, ◌≤◌, List, [], ◌∷◌, ◌++◌, length, map, take, Option, slice_get}
 use Rattle.std.specs.List.{AllByRecursion}
 use Rattle.cwr_acknowledgement.specs.Acknowledgement.{FitsItem}
 use Rattle.cwr_call.specs.CallValue.{CallValue}
@@ -42,4 +42,9 @@ pub record AreFitting (transactions : List JudgedValue) (replies : List Reply) :
 -- these entries have the calls of all transactions, in order, and gave the replies
 pub record AreRepliedBy (replied : Replied) (entries : List EntryValue) : Type 0 where
   pub calls : calls_of entries ≡ asked_in replied.transactions
+  pub replies : replied.replies ≡ map (λ e. e.reply) entries
+
+-- these entries have the calls of the first transactions, in order, and gave the replies
+pub record AreBegunBy (replied : Replied) (entries : List EntryValue) : Type 0 where
+  pub calls : calls_of entries ≡ take (length entries) (asked_in replied.transactions)
   pub replies : replied.replies ≡ map (λ e. e.reply) entries

@@ -8,7 +8,7 @@ ghost use Rattle.cwr_field.specs.Number.{number_of};
 ghost use Rattle.cwr_record.specs.Columns.{field_at, every_record_type, ack_recipient_number, ack_status};
 ghost use Rattle.cwr_record.specs.Kinds.{status_named};
 ghost use Rattle.cwr_record.specs.Ranges.{is_in_line};
-ghost use Rattle.cwr_verify.specs.Acknowledged.{can_be_read, is_ack, status_in_line, statuses_in};
+ghost use Rattle.cwr_verify.specs.Acknowledged.{can_be_read, is_ack, stamp_in, stamp_in_line, status_in_line, statuses_in};
 ghost use Rattle.cwr_verify.specs.Wanting.{status_of_reply};
 
 use cwr_field::{cut, date, digits, time};
@@ -145,10 +145,17 @@ fn work_at(line: &[u8]) -> Option<u32>
 /// The stamp of an acknowledgement, which says who acknowledges, and when, read from its first line.
 ///
 /// `None` where there is no line, or the first is no HDR, one of its dates or its time cannot be read, its sender does
-/// not end in three digits, or its name has a byte below 32. It needs no contract, since the whole text is compared
-/// later.
-pub(crate) fn stamp_in(acknowledgement: &[u8]) -> Option<Stamp> {
-    let line = Lines::of(acknowledgement).next()?;
+/// not end in three digits, or its name has a byte below 32.
+pub(crate) fn stamp_in(acknowledgement: &[u8]) -> Option<Stamp>
+    ensures { result ≡ stamp_in acknowledgement.now }
+{
+    stamp_in_line(Lines::of(acknowledgement).next()?)
+}
+
+/// The stamp in a line.
+fn stamp_in_line(line: &[u8]) -> Option<Stamp>
+    ensures { result ≡ stamp_in_line line.now }
+{
     let Ok(header) = read_header(line) else {
         return None;
     };

@@ -3,9 +3,10 @@ ghost use Rattle.std.specs.Prelude.{◌≡◌, ◌≤◌, ◌+◌, ℕ, List, le
 ghost use Rattle.cwr_acknowledgement.specs.Acknowledgement.{ack_text, max_ack_records, reported_fault_count};
 ghost use Rattle.cwr_engine.specs.AckItems.{items_with_replies};
 ghost use Rattle.work_registry.specs.EntryValue.{EntryValue};
+ghost use Rattle.cwr_verify.specs.Compared.{IsDifference, IsUnlike};
 ghost use Rattle.cwr_verify.specs.Read.{IsReadFrom};
 ghost use Rattle.cwr_verify.specs.Reading.{transactions_in};
-ghost use Rattle.cwr_verify.specs.Replied.{AreRepliedBy};
+ghost use Rattle.cwr_verify.specs.Replied.{AreBegunBy, AreRepliedBy};
 ghost use Rattle.cwr_verify.specs.Sent.{Sent};
 ghost use Rattle.cwr_verify.specs.VerifyErrors.{IsToldOf};
 ghost use Rattle.cwr_verify.specs.Verified.{IsAnsweredBy};
@@ -34,7 +35,7 @@ pub(crate) fn check_file<A: Allocator + Copy>(
     requires made { length replied.now.replies ≡ length replied.now.transactions → (entries : List EntryValue) × AreRepliedBy replied.now entries }
     ensures answered { OnOk result (length replied.now.replies ≡ length replied.now.transactions) }
     ensures by_each { OnOk result ((sent : Sent) (entries : List EntryValue) → IsReadFrom sent file.now → AreRepliedBy replied.now entries → IsAnsweredBy sent entries) }
-    ensures told { IfErr result (λ told. (sent : Sent) → IsReadFrom sent file.now → IsToldOf number sent told) }
+    ensures told { IfErr result (λ told. (sent : Sent) (entries : List EntryValue) → IsReadFrom sent file.now → AreBegunBy replied.now entries → IsToldOf number sent entries told) }
 {
     let Some(stamp) = stamp_in(file.acknowledgement) else {
         return Err(VerifyError::Acknowledgement {
@@ -85,20 +86,27 @@ fn compare_acknowledgement<A: Allocator + Copy>(
 ) -> Result<(), VerifyError>
     requires few { length (items_with_replies replied.now.transactions replied.now.replies) + reported_fault_count (items_with_replies replied.now.transactions replied.now.replies) ≤ max_ack_records }
     ensures same { OnOk result (file.now.acknowledgement.now ≡ ack_text stamp.now header.now (items_with_replies replied.now.transactions replied.now.replies)) }
-    ensures told { IfErr result (λ told. (sent : Sent) → IsToldOf number sent told) }
+    ensures told { IfErr result (IsDifference number file.now.acknowledgement.now (ack_text stamp.now header.now (items_with_replies replied.now.transactions replied.now.replies))) }
 {
     let mut compared = Compared::with(file.acknowledgement);
     match send_answers(alloc, &mut compared, stamp, header, &replied.answered()) {
         Ok(()) => {
-            if compared.is_whole(file.acknowledgement) {
+            if compared.is_whole() {
                 return Ok(());
             }
+            Err(other_line(number, &compared))
         }
-        Err(AckError::Write { sent: _ }) => {}
-        Err(AckError::Memory) => return Err(VerifyError::Memory),
+        Err(AckError::Write { sent: _ }) => Err(other_line(number, &compared)),
+        Err(AckError::Memory) => Err(VerifyError::Memory),
     }
-    Err(VerifyError::Acknowledgement {
+}
+
+/// The error for a file whose acknowledgement is not the text that it was compared with.
+fn other_line(number: usize, compared: &Compared) -> VerifyError
+    ensures { (text : List ℕ) → IsUnlike compared.now text → IsDifference number compared.now.expected text result }
+{
+    VerifyError::Acknowledgement {
         file: number,
         line: compared.line(),
-    })
+    }
 }

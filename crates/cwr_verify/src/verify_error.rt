@@ -27,7 +27,9 @@ pub enum VerifyError {
         /// Its number in its group, from 0.
         sequence: u32,
     },
-    /// The file's transactions are in the register, and their acknowledgement has another line here.
+    /// The file's transactions are in the register, and their acknowledgement has another line here. Or the first line
+    /// of the acknowledgement does not say who acknowledges, and when: this is looked at before anything else of the
+    /// file.
     Acknowledgement {
         /// Which file.
         file: usize,

@@ -1,9 +1,9 @@
 ghost use Rattle.std.specs.Prelude.{◌≡◌, ℕ, List, length, map, IfErr, IfOk, OnOk};
 ghost use Rattle.work_registry.specs.EntryValue.{EntryValue};
-ghost use Rattle.cwr_verify.specs.Proposed.{AreFirst, wanting_of};
+ghost use Rattle.cwr_verify.specs.Proposed.{AreFirst, AreProposed, wanting_of};
 ghost use Rattle.cwr_verify.specs.Read.{AreReadFrom};
 ghost use Rattle.cwr_verify.specs.Sent.{Sent};
-ghost use Rattle.cwr_verify.specs.VerifyErrors.{IsTold};
+ghost use Rattle.cwr_verify.specs.VerifyErrors.{IsUnverified};
 ghost use Rattle.cwr_verify.specs.Verified.{AreAnswered};
 
 use crate::file_check::check_file;
@@ -33,7 +33,8 @@ pub fn verify<A: Allocator + Copy + Drop>(
     files: &[SentFile],
 ) -> Result<Vec<usize, A>, VerifyError>
     ensures answered { IfOk result (λ owners. AreAnswered owners.items book.now.history files.now) }
-    ensures told { IfErr result (λ told. IsTold files.now told) }
+    ensures proposed { IfOk result (λ owners. AreProposed files.now book.now.history owners.items) }
+    ensures told { IfErr result (IsUnverified book.now.history files.now) }
 {
     match read_files(alloc, files) {
         Ok(read) => verify_read(alloc, book, &read),
@@ -52,7 +53,8 @@ pub fn verify_read<A: Allocator + Copy + Drop>(
     files: &[ReadFile<A>],
 ) -> Result<Vec<usize, A>, VerifyError>
     ensures answered { IfOk result (λ owners. (sent : List Sent) → AreReadFrom sent files.now → AreAnswered owners.items book.now.history sent) }
-    ensures told { IfErr result (λ told. (sent : List Sent) → AreReadFrom sent files.now → IsTold sent told) }
+    ensures proposed { IfOk result (λ owners. (sent : List Sent) → AreReadFrom sent files.now → AreProposed sent book.now.history owners.items) }
+    ensures told { IfErr result (λ told. (sent : List Sent) → AreReadFrom sent files.now → IsUnverified book.now.history sent told) }
 {
     let Ok(mut wanted) = wanted_of(alloc, files) else {
         return Err(VerifyError::Memory);
@@ -73,7 +75,7 @@ fn check_files<A: Allocator + Copy>(
 ) -> Result<(), VerifyError>
     requires { (history : List EntryValue) × (owners : List ℕ) × AreFirst (map wanting_of files.now) history owners wanted.now }
     ensures answered { OnOk result ((sent : List Sent) (history : List EntryValue) (owners : List ℕ) → AreReadFrom sent files.now → AreFirst (map wanting_of files.now) history owners wanted.now → length owners ≡ length history → AreAnswered owners history sent) }
-    ensures told { IfErr result (λ told. (sent : List Sent) → AreReadFrom sent files.now → IsTold sent told) }
+    ensures told { IfErr result (λ told. (sent : List Sent) (history : List EntryValue) (owners : List ℕ) → AreReadFrom sent files.now → AreFirst (map wanting_of files.now) history owners wanted.now → IsUnverified history sent told) }
 {
     for number in 0..files.len() {
         check_file(alloc, number, &files[number], wanted[number].replied())?;

@@ -1,6 +1,6 @@
 //! Acknowledgements that are made again.
 
-use crate::runs::{answered_again, expect_again, expect_none, work};
+use crate::runs::{answered_again, expect_again, expect_none, two_groups, work};
 use cwr_verify::NoAnswer;
 use std::alloc::Global;
 use std::test::Fail;
@@ -152,12 +152,22 @@ fn takes_no_run_that_is_not_whole(rt: HostRuntime) -> Result<(), Fail> {
 /// Why three works are not acknowledged again at the book of some of them, each worked alone: the transaction of this
 /// sequence has no entry.
 fn expect_missing(alloc: Global, numbers: &[&str], sequence: u32) -> Result<(), Fail> {
+    let works = three_works(alloc)?;
+    expect_missing_of(alloc, numbers, &works, missing(sequence))
+}
+
+/// Why a file is not acknowledged again at the book of some works, each worked alone.
+fn expect_missing_of(
+    alloc: Global,
+    numbers: &[&str],
+    file: &[u8],
+    why: NoAnswer,
+) -> Result<(), Fail> {
     let mut book = Book::new(alloc, 20);
     for number in numbers {
         book = work_one(alloc, book, number)?;
     }
-    let works = three_works(alloc)?;
-    expect_none(alloc, &book.reopened(), &works, None, missing(sequence))
+    expect_none(alloc, &book.reopened(), file, None, why)
 }
 
 #[test]
@@ -166,7 +176,12 @@ fn tells_the_first_transaction_without_an_entry(rt: HostRuntime) -> Result<(), F
     expect_missing(alloc, &[], 0)?;
     expect_missing(alloc, &["W2", "W3"], 0)?;
     expect_missing(alloc, &["W1", "W3"], 1)?;
-    expect_missing(alloc, &["W3", "W2", "W1"], 1)
+    expect_missing(alloc, &["W3", "W2", "W1"], 1)?;
+    let why = NoAnswer::Transaction {
+        group: 2,
+        sequence: 1,
+    };
+    expect_missing_of(alloc, &["W1", "W2"], &two_groups(alloc)?, why)
 }
 
 /// A file without transactions is acknowledged from any book, and no entry is of its first one.

@@ -2,11 +2,12 @@
 
 use byte_streams::{Feed, Room};
 use cwr_engine::{Job, work_alone};
+use cwr_record::Stamp;
 use cwr_verify::{NoAnswer, SentFile, VerifyError, answer, verify};
 use std::alloc::Global;
 use std::test::Fail;
 use test_comparisons::{same, same_bytes};
-use test_files::stamp;
+use test_files::{ALL, file_of_lines, stamp, work as work_head, writer};
 use work_registry::Book;
 
 /// Works a file at a book, and appends its acknowledgement.
@@ -16,12 +17,22 @@ pub(crate) fn work(
     file: &[u8],
     answers: &mut Vec<Vec<u8>>,
 ) -> Result<Book, Fail> {
-    let stamp = stamp()?;
+    work_by(alloc, book, file, &stamp()?, answers)
+}
+
+/// The same, acknowledged with this stamp.
+fn work_by(
+    alloc: Global,
+    book: Book,
+    file: &[u8],
+    stamp: &Stamp,
+    answers: &mut Vec<Vec<u8>>,
+) -> Result<Book, Fail> {
     let job = Job {
         reader: Feed::new(file, 1000, None),
         writer: Room::new(alloc, 10000, true)?,
     };
-    let (book, job, _outcome) = work_alone(alloc, book, 1, job, &stamp);
+    let (book, job, _outcome) = work_alone(alloc, book, 1, job, stamp);
     keep_answer(alloc, job.writer.bytes(), answers)?;
     Ok(book)
 }
@@ -32,7 +43,8 @@ fn keep_answer(alloc: Global, written: &[u8], answers: &mut Vec<Vec<u8>>) -> Res
     Ok(())
 }
 
-/// Works two rival claims and three works after them at an empty book, and appends their acknowledgements.
+/// Works two rival claims and three works after them at an empty book, and appends their acknowledgements. That of the
+/// three works is another society's, 720.
 pub(crate) fn work_three(
     alloc: Global,
     files: [&[u8]; 3],
@@ -41,7 +53,11 @@ pub(crate) fn work_three(
     let [first, second, works] = files;
     let book = work(alloc, Book::new(alloc, 10), first, answers)?;
     let book = work(alloc, book, second, answers)?;
-    work(alloc, book, works, answers)
+    let stamp = stamp()?;
+    let Some(other) = Stamp::new(720, &stamp.name(), stamp.date(), stamp.time()) else {
+        return Err(Fail::from("a stamp"));
+    };
+    work_by(alloc, book, works, &other, answers)
 }
 
 /// The result of verifying two files at a book, each with its acknowledgement.
@@ -107,4 +123,33 @@ pub(crate) fn expect_none(
     let (told, written) = answered_again(alloc, book, file, entry, 10000)?;
     same("how it ended", &told, &Err(why))?;
     same_bytes("what was written", &written, b"")
+}
+
+/// A file of two groups: W1 alone, and then W2 and W4.
+pub(crate) fn two_groups(alloc: Global) -> Result<Vec<u8>, Fail> {
+    let works = [
+        work_head(alloc, "NWR", 0, "W1", "")?,
+        work_head(alloc, "NWR", 0, "W2", "")?,
+        work_head(alloc, "NWR", 1, "W4", "")?,
+    ];
+    let writers = [
+        writer(alloc, "SWR", 0, 1, ALL)?,
+        writer(alloc, "SWR", 1, 1, ALL)?,
+    ];
+    file_of_lines(
+        alloc,
+        &[
+            "GRHNWR0000102.200000000001",
+            &works[0],
+            &writers[0],
+            "GRT000010000000100000004",
+            "GRHNWR0000202.200000000001",
+            &works[1],
+            &writers[0],
+            &works[2],
+            &writers[1],
+            "GRT000020000000200000006",
+            "TRL000020000000300000012",
+        ],
+    )
 }

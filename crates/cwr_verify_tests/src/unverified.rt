@@ -1,6 +1,6 @@
 //! Files that a register does not answer.
 
-use crate::runs::{verified, work, work_three};
+use crate::runs::{two_groups, verified, work, work_three};
 use cwr_verify::VerifyError;
 use std::alloc::Global;
 use std::test::Fail;
@@ -10,6 +10,9 @@ use work_registry::Book;
 
 /// Where the line of the first transaction ends: HDR has 167 bytes, GRH 28 and ACK 159, each with CR LF.
 const FIRST_ANSWER_END: usize = 167 + 28 + 159 + 2 * 3;
+
+/// Where the line of the third one ends, which is line 5.
+const THIRD_ANSWER_END: usize = FIRST_ANSWER_END + 2 * (159 + 2);
 
 /// A text with one byte put in another's place, counted from its end.
 fn damaged(alloc: Global, text: &[u8], from_end: usize) -> Result<Vec<u8>, Fail> {
@@ -46,33 +49,59 @@ fn expect_unfit<'a>(
     }
     let trailer = damaged(alloc, &answers[2], 3)?;
     let refused = miscounted(alloc)?;
-    let files = [files[0], files[1], files[2], refused.as_slice()];
+    let groups = two_groups(alloc)?;
+    let files = [
+        files[0],
+        files[1],
+        files[2],
+        refused.as_slice(),
+        groups.as_slice(),
+    ];
     let told = [
         answers[0].as_slice(),
         answers[2].as_slice(),
         trailer.as_slice(),
     ];
-    expect_each(alloc, book, files, told)
+    expect_each(alloc, book, files, told)?;
+    expect_first(alloc, book, files, told)
+}
+
+/// Of two files that do not fit, the first is reported.
+fn expect_first<'a>(
+    alloc: Global,
+    book: &Book,
+    files: [&'a [u8]; 5],
+    answers: [&'a [u8]; 3],
+) -> Result<(), Fail> {
+    let [_, _, works, refused, _] = files;
+    let [answer, _, trailer] = answers;
+    let told = verified(alloc, book, [works, refused], [trailer, answer]).err();
+    let why = VerifyError::Acknowledgement { file: 0, line: 7 };
+    same("which file", &told, &Some(why))
+}
+
+/// The first `size` bytes of a text; none where it is shorter.
+fn front(text: &[u8], size: usize) -> &[u8] {
+    text.get(..size).unwrap_or(&[])
 }
 
 /// The first file fits, and another does not.
 fn expect_each<'a>(
     alloc: Global,
     book: &Book,
-    files: [&'a [u8]; 4],
+    files: [&'a [u8]; 5],
     answers: [&'a [u8]; 3],
 ) -> Result<(), Fail> {
-    let [first, second, works, refused] = files;
+    let [first, second, works, refused, groups] = files;
     let [answer, whole, trailer] = answers;
-    if whole.len() < FIRST_ANSWER_END {
-        return Err(Fail::from("a whole answer"));
-    }
     let given = [
-        (first, answer, missing(0)),
-        (second, answer, missing(0)),
-        (works, &whole[..FIRST_ANSWER_END], missing(1)),
+        (first, answer, missing(1, 0)),
+        (second, answer, missing(1, 0)),
+        (works, front(whole, FIRST_ANSWER_END), missing(1, 1)),
+        (groups, whole, missing(2, 1)),
+        (works, front(whole, THIRD_ANSWER_END), other_line(6)),
         (works, trailer, other_line(7)),
-        (works, &whole[..0], other_line(1)),
+        (works, b"", other_line(1)),
         (
             refused,
             answer,
@@ -96,11 +125,11 @@ fn other_line(line: usize) -> VerifyError {
     VerifyError::Acknowledgement { file: 1, line }
 }
 
-/// The transaction of this sequence of the second file has no entry.
-fn missing(sequence: u32) -> VerifyError {
+/// The transaction of this group and sequence of the second file has no entry.
+fn missing(group: u32, sequence: u32) -> VerifyError {
     VerifyError::Transaction {
         file: 1,
-        group: 1,
+        group,
         sequence,
     }
 }

@@ -24,7 +24,7 @@ impl Model for Handle {
 
 impl Handle {
     /// A closed handle.
-    fn shut() -> Handle
+    pub(crate) fn shut() -> Handle
         ensures { result.held ≡ None }
     {
         Handle {
@@ -41,7 +41,7 @@ impl Handle {
     }
 
     /// What the handle holds.
-    fn into_bare(self) -> Option<Bare<Registry>>
+    pub(crate) fn into_bare(self) -> Option<Bare<Registry>>
         ensures { option_map (λ b. b.value) result ≡ self.held }
     {
         let Handle { at } = self;

@@ -22,4 +22,8 @@ mod registers;
 mod registry_contents;
 mod running;
 mod tables;
+#[cfg(test)]
+mod tests_of_files;
+#[cfg(test)]
+mod tests_of_handles;
 mod verifying;

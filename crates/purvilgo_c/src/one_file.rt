@@ -3,10 +3,10 @@ ghost use Rattle.c_values.specs.Answers.{bad_stamp, IsTold};
 ghost use Rattle.c_values.specs.Files.{IsAnsweredFirst};
 ghost use Rattle.c_values.specs.Stamps.{stamp_in};
 
-use byte_streams::{Feed, Spool};
+use byte_streams::Spool;
 use c_values::status::BAD_STAMP;
-use c_values::{Outcome, StampBytes, hand_out, numbers_of, stamp_of};
-use cwr_engine::{MAX_BYTES, acknowledge};
+use c_values::{FileBytes, Outcome, StampBytes, hand_out, numbers_of, stamp_of};
+use cwr_engine::acknowledge;
 use std::alloc::Global;
 
 /// Acknowledges one file into an empty registry: `outcome` says how that ended, and the acknowledgement goes to the
@@ -32,7 +32,7 @@ pub extern "C" fn purvilgo_acknowledge(
     let Some(stamp) = stamp_of(stamp) else {
         return BAD_STAMP;
     };
-    let mut reader = Feed::new(file, MAX_BYTES, None);
+    let mut reader = FileBytes::new(file);
     let mut writer = Spool::new(alloc);
     let told = acknowledge(alloc, &mut reader, &mut writer, &stamp);
     *outcome = numbers_of(&told);

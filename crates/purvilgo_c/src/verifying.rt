@@ -31,7 +31,7 @@ pub extern "C" fn purvilgo_verify(
     misfit: &mut Misfit,
 ) -> u32
     ensures verified { result ≡ done → IsVerified register.now (sent_in files.now) transactions.new }
-    ensures misfit { result ≡ unverified → IsMisfit (sent_in files.now) misfit.new }
+    ensures misfit { result ≡ unverified → IsMisfit register.now (sent_in files.now) misfit.new }
     ensures fault { result ≡ faulty → IsFirstFault max_entries register.now fault.new }
     ensures status { IsVerifyStatus result }
     ensures uncounted { result ≢ done → transactions.new ≡ transactions.old }

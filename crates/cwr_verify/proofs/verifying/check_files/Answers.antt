@@ -3,10 +3,10 @@ use Rattle.std.proofs.lemmas.Result.{err_from_is_err_and}
 use Rattle.work_registry.specs.EntryValue.{EntryValue}
 use Rattle.cwr_verify.proofs.Files.{next_file, replied_at, sent_at, wanted_count}
 use Rattle.cwr_verify.proofs.Lists.{zip_length}
-use Rattle.cwr_verify.proofs.Telling.{told_of}
+use Rattle.cwr_verify.proofs.Telling.{proposed, unverified}
 use Rattle.cwr_verify.specs.Owned.{owned}
 use Rattle.cwr_verify.specs.Read.{IsReadFrom}
-use Rattle.cwr_verify.specs.Replied.{AreRepliedBy, Replied}
+use Rattle.cwr_verify.specs.Replied.{AreBegunBy, AreRepliedBy, Replied}
 use Rattle.cwr_verify.specs.Sent.{Sent}
 use Rattle.cwr_verify.specs.Verified.{IsAnsweredBy}
 use Rattle.cwr_verify.proofs.verifying.check_files.Goals as goal
@@ -37,9 +37,14 @@ check_file-requires-clause-made g c =
 pub returns-in_err-check_file-clause-told : goal.returns-in_err-check_file-clause-told
 returns-in_err-check_file-clause-told g c =
     let p = err_from_is_err_and c.from_residual.result c.from_residual.ensures.1 in
-    rw (p.1, p.2) (λ sent are.
+    rw (p.1, p.2) (λ sent history owners are first.
     let at = sent_at sent c.args.files.now c.loop-number.number c.index-files-number.result are c.loop-number-test.true c.index-files-number.is in
-    told_of sent c.loop-number.number at.0 c.in_err-check_file.field-0.0 at.1 at.2 (c.in_err-check_file.ensures.told at.0 at.3))
+    let is = replied_at c.args.files.now history owners c.args.wanted.now c.loop-number.number c.index-files-number.result c.index-wanted-number.result first
+    c.loop-number-test.true c.index-files-number.is c.index-wanted-number.is in
+    unverified history sent c.loop-number.number at.0 owners (proposed sent c.args.files.now history owners c.args.wanted.now are first) at.1 at.2
+    (λ other d lt. c.loop-number.invariant sent history owners are first other d lt) c.in_err-check_file.field-0.0
+    (c.in_err-check_file.ensures.told at.0 (owned c.loop-number.number owners history) at.3
+    (subst (λ (r : Replied). AreBegunBy r (owned c.loop-number.number owners history)) (sym c.replied.ensures) is.begun)))
 
 pub loop-number-preserved : goal.loop-number-preserved
 loop-number-preserved g c = λ sent history owners are first file d below.
