@@ -286,7 +286,7 @@ def commands(examples):
         ("run --no-clobber --to, two files", Run(two, to=True, options=["--no-clobber"])),
         ("run --no-clobber, one is there", Command(["run", "--no-clobber", *STAMP, "f"], 1, complained=b"f.ack: is there already\n", files=[("f", lone[1]), ("f.ack", OLD_ACK)])),
         ("run --from, wrong register", Command(["run", *STAMP, "--from", "r", "f"], 1, complained=b"register: refused G3 at line 3\n", files=[("r", wrong), ("f", lone[1])], opening=True)),
-        ("run, named twice", Command(["run", *STAMP, "f", "./f"], 2, complained=b"file named twice\n", files=[("f", lone[1])])),
+        ("run, used twice", Command(["run", *STAMP, "f", "./f"], 2, complained=b"file used twice\n", files=[("f", lone[1])])),
         ("run, bad words", Command(["run", "--society", "7", *STAMP[2:], "f"], 2, complained=b"bad --society\n")),
     ]
 

@@ -188,11 +188,11 @@ int main(int argc, char **argv) {
         led_to = realpath(argv[1], NULL);
     if (led_to)
         argv[1] = led_to;
-    twice = is_named_twice(argv[1], argv + 6, argc - 6);
+    twice = is_used_twice(argv[1], argv + 6, argc - 6);
     if (twice < 0)
         tell_status("day", PURVILGO_NO_MEMORY);
     else if (twice)
-        fprintf(stderr, "file named twice\n");
+        fprintf(stderr, "file used twice\n");
     told = twice < 0 ? 1 : twice ? 2 : locked_day(argv[1], begin, &stamp, argv + 6, argc - 6);
     free(led_to);
     return told;

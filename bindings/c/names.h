@@ -44,9 +44,10 @@ static inline bool is_one_place(const struct place *a, const struct place *b) {
     return a->device == b->device && a->number == b->number && strcmp(a->name, b->name) == 0;
 }
 
-/* Whether one file would be read or written under two names: each FILE, FILE.ack, REGISTER, their drafts and the lock are
- * different ones, except that a draft may be one with what it is to replace. -1 if an allocation fails. */
-static inline int is_named_twice(const char *kept, char **files, int count) {
+/* Whether what is read would be written over, or one file written twice: each FILE.ack, REGISTER, their drafts, the lock
+ * and each FILE are different ones, except that a draft may be one with what it is to replace, and two FILE may be one by
+ * a link. -1 if an allocation fails. */
+static inline int is_used_twice(const char *kept, char **files, int count) {
     static const char *of_file[] = {"", ".ack", ".ack.new"}, *of_register[] = {".lock", "", ".new"};
     int all = 3 * (count + 1), found = 0, twice = 0;
     struct place *places = calloc(all, sizeof *places);
@@ -55,7 +56,7 @@ static inline int is_named_twice(const char *kept, char **files, int count) {
         if (!find_place(&places[found], found < 3 ? kept : files[found / 3 - 1], ending))
             break;
         for (int i = 0; i < found; i++)
-            if (is_one_place(&places[i], &places[found]) && !(found % 3 == 2 && i == found - 1))
+            if (is_one_place(&places[i], &places[found]) && !(found % 3 == 2 && i == found - 1) && !(found % 3 == 0 && i % 3 == 0 && i > 0))
                 twice = 1;
         found++;
     }

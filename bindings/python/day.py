@@ -52,12 +52,12 @@ def place(path: str) -> Tuple[int, int, str]:
     return 0, 0, path
 
 
-def is_named_twice(kept: str, files: List[str]) -> bool:
-    """Whether one file would be read or written under two names: each FILE, FILE.ack, REGISTER, their drafts and the lock
-    are different ones, except that a draft may be one with what it is to replace."""
-    apart = [{place(kept + ".lock")}, {place(kept), place(kept + ".new")}]
-    for path in files:
-        apart += [{place(path)}, {place(path + ".ack"), place(path + ".ack.new")}]
+def is_used_twice(kept: str, files: List[str]) -> bool:
+    """Whether what is read would be written over, or one file written twice: each FILE.ack, REGISTER, their drafts, the
+    lock and each FILE are different ones, except that a draft may be one with what it is to replace, and two FILE may be
+    one by a link."""
+    apart = [{place(kept + ".lock")}, {place(kept), place(kept + ".new")}, {place(path) for path in files}]
+    apart += [{place(path + ".ack"), place(path + ".ack.new")} for path in files]
     return sum(map(len, apart)) > len(set().union(*apart))
 
 
@@ -152,8 +152,8 @@ def main(*words: str) -> int:
         tell(f"day.py: {error}")
         return 2
     kept = os.path.realpath(kept) if os.path.islink(kept) else kept
-    if is_named_twice(kept, files):
-        tell("file named twice")
+    if is_used_twice(kept, files):
+        tell("file used twice")
         return 2
     try:
         with locked(kept), open_registry(kept, begin) as registry:

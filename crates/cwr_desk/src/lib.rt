@@ -21,7 +21,7 @@ pub use cwr_field::{Clock, Day, Memory, cut, date, time};
 pub use cwr_record::Stamp;
 pub use in_order::serve_in_order;
 pub use registry_desk::{Desk, Seat};
-pub use run_options::{RunFault, run_fault, words_fault};
+pub use run_options::{RunFault, WordsFault, run_fault, words_fault};
 pub use serving::serve;
 pub use work_registry::{
     Book, Call, Claim, Entry, Fault, Faults, HandInError, Refused, RegisterRefusal, Reply,

@@ -1,16 +1,15 @@
 //! The acknowledgement of a file, made again from a register.
 
 use crate::arguments::{Argument, CommandWords};
-use crate::files::InputFile;
+use crate::files::{InputFile, whole_file};
 use crate::help::ANSWER_HELP;
 use crate::printing::StandardOutput;
 use crate::registers::{REGISTER, named_book};
 use crate::run_command::{DATE, NAME, SOCIETY, StampWords, TIME};
 use crate::status::{bad_words, no_memory};
 use crate::wanted_rows::number_given;
-use byte_streams::{ReadRefused, Through, read_file};
+use byte_streams::{ReadRefused, Through};
 use clap::ArgMatches;
-use cwr_desk::MAX_BYTES;
 use cwr_record::Stamp;
 use cwr_verify::{NoAnswer, answer};
 use register_store::ReadBookError;
@@ -127,7 +126,7 @@ fn book_in<R: AllocGlobal + Input + Eprint + Files>(
 /// The bytes of the file. If they cannot be read, the reason is printed on standard error.
 fn text_of<R: AllocGlobal + Eprint + Files>(rt: &R, asked: &Asked) -> Result<Vec<u8>, ExitCode> {
     let mut file = InputFile::new(rt, asked.file, asked.verbose);
-    match read_file(rt.alloc(), &mut file, MAX_BYTES) {
+    match whole_file(rt.alloc(), &mut file) {
         Ok(bytes) => Ok(bytes),
         Err(ReadRefused::Memory) => Err(no_memory(rt)),
         Err(ReadRefused::TooLong) => Err(print_why(rt, asked, NoAnswer::TooLong)),

@@ -178,15 +178,10 @@ fn checked_file<R: AllocGlobal + Input + Eprint + Files>(
             printed_lines(alloc, name, checked, manner)
         }
         CheckForm::Long => {
-            let checked = long_check(alloc, &bytes_of(rt, name, MAX_BYTES, verbose)?, manner)?;
+            let checked = long_check(alloc, &bytes_of(rt, name, verbose)?, manner)?;
             printed_lines(alloc, name, checked, manner)
         }
-        CheckForm::Json => json_check(
-            alloc,
-            name,
-            &bytes_of(rt, name, MAX_BYTES, verbose)?,
-            manner,
-        ),
+        CheckForm::Json => json_check(alloc, name, &bytes_of(rt, name, verbose)?, manner),
     }
 }
 

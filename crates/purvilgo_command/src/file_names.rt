@@ -1,39 +1,31 @@
-//! Words that name files, and the name of a file's acknowledgement.
+//! The name of a file's acknowledgement, and whether a file of some name can be written.
 
 ghost use Rattle.std.specs.Prelude.{IfOk, IsTrue, string_bytes};
 ghost use Rattle.run_options.specs.RunFault.{is_acknowledgement};
 
-use clap::ArgMatches;
+use atomic_file::{FileNames, takes_draft};
 use std::alloc::AllocError;
+use std::rt::Files;
+use std::{fs, io};
 
-/// The arguments that name files, each with what is printed if it is empty.
-const NAMES: [(&str, &str); 5] = [
-    ("from", "bad --from"),
-    ("to", "bad --to"),
-    ("ack", "bad --ack"),
-    ("REGISTER", "bad REGISTER"),
-    ("FILE", "bad FILE"),
-];
+/// The number of the system's error that there is no such file.
+const NO_SUCH_FILE: i32 = 2;
 
-/// The text to print if a word that names a file is empty: that of an option first, then that of REGISTER, then that of
-/// FILE. `None` if no such word is empty.
-pub(crate) fn empty_name(given: &ArgMatches) -> Option<&'static str> {
-    for (name, text) in NAMES {
-        if has_empty(given.get_strs(name).unwrap_or(&[])) {
-            return Some(text);
-        }
+/// The number of the system's error that a file is a directory.
+const IS_A_DIRECTORY: i32 = 21;
+
+/// Whether a draft is made for a file that is to be written. A device or a pipe has none.
+///
+/// It is an error if the file's name is empty or leads to a directory: no file can be written there.
+pub(crate) fn has_draft<R: Files>(rt: &R, names: &FileNames) -> io::Result<bool> {
+    let name = names.name();
+    if name.is_empty() {
+        return Err(io::Error::from_raw_os_error(NO_SUCH_FILE));
     }
-    None
-}
-
-/// Whether one of these words is empty.
-fn has_empty(words: &[&str]) -> bool {
-    for word in words {
-        if word.is_empty() {
-            return true;
-        }
+    match fs::metadata(rt, name) {
+        Ok(found) if found.is_dir() => Err(io::Error::from_raw_os_error(IS_A_DIRECTORY)),
+        Ok(_) | Err(_) => Ok(takes_draft(rt, names)),
     }
-    false
 }
 
 /// The name of the acknowledgement of a file of this name.

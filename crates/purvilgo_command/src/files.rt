@@ -1,9 +1,11 @@
 //! Files of the system as sources.
 
-ghost use Rattle.std.specs.Prelude.{◌≡◌, ◌≤◌, false, None, length, IfOk};
+ghost use Rattle.std.specs.Prelude.{◌≡◌, ◌<◌, ◌≤◌, ◌↔◌, true, false, None, length, vec_len, IfOk, IfSome, IsErrOf};
+ghost use Rattle.cwr_engine.specs.Account.{max_file_bytes};
 
 use crate::messages::print_reason;
 use byte_streams::{Failed, ReadCount, ReadRefused, Source, Through, read_file};
+use cwr_desk::MAX_BYTES;
 use std::alloc::Global;
 use std::io::Read;
 use std::rt::Files;
@@ -41,32 +43,37 @@ pub(crate) fn read_named<R: AllocGlobal + Input + Eprint + Files, T: Reading>(
     }
 }
 
-/// The bytes of a file, or of standard input where the name is `-`: at most `limit`.
+/// The bytes of a CWR file, or of standard input where the name is `-`: at most 16,777,216.
 pub(crate) fn bytes_of<R: AllocGlobal + Input + Eprint + Files>(
     rt: &R,
     name: &str,
-    limit: usize,
     verbose: bool,
 ) -> Result<Vec<u8>, ReadRefused> {
-    let whole = Whole {
-        alloc: rt.alloc(),
-        limit,
-    };
-    read_named(rt, name, verbose, whole)
+    read_named(rt, name, verbose, Whole { alloc: rt.alloc() })
+}
+
+/// The bytes of a CWR file that a reader gives: at most 16,777,216.
+pub(crate) fn whole_file<S: Source>(alloc: Global, reader: &mut S) -> Result<Vec<u8>, ReadRefused>
+    requires { S.has_failed reader.old ≡ false }
+    ensures whole { IfOk result (λ text. IfSome (S.left reader.old) (λ bytes. text.items ≡ bytes)) }
+    ensures fits { IfOk result (λ text. vec_len text ≤ max_file_bytes) }
+    ensures too_long { IsErrOf result ReadRefused.TooLong → IfSome (S.left reader.old) (λ bytes. max_file_bytes < length bytes) }
+    ensures failed { IsErrOf result ReadRefused.Read ↔ (S.has_failed reader.new ≡ true) }
+{
+    read_file(alloc, reader, MAX_BYTES)
 }
 
 /// All bytes of a file are kept.
 #[derive(Clone, Copy)]
 struct Whole {
     alloc: Global,
-    limit: usize,
 }
 
 impl Reading for Whole {
     type Made = Result<Vec<u8>, ReadRefused>;
 
     fn read<S: Source>(self, reader: &mut S) -> Result<Vec<u8>, ReadRefused> {
-        read_file(self.alloc, reader, self.limit)
+        whole_file(self.alloc, reader)
     }
 }
 

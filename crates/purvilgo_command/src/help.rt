@@ -20,8 +20,9 @@ Without --to the decisions are kept nowhere, and no acknowledgement may be sent.
 
 Reads: 1 to 63 files, and the register of --from.
 Writes: FILE.ack of each file that is acknowledged, the register of --to, and on standard
-output a line for each file. Nothing that is read is written over: where two of FILE,
-FILE.ack and --to are one file, or --from and FILE.ack, the run is refused.
+output a line for each file. Nothing that is read is written over, and nothing is written
+twice: where FILE.ack or --to is one file with another of these or with a FILE, or --from
+with FILE.ack, the run is refused.
 Drafts: FILE.ack.new and REGISTER.new take their names when they are whole, first the
 register, then the acknowledgements. Where the register cannot be kept, there are no
 new acknowledgements: make the run again. While a run leaves a register, it has

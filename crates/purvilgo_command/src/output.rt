@@ -2,8 +2,9 @@
 
 ghost use Rattle.std.specs.Prelude.{◌≡◌, ◌≤◌, false, None, length, IfOk};
 
+use crate::file_names::has_draft;
 use crate::messages::print_reason;
-use atomic_file::{FileNames, open_draft, remove_draft, takes_draft};
+use atomic_file::{FileNames, open_draft, remove_draft};
 use byte_streams::{Failed, Sink};
 use std::fs::File;
 use std::io::Write;
@@ -32,8 +33,8 @@ pub(crate) enum LeftDraft<'a> {
 /// It is closed behind what looks like the last piece, and opened again for a further one. A run keeps its drafts until
 /// all of its workers have ended, and a table of open files that grows while there are threads holds all of them up.
 ///
-/// What is neither a regular file nor a folder, as a device or a pipe, has no draft: it is written itself. A file or a
-/// draft that cannot be opened counts as a failed write.
+/// What is neither a regular file nor a directory, as a device or a pipe, has no draft: it is written itself. A
+/// directory, and a file or a draft that cannot be opened, count as a failed write.
 #[derive(Drop)]
 pub(crate) struct OutputFile<'a, R: Files> {
     rt: &'a R,
@@ -123,7 +124,7 @@ impl<'a, R: AllocGlobal + Eprint + Files> OutputFile<'a, R> {
         if !self.replaces && fs::symlink_metadata(self.rt, names.name()).is_ok() {
             return Err(io::Error::from_raw_os_error(FILE_EXISTS));
         }
-        self.drafted = takes_draft(self.rt, names);
+        self.drafted = has_draft(self.rt, names)?;
         open_draft(self.rt, names)
     }
 

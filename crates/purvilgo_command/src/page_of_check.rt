@@ -4,7 +4,6 @@ use crate::files::{STANDARD_INPUT, bytes_of};
 use crate::printing::StandardOutput;
 use crate::status::{bad_words, no_memory, status_of};
 use check_pages::{PageError, check_page};
-use cwr_desk::MAX_BYTES;
 use std::process::ExitCode;
 use std::rt::Files;
 
@@ -20,7 +19,7 @@ pub(crate) fn check_as_page<R: AllocGlobal + Input + Print + Eprint + Files>(
     let [name] = names else {
         return bad_words(rt, "--html goes with one FILE alone");
     };
-    match bytes_of(rt, name, MAX_BYTES, verbose) {
+    match bytes_of(rt, name, verbose) {
         Ok(bytes) => print_page(rt, name_shown(name), &bytes),
         Err(unread) => {
             let _ = eprintln!(rt; "stopped: {unread}");

@@ -2,7 +2,6 @@ use crate::answered_file::answer_file;
 use crate::checking::check_files;
 use crate::command_line::command_line;
 use crate::explain::explain_rules;
-use crate::file_names::empty_name;
 use crate::given_words::given_words;
 use crate::messages::print_outcome;
 use crate::registers::audit_file;
@@ -44,9 +43,9 @@ use std::thread::Threads;
 /// acknowledgement is written.
 ///
 /// It is 2 if the words are not taken: one of them is not text, `clap` answers with a text of its own, help is asked
-/// for, a word of `explain` names no page, one that names a file is empty, the value of an option is not valid, those
-/// of `run` or `answer` have a [`RunFault`](run_options::RunFault), or those of `run` name one file of the system
-/// twice. Else it is 1, also if an allocation for the words fails.
+/// for, a word of `explain` names no page, the value of an option is not valid, those of `run` or `answer` have a
+/// [`WordsFault`](run_options::WordsFault), or those of `run` lead to a file of the system that it would write over
+/// what it reads, or twice. Else it is 1, also if an allocation for the words fails.
 pub fn run_program<R: Env + AllocGlobal + Input + Print + Eprint + Files + Threads + Wait + Sync>(
     rt: &R,
 ) -> ExitCode
@@ -102,9 +101,6 @@ fn run_printing_command<R: AllocGlobal + Input + Print + Eprint + Files>(
     name: &str,
     given: &ArgMatches,
 ) -> ExitCode {
-    if let Some(text) = empty_name(given) {
-        return bad_words(rt, text);
-    }
     match name {
         "check" => check_files(rt, given),
         "explain" => explain_rules(rt, given),

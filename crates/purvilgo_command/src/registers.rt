@@ -1,16 +1,19 @@
 //! Registers that lie in files.
 
-ghost use Rattle.std.specs.Prelude.{◌≡◌, true, IfSome};
+ghost use Rattle.std.specs.Prelude.{◌≡◌, ◌≤◌, false, true, length, IfErr, IfOk, IfSome, OnOk};
+ghost use Rattle.register_store.specs.Auditing.{IsUnaudited};
 ghost use Rattle.work_registry.specs.Numbers.{max_entries};
+ghost use Rattle.work_registry.specs.Register.{IsAudited};
 ghost use Rattle.work_registry.specs.Replay.{is_opening};
 
 use crate::arguments::{Argument, CommandWords};
+use crate::file_names::has_draft;
 use crate::files::{InputFile, Reading, read_named};
 use crate::help::AUDIT_HELP;
 use crate::messages::print_reason;
 use crate::printing::{StandardOutput, is_printed};
 use crate::status::{no_memory, status_of};
-use atomic_file::{CallFailed, Exclusive, FileNames, lock, takes_draft};
+use atomic_file::{CallFailed, Exclusive, FileNames, lock};
 use byte_streams::Source;
 use clap::ArgMatches;
 pub use register_store::MAX_REGISTER_BYTES;
@@ -89,7 +92,8 @@ pub(crate) struct RegisterLock<F: Drop> {
 }
 
 /// Locks the register that a run is to write, if any, until the lock is dropped or the run is killed. If another run
-/// has it, or it cannot be locked, that is reported on standard error.
+/// has it, or it cannot be locked, that is reported on standard error. So is a register under whose name no file can be
+/// written: that one is not locked.
 pub(crate) fn locked_register<R: AllocGlobal + Eprint + Files>(
     rt: &R,
     to: Option<&FileNames>,
@@ -98,11 +102,32 @@ pub(crate) fn locked_register<R: AllocGlobal + Eprint + Files>(
 where
     R::File: Exclusive,
 {
-    let names = match to {
-        Some(names) if takes_draft(rt, names) => names,
-        Some(_) | None => return Some(RegisterLock { file: None }),
+    let Some(names) = to else {
+        return Some(RegisterLock { file: None });
     };
-    match lock(rt, names.lock()) {
+    match has_draft(rt, names) {
+        Ok(true) => file_lock(rt, names.lock(), verbose),
+        Ok(false) => Some(RegisterLock { file: None }),
+        Err(error) => {
+            if verbose {
+                print_reason(rt, names.word(), &error);
+            }
+            print_unkept(rt);
+            None
+        }
+    }
+}
+
+/// The lock of this name, which is held until it is dropped.
+fn file_lock<R: AllocGlobal + Eprint + Files>(
+    rt: &R,
+    name: &str,
+    verbose: bool,
+) -> Option<RegisterLock<R::File>>
+where
+    R::File: Exclusive,
+{
+    match lock(rt, name) {
         Ok(Some(file)) => Some(RegisterLock { file: Some(file) }),
         Ok(None) => {
             let _ = eprintln!(rt; "register: in use");
@@ -110,12 +135,17 @@ where
         }
         Err(CallFailed) => {
             if verbose {
-                print_lock_error(rt, names.lock());
+                print_lock_error(rt, name);
             }
-            let _ = eprintln!(rt; "register: stopped: write after 0 bytes");
+            print_unkept(rt);
             None
         }
     }
+}
+
+/// Prints on standard error that no byte of the register was written.
+fn print_unkept<R: Eprint>(rt: &R) {
+    let _ = eprintln!(rt; "register: stopped: write after 0 bytes");
 }
 
 /// Prints on standard error why the system does not open a lock. It tries once more; if the lock opens then, nothing is
@@ -218,8 +248,18 @@ impl Reading for Audit {
     type Made = Result<u64, ReadBookError>;
 
     fn read<S: Source>(self, reader: &mut S) -> Result<u64, ReadBookError> {
-        audit_source(self.alloc, reader, MAX_REGISTER_BYTES, REGISTER_WINDOW)
+        audited_entries(self.alloc, reader)
     }
+}
+
+/// The number of entries of the register of a reader, of at most 68,719,476,736 bytes, or why it is no register.
+fn audited_entries<S: Source>(alloc: Global, reader: &mut S) -> Result<u64, ReadBookError>
+    requires { S.has_failed reader.old ≡ false }
+    ensures entries { IfOk result (λ count. IfSome (S.left reader.old) (λ bytes. IsAudited bytes count)) }
+    ensures fits { OnOk result (IfSome (S.left reader.old) (λ bytes. length bytes ≤ 68719476736)) }
+    ensures unaudited { IfErr result (IsUnaudited 68719476736 (S.left reader.old) (S.has_failed reader.new)) }
+{
+    audit_source(alloc, reader, MAX_REGISTER_BYTES, REGISTER_WINDOW)
 }
 
 /// A register's book is kept, and not its text.

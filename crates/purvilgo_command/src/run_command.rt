@@ -1,16 +1,16 @@
 //! The options of a run.
 
 ghost use Rattle.std.specs.Prelude.{◌≡◌, ◌<◌, [], None, map, option_map, length, IfOk};
-ghost use Rattle.run_options.specs.RunFault.{run_fault, words_fault, run_stamp};
+ghost use Rattle.run_options.specs.RunFault.{run_fault, run_stamp};
+ghost use Rattle.run_options.specs.WordsFault.{words_fault};
 
 use crate::arguments::{Argument, CommandWords};
-use crate::file_names::empty_name;
 use crate::help::RUN_HELP;
 use crate::status::bad_words;
 use clap::ArgMatches;
 use cwr_field::{cut, date, digits, time};
 use cwr_record::Stamp;
-use run_options::{RunFault, run_fault, words_fault};
+use run_options::{RunFault, WordsFault, run_fault, words_fault};
 use std::process::ExitCode;
 
 /// `run --society NNN --name TEXT --date YYYYMMDD --time HHMMSS [--from REGISTER] [--to REGISTER]
@@ -162,7 +162,7 @@ impl<'m, 'a> RunWords<'m, 'a> {
     }
 
     /// What is wrong with them, if anything is.
-    pub(crate) fn fault(&self) -> Option<RunFault>
+    pub(crate) fn fault(&self) -> Option<WordsFault>
         ensures { result ≡ words_fault self.now.who.society.now self.now.who.name.now self.now.who.date.now self.now.who.time.now
             (map (λ file. file.now) self.now.files.now)
             (option_map (λ word. word.now) self.now.from) (option_map (λ word. word.now) self.now.to) }
@@ -195,11 +195,8 @@ pub(crate) fn right_words<'m, 'a, R: Eprint>(
     let Some(words) = RunWords::given(matches) else {
         return Err(bad_words(rt, "the command line is not taken"));
     };
-    if let Some(fault) = words.fault() {
-        return Err(bad_words(rt, fault.text()));
-    }
-    match empty_name(matches) {
+    match words.fault() {
         None => Ok(words),
-        Some(text) => Err(bad_words(rt, text)),
+        Some(fault) => Err(bad_words(rt, fault.text())),
     }
 }

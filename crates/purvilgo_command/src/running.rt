@@ -21,7 +21,7 @@ use cwr_desk::{
 };
 use cwr_field::Memory;
 use cwr_record::Stamp;
-use run_options::RunFault;
+use run_options::WordsFault;
 use std::alloc::Global;
 use std::fs;
 use std::process::ExitCode;
@@ -91,7 +91,7 @@ fn refusal_of<R: AllocGlobal + Eprint + Files>(
     targets: &Targets,
 ) -> Option<ExitCode> {
     match is_one_file_twice(rt, words.files, words.from, targets) {
-        Ok(true) => Some(bad_words(rt, RunFault::Twice.text())),
+        Ok(true) => Some(bad_words(rt, WordsFault::UsedTwice.text())),
         Ok(false) if words.no_clobber && print_taken(rt, targets) => Some(ExitCode::FAILURE),
         Ok(false) => None,
         Err(_) => Some(no_memory(rt)),

@@ -1,4 +1,4 @@
-//! Whether files that the words of a run name are one file of the system.
+//! Whether a file that the words of a run lead to would be written over what is read, or twice.
 
 use crate::targets::Targets;
 use atomic_file::FileNames;
@@ -104,9 +104,10 @@ impl Written {
     }
 }
 
-/// Whether a run on these files would write over what it reads, or twice over one file. It would if two of the files,
-/// their acknowledgements and the register `to` are one file of the system, or the register `from` is one with an
-/// acknowledgement. The same holds of their drafts and of the register's lock, which `from` may not be one with either.
+/// Whether a run on these files would write over what it reads, or twice over one file. It would if an acknowledgement
+/// or the register `to` is one file of the system with another of these or with one of the files, or if the register
+/// `from` is one with an acknowledgement. The same holds of their drafts and of the register's lock, which `from` may
+/// not be one with either. Two of the files may be one: each has its own acknowledgement.
 ///
 /// Files are one if they have one device and number, so by any path and by any link. A name that leads to no file
 /// counts as the name of its directory in which the file would be made. A name of which the system says nothing is one
@@ -172,7 +173,6 @@ impl FileIdentities {
     fn has_one_twice(&self) -> bool {
         self.answers_its_register()
             || self.locks_another()
-            || is_twice(&self.read)
             || are_crossed(&self.read, &self.written.files)
             || are_crossed(&self.read, &self.written.drafts)
             || is_among(&self.begun, &self.written.drafts)

@@ -2,14 +2,13 @@
 
 use crate::arguments::{Argument, CommandWords};
 use crate::file_names::ack_name;
-use crate::files::InputFile;
+use crate::files::{InputFile, whole_file};
 use crate::help::VERIFY_HELP;
 use crate::printing::StandardOutput;
 use crate::registers::{MAX_REGISTER_BYTES, REGISTER, audited_book};
 use crate::status::{bad_words, no_memory, status_of};
 use byte_streams::{ReadRefused, read_file};
 use clap::ArgMatches;
-use cwr_desk::MAX_BYTES;
 use cwr_verify::{ReadFile, ReadText, VerifyError, read_text, verify_read};
 use std::io::{self, Write};
 use std::process::ExitCode;
@@ -97,7 +96,7 @@ fn pair_of<R: AllocGlobal + Eprint + Files>(
 ) -> Result<(ReadText, Answer), ExitCode> {
     let answer = answer_to(rt, name, ack)?;
     let text = judged_file(rt, name, verbose)?;
-    let bytes = whole_file(rt, &answer, MAX_REGISTER_BYTES, verbose)?;
+    let bytes = acknowledgement_bytes(rt, &answer, verbose)?;
     Ok((
         text,
         Answer {
@@ -113,7 +112,8 @@ fn judged_file<R: AllocGlobal + Eprint + Files>(
     name: &str,
     verbose: bool,
 ) -> Result<ReadText, ExitCode> {
-    let text = whole_file(rt, name, MAX_BYTES, verbose)?;
+    let mut file = InputFile::new(rt, name, verbose);
+    let text = bytes_or_status(rt, name, whole_file(rt.alloc(), &mut file))?;
     match read_text(rt.alloc(), &text) {
         Ok(read) => Ok(read),
         Err(_) => Err(no_memory(rt)),
@@ -136,14 +136,27 @@ fn answer_to<R: AllocGlobal + Eprint>(
     }
 }
 
-/// The bytes of a file. If it cannot be read, the reason is printed on standard error.
-fn whole_file<R: AllocGlobal + Eprint + Files>(
+/// The bytes of an acknowledgement.
+fn acknowledgement_bytes<R: AllocGlobal + Eprint + Files>(
     rt: &R,
     name: &str,
-    limit: usize,
     verbose: bool,
 ) -> Result<Vec<u8>, ExitCode> {
-    match read_file(rt.alloc(), &mut InputFile::new(rt, name, verbose), limit) {
+    let mut file = InputFile::new(rt, name, verbose);
+    bytes_or_status(
+        rt,
+        name,
+        read_file(rt.alloc(), &mut file, MAX_REGISTER_BYTES),
+    )
+}
+
+/// The bytes of a file that was read. If it could not be, the reason is printed on standard error.
+fn bytes_or_status<R: Eprint>(
+    rt: &R,
+    name: &str,
+    read: Result<Vec<u8>, ReadRefused>,
+) -> Result<Vec<u8>, ExitCode> {
+    match read {
         Ok(bytes) => Ok(bytes),
         Err(ReadRefused::Memory) => Err(no_memory(rt)),
         Err(unread) => {

@@ -1,8 +1,8 @@
-//! Words that are not text, and empty ones for the name of a file.
+//! Words that are not text, and empty ones, for the name of a file.
 
 use std::process::ExitCode;
 use std::test::Fail;
-use test_program::{Fake, Given, Step, Text, expect_play, expect_program};
+use test_program::{Fake, Given, Kept, Step, Text, expect_play, expect_program};
 
 /// The first such word is printed by its number and its bytes.
 #[test]
@@ -28,23 +28,27 @@ fn tells_which_word_is_not_text(rt: HostRuntime) -> Result<(), Fail> {
     Ok(())
 }
 
+/// An empty word is the name of a file that cannot be opened.
 #[test]
-fn takes_no_empty_name_for_a_run(rt: HostRuntime) -> Result<(), Fail> {
+fn opens_no_empty_name_for_a_run(rt: HostRuntime) -> Result<(), Fail> {
+    let unwritten = "register: stopped: write after 0 bytes\n";
     expect_play(
         &rt,
         &[("a", Given::Holds(Text::Plain))],
-        &[],
+        &[Kept::new("a.ack", Text::Bytes(b""))],
         &[
-            Step::run(&["--to", "", "a"])
-                .ends(2)
-                .complains("bad --to\n"),
+            Step::run(&["--to", "", "a"]).ends(1).complains(unwritten),
             Step::run(&["--to=", "--from=", "a"])
-                .ends(2)
-                .complains("bad --from\n"),
+                .ends(1)
+                .complains(unwritten),
             Step::run(&["--from", "", "a", ""])
-                .ends(2)
-                .complains("bad --from\n"),
-            Step::run(&["a", ""]).ends(2).complains("bad FILE\n"),
+                .ends(1)
+                .complains("register: stopped: read\n")
+                .leaves(&[("a.ack", Text::Bytes(b""))]),
+            Step::run(&["", "a"])
+                .ends(1)
+                .prints(": stopped after 0: read\na: acknowledged 1\n")
+                .leaves(&[("a.ack", Text::Answer("AS"))]),
             Step::run(&["", "a", "a"])
                 .ends(2)
                 .complains("file named twice\n"),
@@ -53,27 +57,30 @@ fn takes_no_empty_name_for_a_run(rt: HostRuntime) -> Result<(), Fail> {
 }
 
 #[test]
-fn takes_no_empty_name_for_what_is_told(rt: HostRuntime) -> Result<(), Fail> {
+fn opens_no_empty_name_for_what_is_told(rt: HostRuntime) -> Result<(), Fail> {
     let book = Given::Holds(Text::Bytes(b"REG00000000\n"));
-    let none = "bad REGISTER\n";
+    let none = "stopped: read\n";
     expect_play(
         &rt,
         &[("a", Given::Holds(Text::Plain)), ("book", book)],
         &[],
         &[
-            Step::of(&["check", ""]).ends(2).complains("bad FILE\n"),
-            Step::of(&["audit", ""]).ends(2).complains(none),
-            Step::of(&["claims", ""]).ends(2).complains(none),
-            Step::of(&["works", ""]).ends(2).complains(none),
-            Step::of(&["history", ""]).ends(2).complains(none),
-            Step::of(&["summary", ""]).ends(2).complains(none),
-            Step::of(&["verify", "", "a"]).ends(2).complains(none),
-            Step::of(&["verify", "book", "a", ""])
-                .ends(2)
-                .complains("bad FILE\n"),
+            Step::of(&["check", ""]).ends(1).complains(none),
+            Step::of(&["audit", ""]).ends(1).complains(none),
+            Step::of(&["claims", ""]).ends(1).complains(none),
+            Step::of(&["works", ""]).ends(1).complains(none),
+            Step::of(&["history", ""]).ends(1).complains(none),
+            Step::of(&["summary", ""]).ends(1).complains(none),
+            Step::of(&["verify", "", "a"]).ends(1).complains(none),
+            Step::of(&["verify", "book", "", "a"])
+                .ends(1)
+                .complains(": stopped: read\n"),
             Step::of(&["verify", "--ack", "", "book", "a"])
-                .ends(2)
-                .complains("bad --ack\n"),
+                .ends(1)
+                .complains(": stopped: read\n"),
+            Step::stamped("answer", &["book", ""])
+                .ends(1)
+                .complains(": stopped: read\n"),
         ],
     )
 }

@@ -1,5 +1,7 @@
 //! Steps and reasons, which `--verbose` prints before the fixed texts.
 
+use std::alloc::Global;
+use std::fs::Metadata;
 use std::process::ExitCode;
 use std::sync::Wait;
 use std::test::Fail;
@@ -134,9 +136,26 @@ fn tells_how_a_refused_file_ends(rt: HostRuntime) -> Result<(), Fail> {
     )
 }
 
-/// Runs to a register whose lock some calls do not open. `rt` starts threads and waits, `more` are the words behind the
-/// stamp's, and `calls` counts the calls that change files and refuses some. `complained` is what must be on standard
-/// error, and `made` the calls that must be made.
+/// A disk without a file. `calls` counts the calls that change files.
+fn empty_disk(alloc: Global, calls: Calls) -> Disk<'static> {
+    Disk {
+        files: Vec::new(alloc),
+        calls,
+        nodes: Vec::new(alloc),
+        links: &[],
+        locked: &[],
+    }
+}
+
+/// `folder` is a directory.
+fn add_folder<'a>(nodes: &mut Vec<(&'a str, Metadata)>) -> Result<(), Fail> {
+    nodes.push(("folder", Metadata::of_dir()))?;
+    Ok(())
+}
+
+/// Runs to a register that is not locked: some calls do not open its lock, or it is the directory `folder`. `rt` starts
+/// threads and waits, `more` are the words behind the stamp's, and `calls` counts the calls that change files and
+/// refuses some. `complained` is what must be on standard error, and `made` the calls that must be made.
 fn expect_unlocked<T: AllocGlobal + Threads + Wait + Sync>(
     rt: &T,
     more: &[&str],
@@ -145,13 +164,8 @@ fn expect_unlocked<T: AllocGlobal + Threads + Wait + Sync>(
     made: &str,
 ) -> Result<(), Fail> {
     let alloc = rt.alloc();
-    let disk = Disk {
-        files: Vec::new(alloc),
-        calls,
-        nodes: Vec::new(alloc),
-        links: &[],
-        locked: &[],
-    };
+    let mut disk = empty_disk(alloc, calls);
+    add_folder(&mut disk.nodes)?;
     let words = run_with(alloc, more)?;
     expect_failed(rt, &words, &disk, complained)?;
     same_text("the calls", &disk.calls.made()?, made)
@@ -187,5 +201,15 @@ fn tells_why_a_register_is_not_locked(rt: HostRuntime) -> Result<(), Fail> {
         told,
         twice,
     )?;
-    expect_unlocked(&rt, &told_to, Calls::refusing(alloc, 1, ""), stopped, twice)
+    expect_unlocked(&rt, &told_to, Calls::refusing(alloc, 1, ""), stopped, twice)?;
+    // Where no file can lie, no lock is made.
+    for (to, reason) in [
+        ("folder", "folder: Is a directory\n"),
+        ("", ": No such file or directory\n"),
+    ] {
+        let words = ["--verbose", "--to", to, "a"];
+        let told = format!(in alloc; "{reason}{stopped}")?;
+        expect_unlocked(&rt, &words, Calls::refusing(alloc, 0, ""), &told, "")?;
+    }
+    Ok(())
 }

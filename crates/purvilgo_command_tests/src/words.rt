@@ -1,6 +1,6 @@
 //! What is wrong with the options of a run.
 
-use run_options::{RunFault, run_fault, words_fault};
+use run_options::{RunFault, WordsFault, run_fault, words_fault};
 use std::test::Fail;
 use test_comparisons::{same, same_text};
 
@@ -48,14 +48,12 @@ fn tells_wrong_files() -> Result<(), Fail> {
         (["a", "a"].as_slice(), Some(RunFault::Twice)),
         (["a", "a.ack"].as_slice(), Some(RunFault::Twice)),
         (["b", "a.ack", "c", "a"].as_slice(), Some(RunFault::Twice)),
-        (["a", "a.ack.new"].as_slice(), Some(RunFault::Twice)),
-        (["a.ack.new", "b", "a"].as_slice(), Some(RunFault::Twice)),
         (["a", "b", "c", "b"].as_slice(), Some(RunFault::Twice)),
         (["a"].as_slice(), None),
         ([].as_slice(), None),
         (["a", "b.ack", "aa", "a.ac", ".ack"].as_slice(), None),
         (
-            ["a", "a.new", "a.lock", "b.ack.new", "a.ack.lock"].as_slice(),
+            ["a", "a.ack.new", "a.new", "a.lock", "a.ack.lock"].as_slice(),
             None,
         ),
     ] {
@@ -70,7 +68,7 @@ fn tells_wrong_files() -> Result<(), Fail> {
 
 #[test]
 fn tells_registers_that_would_be_lost() -> Result<(), Fail> {
-    let twice = Some(RunFault::Twice);
+    let twice = Some(WordsFault::UsedTwice);
     for (from, to, wanted) in [
         (None, None, None),
         (Some("before"), Some("after"), None),
@@ -103,8 +101,13 @@ fn tells_registers_that_would_be_lost() -> Result<(), Fail> {
         same(file, &run(Some("book")), &twice)?;
         same(file, &run(Some("other")), &None)?;
     }
+    for files in [["a", "a.ack.new"], ["a.ack.new", "a"]] {
+        let found = words_fault("007", "X", "20240229", "090000", &files, None, None);
+        same("a draft", &found, &twice)?;
+    }
     let found = words_fault("007", "X", "20240229", "", &["a"], None, Some("a"));
-    same("a time before it", &found, &Some(RunFault::Time))?;
+    let wanted = Some(WordsFault::Run(RunFault::Time));
+    same("a time before it", &found, &wanted)?;
     let found = words_fault(
         "007",
         "X",
@@ -114,7 +117,8 @@ fn tells_registers_that_would_be_lost() -> Result<(), Fail> {
         None,
         Some("a"),
     );
-    same("too many before it", &found, &Some(RunFault::TooMany))
+    let wanted = Some(WordsFault::Run(RunFault::TooMany));
+    same("too many before it", &found, &wanted)
 }
 
 #[test]
@@ -142,6 +146,8 @@ fn names_what_is_wrong() -> Result<(), Fail> {
         (RunFault::Twice, "file named twice"),
     ] {
         same_text("a fault's text", fault.text(), wanted)?;
+        same_text("the same", WordsFault::Run(fault).text(), wanted)?;
     }
-    Ok(())
+    let used = WordsFault::UsedTwice.text();
+    same_text("another fault's text", used, "file used twice")
 }

@@ -12,13 +12,14 @@ use test_program::{
     FakeFile, Given, Kept, KeptFile, Step, Text, expect, expect_held, expect_play, run_with,
 };
 
-const NAMES: [&str; 3] = ["first.v22", "in/middle", "last"];
+/// Files of three directories.
+const NAMES: [&str; 3] = ["first.v22", "in/middle", "out/last"];
 
 /// The acknowledgements of the files of these names, which are empty so far.
 const EMPTY: [(&str, &[u8], usize); 3] = [
     ("first.v22.ack", b"", 1000),
     ("in/middle.ack", b"", 1000),
-    ("last.ack", b"", 1000),
+    ("out/last.ack", b"", 1000),
 ];
 
 /// Files of one work each, of three submitters.
@@ -78,7 +79,10 @@ fn run_all_but<T: AllocGlobal + Threads + Wait + Sync>(
         ExitCode::SUCCESS
     };
     let told = told_of_all_but(rt.alloc(), place)?;
-    let words = run_with(rt.alloc(), &["--in-turn", "first.v22", "in/middle", "last"])?;
+    let words = run_with(
+        rt.alloc(),
+        &["--in-turn", "first.v22", "in/middle", "out/last"],
+    )?;
     expect(rt, &words, held, kept, status, &told, "")
 }
 

@@ -7,6 +7,7 @@ use std::alloc::Global;
 use std::fs;
 use std::fs::Metadata;
 use std::process::ExitCode;
+use std::rt::Files;
 use std::sync::Wait;
 use std::test::Fail;
 use std::thread::Threads;
@@ -77,25 +78,35 @@ fn leaves_a_register_that_is_there(rt: HostRuntime) -> Result<(), Fail> {
     expect_calls(&rt, &words, &disk, refused, "", held)
 }
 
+/// By the same word, and by a link that leads to it.
 #[test]
 fn replaces_the_register_that_it_begins_with(rt: HostRuntime) -> Result<(), Fail> {
-    let book = register(rt.alloc(), 1)?;
-    let mut disk = disk(
-        rt.alloc(),
-        &[("a.ack", b""), ("book", book.as_bytes())],
-        0,
-        "",
-    )?;
-    disk.nodes.push(("book", Metadata::of_file(186)))?;
-    expect_second_entry(&rt, &disk)
+    let device = fs::metadata(&rt, "/dev/null")?;
+    for (from, found) in [("book", Metadata::of_file(186)), ("linked", device)] {
+        let disk = disk_of_register(rt.alloc(), from, &found)?;
+        expect_second_entry(&rt, from, &disk)?;
+    }
+    Ok(())
 }
 
-/// Runs from the register to itself, which replaces it.
+/// A disk with a register of one entry under two names, this one and `book`, of which the system says the same.
+fn disk_of_register<'a>(alloc: Global, other: &'a str, found: &Metadata) -> Result<Disk<'a>, Fail> {
+    let book = register(alloc, 1)?;
+    let text = book.as_bytes();
+    let files = [("a.ack", b"".as_slice()), ("book", text), ("linked", text)];
+    let mut disk = disk(alloc, &files, 0, "")?;
+    disk.nodes.push(("book", found.clone()?))?;
+    disk.nodes.push((other, found.clone()?))?;
+    Ok(disk)
+}
+
+/// Runs from this register to `book`, which is the same and is replaced.
 fn expect_second_entry<T: AllocGlobal + Threads + Wait + Sync>(
     rt: &T,
+    from: &str,
     disk: &Disk,
 ) -> Result<(), Fail> {
-    let words = ["--no-clobber", "--from", "book", "--to", "book", "a"];
+    let words = ["--no-clobber", "--from", from, "--to", "book", "a"];
     run_over(rt, &words, disk, (ExitCode::SUCCESS, ACKNOWLEDGED, ""))?;
     expect_text(rt.alloc(), disk, "book", Text::Register(2))?;
     expect_text(rt.alloc(), disk, "a.ack", Text::Answer("DU"))
@@ -146,6 +157,19 @@ fn writes_a_register_that_is_a_device_itself(rt: HostRuntime) -> Result<(), Fail
     expect_calls(&rt, &["--to", "device", "a"], &disk, done, made, held)
 }
 
+/// A directory is a file that cannot be opened. The register is kept all the same, and nothing lies beside the
+/// directory.
+#[test]
+fn writes_no_acknowledgement_over_a_directory(rt: HostRuntime) -> Result<(), Fail> {
+    let mut disk = disk(rt.alloc(), &[("a.ack", b""), ("book", b"older")], 0, "")?;
+    disk.nodes.push(("a.ack", Metadata::of_dir()))?;
+    let told = "a: stopped after 1: write after 0 bytes\n";
+    let stopped = (ExitCode::FAILURE, told, "");
+    let made = "lock book.lock\ncreate book\nwrite book\nsync book\nrename book\nsync .\n";
+    let held = ("book", Text::Register(1));
+    expect_calls(&rt, &["--to", "book", "a"], &disk, stopped, made, held)
+}
+
 /// What is replaced is the register that the link leads to, and its lock and its draft lie beside that.
 #[test]
 fn follows_a_link_to_a_register(rt: HostRuntime) -> Result<(), Fail> {
@@ -157,11 +181,11 @@ fn follows_a_link_to_a_register(rt: HostRuntime) -> Result<(), Fail> {
     expect_calls(&rt, &["--to", "linked", "a"], &disk, done, made, held)
 }
 
-/// Runs the file `a` and another over a disk that refuses one call. There are eight calls that write the drafts, and
-/// two that put them on disk, on threads. `rt` starts threads and waits. `other` has the names of the other file and of
-/// its acknowledgement, and `refused` is the number of the refused call, from 1. `complained` is what must be on
-/// standard error, and `end` the calls that must follow the first ten.
-fn expect_two<T: AllocGlobal + Threads + Wait + Sync>(
+/// Runs the file `a` and another over a disk that refuses one call. By a link both are one file of the system. There
+/// are eight calls that write the drafts, and two that put them on disk, on threads. `rt` starts threads and waits.
+/// `other` has the names of the other file and of its acknowledgement, and `refused` is the number of the refused call,
+/// from 1. `complained` is what must be on standard error, and `end` the calls that must follow the first ten.
+fn expect_two<T: AllocGlobal + Files + Threads + Wait + Sync>(
     rt: &T,
     other: (&str, &str),
     refused: usize,
@@ -174,7 +198,10 @@ fn expect_two<T: AllocGlobal + Threads + Wait + Sync>(
         ExitCode::FAILURE
     };
     let files = [("a.ack", OLDER), (other.1, OLDER)];
-    let disk = disk(rt.alloc(), &files, refused, "")?;
+    let mut disk = disk(rt.alloc(), &files, refused, "")?;
+    let device = fs::metadata(rt, "/dev/null")?;
+    disk.nodes.push((other.0, device.clone()?))?;
+    disk.nodes.push(("a", device))?;
     expect_two_on(rt, other, &disk, (status, complained), end)
 }
 

@@ -2,7 +2,8 @@ ghost use Rattle.std.specs.Prelude.{◌≡◌, ◌++◌, map, option_map};
 ghost use Rattle.std.specs.List.{list_all, list_any};
 ghost use Rattle.std.specs.Char.{is_ascii_digit};
 ghost use Rattle.std.specs.Str.{bytes_eq};
-ghost use Rattle.run_options.specs.RunFault.{is_society, is_name, is_date, is_time, is_written_for, is_beside_register, is_same_file, is_named_twice, is_of_file, is_read_lost, is_kept_over, is_read_taken, run_fault, words_fault, run_fault_text};
+ghost use Rattle.run_options.specs.RunFault.{is_society, is_name, is_date, is_time, is_same_file, is_named_twice, run_fault, run_fault_text};
+ghost use Rattle.run_options.specs.WordsFault.{is_written_for, is_beside_register, is_of_file, is_file_lost, is_read_lost, is_kept_over, is_read_taken, words_fault, words_fault_text};
 
 use cwr_field::{cut, date, is_printable, time};
 use cwr_record::Header;
@@ -23,10 +24,7 @@ pub enum RunFault {
     Time,
     /// There are more than 63 files.
     TooMany,
-    /// Two of the names that a run reads and writes are equal. They are those of the files, of the acknowledgement of
-    /// each (its name with `.ack` behind it) and its draft (`.ack.new`), of the register that is written, its draft
-    /// (`.new`) and its lock (`.lock`), and of the register that is read. The two registers may have one name, and a
-    /// file may be the register that is read.
+    /// Two of the files have one name, or one has that of another with `.ack` behind it.
     Twice,
 }
 
@@ -46,7 +44,28 @@ impl RunFault {
     }
 }
 
-/// What is wrong with the options of a run without registers: the first fault in the order of [`RunFault`], or `None`.
+/// What is wrong with the options of a run and its files, or with the names that it would read and write.
+#[derive(Clone, Copy, Debug, PartialEq, Eq, Hash)]
+pub enum WordsFault {
+    /// What [`run_fault`] says.
+    Run(RunFault),
+    /// A file would be written that is also read, or that is written for another purpose.
+    UsedTwice,
+}
+
+impl WordsFault {
+    /// The text that reports it, as `bad --society`.
+    pub fn text(self) -> &'static str
+        ensures { result.now ≡ words_fault_text self }
+    {
+        match self {
+            WordsFault::Run(fault) => fault.text(),
+            WordsFault::UsedTwice => "file used twice",
+        }
+    }
+}
+
+/// What is wrong with the options of a run and its files: the first fault in the order of [`RunFault`], or `None`.
 ///
 /// `society`, `name`, `date` and `time` are the values of the options with these names, and `files` the names of the
 /// files. Files are compared by their names. Nothing is allocated.
@@ -80,12 +99,13 @@ pub fn run_fault(
     None
 }
 
-/// What is wrong with the options of a run that may begin with the register `from` and write its own to `to`. The
-/// others, `society`, `name`, `date`, `time` and `files`, are those of [`run_fault`]. The fault is as there, and
-/// `Twice` also if
+/// What is wrong with the words of a run that may begin with the register `from` and write its own to `to`. The others,
+/// `society`, `name`, `date`, `time` and `files`, are those of [`run_fault`], whose fault comes first. Else it is
+/// `UsedTwice` if
+/// - a file has the name of the draft of another's acknowledgement (that one's name with `.ack.new` behind it),
 /// - `to` names one of the files, or the acknowledgement of one or its draft,
 /// - `from` names the acknowledgement of one of the files or its draft,
-/// - the draft or the lock of `to` has the name of one of the files or of `from`.
+/// - the draft of `to` (`.new` behind it) or its lock (`.lock`) has the name of one of the files or of `from`.
 ///
 /// `from` and `to` may be one name, and `from` one of the files: nothing is written over either before it is read. A
 /// draft or a lock never has the name of an acknowledgement, as these end otherwise.
@@ -97,15 +117,19 @@ pub fn words_fault(
     files: &[&str],
     from: Option<&str>,
     to: Option<&str>,
-) -> Option<RunFault>
+) -> Option<WordsFault>
     ensures { result ≡ words_fault society.now name.now date.now time.now (map (λ file. file.now) files.now)
         (option_map (λ word. word.now) from.entry) (option_map (λ word. word.now) to.entry) }
 {
     if let Some(fault) = run_fault(society, name, date, time, files) {
-        return Some(fault);
+        return Some(WordsFault::Run(fault));
     }
-    if is_read_lost(from, files) || is_kept_over(to, files) || is_read_taken(from, to) {
-        return Some(RunFault::Twice);
+    if is_file_lost(files)
+        || is_read_lost(from, files)
+        || is_kept_over(to, files)
+        || is_read_taken(from, to)
+    {
+        return Some(WordsFault::UsedTwice);
     }
     None
 }
@@ -140,7 +164,7 @@ fn are_digits(word: &[u8]) -> bool
     word.iter().all(|byte| byte.is_ascii_digit())
 }
 
-/// Whether two of the files have one name, or one is the acknowledgement or the draft of another.
+/// Whether two of the files have one name, or one is the acknowledgement of another.
 fn is_named_twice(files: &[&str]) -> bool
     ensures { result ≡ is_named_twice (map (λ file. file.now) files.now) }
 {
@@ -152,7 +176,7 @@ fn is_named_twice(files: &[&str]) -> bool
     false
 }
 
-/// Whether a file has the name of one of the others, or one of them is written for it, or it for one of them.
+/// Whether a file has the name of one of the others, or of its acknowledgement, or one of them that of the file's.
 fn is_among(file: &[u8], others: &[&str]) -> bool
     ensures { result ≡ list_any (is_same_file file.now) (map (λ other. other.now) others.now) }
 {
@@ -168,11 +192,11 @@ fn is_among(file: &[u8], others: &[&str]) -> bool
 fn is_same_file(file: &[u8], other: &[u8]) -> bool
     ensures { result ≡ is_same_file file.now other.now }
 {
-    file == other || is_written_for(file, other) || is_written_for(other, file)
+    file == other || is_with(file, b".ack", other) || is_with(other, b".ack", file)
 }
 
 /// Whether the other's name is that of the acknowledgement of a file, or of its draft.
-#[tactic(auto, unfolding(crate::specs::RunFault::is_written_for))]
+#[tactic(auto, unfolding(crate::specs::WordsFault::is_written_for))]
 fn is_written_for(file: &[u8], other: &[u8]) -> bool
     ensures { result ≡ is_written_for file.now other.now }
 {
@@ -180,7 +204,7 @@ fn is_written_for(file: &[u8], other: &[u8]) -> bool
 }
 
 /// Whether the other's name is that of a register's draft, or of its lock.
-#[tactic(auto, unfolding(crate::specs::RunFault::is_beside_register))]
+#[tactic(auto, unfolding(crate::specs::WordsFault::is_beside_register))]
 fn is_beside_register(register: &[u8], other: &[u8]) -> bool
     ensures { result ≡ is_beside_register register.now other.now }
 {
@@ -195,6 +219,18 @@ fn is_with(name: &[u8], end: &[u8], other: &[u8]) -> bool
         Some(front) => front == name,
         None => false,
     }
+}
+
+/// Whether a file has the name of the acknowledgement of one of the files, or of its draft.
+fn is_file_lost(files: &[&str]) -> bool
+    ensures { result ≡ is_file_lost (map (λ file. file.now) files.now) }
+{
+    for file in files {
+        if is_written_for_any(file.as_bytes(), files) {
+            return true;
+        }
+    }
+    false
 }
 
 /// Whether the name of the register that a run begins with is that of an acknowledgement of one of the files, or of its
@@ -255,7 +291,7 @@ fn is_of_any(register: &[u8], files: &[&str]) -> bool
 
 /// Whether a register has the name of a file, of its acknowledgement or of the draft of that, or the file that of the
 /// register's draft or lock.
-#[tactic(auto, unfolding(crate::specs::RunFault::is_of_file))]
+#[tactic(auto, unfolding(crate::specs::WordsFault::is_of_file))]
 fn is_of_file(register: &[u8], file: &[u8]) -> bool
     ensures { result ≡ is_of_file register.now file.now }
 {

@@ -16,7 +16,7 @@ use std::thread::Threads;
 const LOCK: &str = ".lock";
 
 /// The directories of all files that can be written.
-const FOLDERS: [&str; 2] = [".", "in"];
+const FOLDERS: [&str; 3] = [".", "in", "out"];
 
 impl<T: Threads> Threads for Fake<'_, T> {}
 
@@ -172,6 +172,14 @@ impl<'a, T> Files for Fake<'a, T> {
             }
         }
         Err(io::Error::from(ErrorKind::InvalidInput))
+    }
+
+    /// The directories lie where their names say.
+    fn canonicalize<B: Allocator>(&self, alloc: B, path: &str) -> io::Result<PathBuf<B>> {
+        if FOLDERS.contains(&path) {
+            return Ok(PathBuf::from_str(alloc, path)?);
+        }
+        Err(io::Error::from_raw_os_error(NO_SUCH_FILE))
     }
 
     fn copy(&self, _from: &str, _to: &str) -> io::Result<u64> {

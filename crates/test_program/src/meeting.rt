@@ -166,6 +166,10 @@ impl<'a, T> Files for Meeting<'a, T> {
         self.fake.read_link(alloc, path)
     }
 
+    fn canonicalize<B: Allocator>(&self, alloc: B, path: &str) -> io::Result<PathBuf<B>> {
+        self.fake.canonicalize(alloc, path)
+    }
+
     fn hard_link(&self, original: &str, link: &str) -> io::Result<()> {
         self.fake.hard_link(original, link)
     }

@@ -1,5 +1,5 @@
 use Rattle.std.proofs.Common.{rules}
-use Rattle.run_options.specs.RunFault.{is_beside_register}
+use Rattle.run_options.specs.WordsFault.{is_beside_register}
 use Rattle.run_options.proofs.words.is_beside_register.Goals as goal
 
 pub returns-then-is_with : goal.returns-then-is_with

@@ -1,7 +1,7 @@
 use Rattle.std.proofs.Common.{◌≡◌, drop}
 use Rattle.std.specs.Prelude.{map}
 use Rattle.std.specs.List.{list_any}
-use Rattle.run_options.specs.RunFault.{is_of_file}
+use Rattle.run_options.specs.WordsFault.{is_of_file}
 use Rattle.run_options.proofs.words.is_of_any.Given as goal
 
 -- none so far

@@ -1,5 +1,5 @@
 use Rattle.std.proofs.Common.{rules}
-use Rattle.run_options.specs.RunFault.{is_of_file}
+use Rattle.run_options.specs.WordsFault.{is_of_file}
 use Rattle.run_options.proofs.words.is_of_file.Goals as goal
 
 pub returns-then-is_written_for : goal.returns-then-is_written_for

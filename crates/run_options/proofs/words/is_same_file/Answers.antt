@@ -2,10 +2,10 @@ use Rattle.std.proofs.Common.{rules}
 use Rattle.run_options.specs.RunFault.{is_same_file}
 use Rattle.run_options.proofs.words.is_same_file.Goals as goal
 
-pub returns-then-is_written_for : goal.returns-then-is_written_for
+pub returns-then-is_with : goal.returns-then-is_with
 unfolding is_same_file
-returns-then-is_written_for c = search rules
+returns-then-is_with c = search rules
 
-pub returns-else-is_written_for : goal.returns-else-is_written_for
+pub returns-else-is_with : goal.returns-else-is_with
 unfolding is_same_file
-returns-else-is_written_for c = search rules
+returns-else-is_with c = search rules

@@ -1,5 +1,5 @@
 use Rattle.std.proofs.Common.{rules}
-use Rattle.run_options.specs.RunFault.{is_written_for}
+use Rattle.run_options.specs.WordsFault.{is_written_for}
 use Rattle.run_options.proofs.words.is_written_for.Goals as goal
 
 pub returns-then-is_with : goal.returns-then-is_with
