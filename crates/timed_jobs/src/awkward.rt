@@ -1,9 +1,12 @@
-//! What occurs seldom: every rule broken, files that are refused, and small and large files verified.
+//! What occurs seldom: every rule broken, files that are refused, groups without a transaction, a work of very many
+//! records, and small and large files verified.
 
 use crate::chance::Chance;
+use crate::crowds::crowd_of_titles;
 use crate::digest::Digest;
 use crate::refused::refused_file;
 use crate::reports::take;
+use crate::sheet::empty_groups;
 use crate::verified::verified;
 use cwr_check::Checked;
 use cwr_field::Memory;
@@ -15,8 +18,8 @@ use std::alloc::Global;
 /// A text with what JSON escapes, in short and as `\u001b`, and with a letter of two bytes.
 const SAID: &str = "\"CAFÉ SONG\" \\ AND MORE OF THIS KIND\x1b";
 
-/// Reports on works of which each breaks a rule or has a remark, on files that are refused, and small and large files
-/// against a register.
+/// Reports on works of which each breaks a rule or has a remark, on files that are refused, on groups without a
+/// transaction, and on a work of very many records; and small and large files against a register.
 pub(crate) fn awkward(alloc: Global, size: u32, chance: &mut Chance) -> Result<Digest, Memory> {
     let mut digest = Digest::new();
     for _ in 0..8 {
@@ -27,6 +30,10 @@ pub(crate) fn awkward(alloc: Global, size: u32, chance: &mut Chance) -> Result<D
         let text = refused_file(alloc, size / 4, fault, chance)?;
         digest_all_reports(alloc, &text, &mut digest)?;
     }
+    let many = size.saturating_mul(8);
+    digest_all_reports(alloc, &empty_groups(alloc, many)?, &mut digest)?;
+    let titles = crowd_of_titles(alloc, many, chance)?;
+    digest_all_reports(alloc, &titles, &mut digest)?;
     verified(alloc, size, chance, &mut digest)?;
     Ok(digest)
 }

@@ -2,11 +2,12 @@
 
 use crate::catalogue::{Order, Style, file_with_places, new_works};
 use crate::chance::Chance;
-use crate::crowds::{crowd, crowd_without_parties};
+use crate::crowds::{crowd, crowd_of_titles, crowd_without_parties};
 use crate::digest::Digest;
 use crate::digits::{put, work_number};
 use crate::form::LF;
 use crate::nights::CHUNK;
+use crate::sheet::empty_groups;
 use crate::titles::title;
 use byte_streams::Feed;
 use cwr_check::check_source;
@@ -15,7 +16,8 @@ use cwr_field::Memory;
 use cwr_source::WINDOW;
 use std::alloc::Global;
 
-/// Checks of catalogues, each changed in many works from check to check, and of single works of very many records.
+/// Checks of catalogues, each changed in many works from check to check, of single works of very many records, and of
+/// groups without a transaction.
 pub(crate) fn checks(alloc: Global, size: u32, chance: &mut Chance) -> Result<Digest, Memory> {
     let mut digest = Digest::new();
     let mixed = new_works(Style::Mixed, 1, 1, size);
@@ -37,7 +39,26 @@ pub(crate) fn checks(alloc: Global, size: u32, chance: &mut Chance) -> Result<Di
             &mut digest,
         )?;
     }
+    lines_alone(alloc, size, chance, &mut digest)?;
     Ok(digest)
+}
+
+/// Checks, some times each, a file of groups without a transaction and one of a work of very many titles. Little is done
+/// with these besides going from line to line. `alloc` allocates, `size` sets the number of lines, `chance` gives the
+/// numbers, and `digest` takes the results.
+fn lines_alone(
+    alloc: Global,
+    size: u32,
+    chance: &mut Chance,
+    digest: &mut Digest,
+) -> Result<(), Memory> {
+    let groups = empty_groups(alloc, size.saturating_mul(10))?;
+    let titles = crowd_of_titles(alloc, size.saturating_mul(32), chance)?;
+    for _ in 0..8 {
+        check(alloc, &groups, digest)?;
+        check(alloc, &titles, digest)?;
+    }
+    Ok(())
 }
 
 /// Makes a catalogue and checks it `times` times, changed each time. `alloc` allocates, `order` says what the catalogue

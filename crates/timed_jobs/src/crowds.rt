@@ -2,7 +2,7 @@
 
 use crate::chance::Chance;
 use crate::digits::{five, iswc, nine, work_number};
-use crate::form::{CRLF, Form};
+use crate::form::{CRLF, Form, thin};
 use crate::sheet::{Sheet, Work};
 use crate::titles::title;
 use cwr_field::Memory;
@@ -70,6 +70,19 @@ pub(crate) fn crowd_without_parties(
         } else {
             form.push(b"SWR", 60, &[(29, b"DOE")])?;
         }
+    }
+    file_of(alloc, &form, chance)
+}
+
+/// A file of one work without a fault, of a writer and `titles` other titles.
+pub(crate) fn crowd_of_titles(
+    alloc: Global,
+    titles: u32,
+    chance: &mut Chance,
+) -> Result<Vec<u8>, Memory> {
+    let mut form = thin(alloc, b"NWR", CRLF)?;
+    for _ in 0..titles {
+        form.push(b"ALT", 40, &[(20, b"ANOTHER TITLE")])?;
     }
     file_of(alloc, &form, chance)
 }

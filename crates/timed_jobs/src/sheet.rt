@@ -1,7 +1,7 @@
-//! Submission files that are made work by work.
+//! Submission files that are made work by work, and files of groups without a transaction.
 
-use crate::digits::{eight, nine, put};
-use crate::form::{Form, LineEnd};
+use crate::digits::{eight, five, nine, put};
+use crate::form::{CRLF, Form, LineEnd};
 use cwr_field::Memory;
 use std::alloc::Global;
 
@@ -10,6 +10,9 @@ const HEADER_FRONT: &[u8] = b"HDRPB";
 
 const HEADER_BACK: &[u8] =
     b"MUSIC HOUSE                                  01.102024050112000020240501";
+
+/// The greatest number of groups of a file, whose IDs have five digits.
+const MAX_GROUPS: u32 = 99_999;
 
 /// What is filled in of a work.
 #[derive(Clone, Copy)]
@@ -38,8 +41,7 @@ impl Sheet {
         line_end: LineEnd,
     ) -> Result<Sheet, Memory> {
         let mut text = Vec::new(alloc);
-        push_parts(&mut text, &[HEADER_FRONT, &nine(submitter), HEADER_BACK])?;
-        text.extend_from_slice(line_end)?;
+        push_header(&mut text, submitter, line_end)?;
         push_parts(&mut text, &[b"GRH", kind, b"0000102.200000000001"])?;
         text.extend_from_slice(line_end)?;
         Ok(Sheet {
@@ -82,6 +84,39 @@ impl Sheet {
         text.extend_from_slice(line_end)?;
         Ok(text)
     }
+}
+
+/// A file of `groups` groups without a transaction, of new works and of revisions in turn; or of as many as a file may
+/// have, if these are fewer.
+pub(crate) fn empty_groups(alloc: Global, groups: u32) -> Result<Vec<u8>, Memory> {
+    let groups = groups.min(MAX_GROUPS);
+    let mut text = Vec::new(alloc);
+    push_header(&mut text, 9, CRLF)?;
+    for group in 0..groups {
+        push_empty_group(&mut text, group)?;
+    }
+    let records = eight(groups.saturating_mul(2).saturating_add(2));
+    push_parts(
+        &mut text,
+        &[b"TRL", &five(groups), b"00000000", &records, CRLF],
+    )?;
+    Ok(text)
+}
+
+/// Puts a group without a transaction behind those before it, so many in number.
+fn push_empty_group(text: &mut Vec<u8>, before: u32) -> Result<(), Memory> {
+    let kind = if before % 2 == 0 { *b"NWR" } else { *b"REV" };
+    let group = five(before.saturating_add(1));
+    push_parts(text, &[b"GRH", &kind, &group, b"02.200000000001", CRLF])?;
+    push_parts(text, &[b"GRT", &group, b"0000000000000002", CRLF])
+}
+
+/// Puts the header of a file of this submitter behind a text.
+fn push_header(text: &mut Vec<u8>, submitter: u32, line_end: LineEnd) -> Result<(), Memory> {
+    push_parts(
+        text,
+        &[HEADER_FRONT, &nine(submitter), HEADER_BACK, line_end],
+    )
 }
 
 /// Puts these parts behind a text.

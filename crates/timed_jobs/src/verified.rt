@@ -2,17 +2,19 @@
 
 use crate::catalogue::{Order, Style, file, new_works};
 use crate::chance::Chance;
+use crate::crowds::crowd_of_titles;
 use crate::digest::Digest;
 use crate::nights::register_of;
+use crate::sheet::empty_groups;
 use crate::verifying::{Sent, verify_twice, work_all};
 use cwr_desk::Book;
 use cwr_field::Memory;
 use register_store::new_book;
 use std::alloc::Global;
 
-/// Verifies files of one work and of thousands: new works, their revisions, catalogues that are sent again, and one
-/// work that is revised again and again, whose files are given from the last to the first. Then once more with a
-/// changed acknowledgement.
+/// Verifies files of one work and of thousands: new works, their revisions, catalogues that are sent again, groups
+/// without a transaction, a work of very many records, and one work that is revised again and again, whose files are
+/// given from the last to the first. Then once more with a changed acknowledgement.
 pub(crate) fn verified(
     alloc: Global,
     size: u32,
@@ -35,7 +37,7 @@ fn register_of_all(
     digest: &mut Digest,
 ) -> Result<Vec<u8>, Memory> {
     let small = single_works(alloc, size, chance)?;
-    let large = catalogues(alloc, size, chance)?;
+    let large = large_files(alloc, size, chance)?;
     let revisions = revisions(alloc, size / 4, chance)?;
     let book = work_all(alloc, new_book(alloc), small, sent)?;
     let book = work_all(alloc, book, large, sent)?;
@@ -50,6 +52,14 @@ fn single_works(alloc: Global, size: u32, chance: &mut Chance) -> Result<Vec<Vec
         let order = new_works(Style::Shared, number % 50, chance.below(size), 1);
         files.push(file(alloc, chance, &order)?)?;
     }
+    Ok(files)
+}
+
+/// The catalogues, and behind them a file of groups without a transaction and one of a work of very many records.
+fn large_files(alloc: Global, size: u32, chance: &mut Chance) -> Result<Vec<Vec<u8>>, Memory> {
+    let mut files = catalogues(alloc, size, chance)?;
+    files.push(empty_groups(alloc, size)?)?;
+    files.push(crowd_of_titles(alloc, size.saturating_mul(8), chance)?)?;
     Ok(files)
 }
 
