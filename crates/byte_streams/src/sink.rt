@@ -27,6 +27,15 @@ pub trait Sink {
         ensures bound { IfOk result (λ n. n ≤ length bytes.now) }
         ensures bytes { WriteAppends (taken self.old) (taken self.new) result bytes.now }
         ensures fails { has_failed self.new ≡ stalls result bytes.now };
+
+    /// Tells the sink that its text has ended. It may give back what it holds for its writes, as an open file.
+    ///
+    /// It took no more bytes by that, and a later write goes behind those that it took.
+    fn end_text(&mut self)
+        ensures bytes { taken self.new ≡ taken self.old }
+        ensures fails { has_failed self.new ≡ has_failed self.old }
+    {
+    }
 }
 
 /// A text that did not go out completely: a write failed or took nothing after the first `sent` bytes of the text.

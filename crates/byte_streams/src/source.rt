@@ -30,4 +30,15 @@ pub trait Source {
         ensures bytes { ReadConsumes (left self.old) (left self.new) result buffer.new }
         ensures counted { reads self.new ≡ reads self.old + 1 }
         ensures fails { has_failed self.new ≡ is_err result };
+
+    /// Tells the source that no more of its text is read. It may give back what it holds for its reads, as an open
+    /// file.
+    ///
+    /// That is no read.
+    fn end_text(&mut self)
+        ensures bytes { left self.new ≡ left self.old }
+        ensures counted { reads self.new ≡ reads self.old }
+        ensures fails { has_failed self.new ≡ has_failed self.old }
+    {
+    }
 }
