@@ -1,10 +1,7 @@
 -- A register that was written is read again as the same history, all of the opening.
 use Rattle.std.proofs.Common.{◌≡◌, ◌∙◌, ℕ, ◌+◌, ◌<◌, ◌≤◌, ◌^◌, true, List, [], ◌∷◌, ◌++◌, length, map, arith, ap, sym, subst, refl, append_assoc}
-use Rattle.std.specs.Prelude.{◌==◌}
 use Rattle.std.specs.List.{AllByRecursion}
 use Rattle.std.proofs.lemmas.List.{length_push, length-map, append-nil}
-use Rattle.std.proofs.lemmas.Bool.Decides.{nat_tests}
-use Rattle.cwr_field.proofs.lemmas.Tests.{parts}
 use Rattle.std.specs.Result.{IsErrAnd, MatchResult}
 use Rattle.std.specs.declared.result.Result.{Result}
 use Rattle.std.specs.declared.result.Result.TheVariants.{Ok, Err}
@@ -24,6 +21,7 @@ use Rattle.work_registry.specs.Register.{work_of, version_of, line_for, entry_li
 use Rattle.work_registry.specs.RegisterFaults.{lines, IsFault, IsRefusal}
 use Rattle.work_registry.specs.RegisterReading.{IsReadTo}
 use Rattle.work_registry.proofs.SoundHistories.{Follows, follows-first, follows-rest, rows_of-push}
+use Rattle.work_registry.proofs.lemmas.Opened.{opened_is}
 use Rattle.work_registry.proofs.RegisterLines.{lines_first}
 use Rattle.work_registry.proofs.RegisterFirstLine.{first_read}
 use Rattle.work_registry.proofs.RegisterNextLine.{next_read, entry_again}
@@ -121,14 +119,6 @@ pub one_history : (g h : List EntryValue) → length g < 10 ^ 8 → length h < 1
 one_history g h a b p q e =
     let both = sym (count_first (length g) (entry_lines 1 g)) ∙ ap lines e ∙ count_first (length h) (entry_lines 1 h) in
     same_entries 1 g h (omega (arith, a)) (omega (arith, b)) p q (ap tail_of both)
-
-pub opened_is : (h : List EntryValue) → is_opening h ≡ true → map opened h ≡ h
-opened_is [] is = refl
-opened_is (e ∷ h) is =
-    let p = parts (e.session == 0) (is_opening h) is in
-    let zero_session : e.session ≡ 0 = (let q = p.0 in grind (arith, nat_tests)) in
-    let one : opened e ≡ e = ap (λ (s : ℕ). entry_of s e.call e.reply) (sym zero_session) in
-    rw (one, opened_is h p.1) refl
 
 -- ---- what a reader answers of a register that was written
 

@@ -1,5 +1,5 @@
 -- Calls that are handed in one after another, and the entries of one session.
-use Rattle.std.specs.Prelude.{ℕ, ◌==◌, Bool, List, [], ◌∷◌, ◌++◌, map, filter}
+use Rattle.std.specs.Prelude.{ℕ, ◌+◌, ◌==◌, if◌then◌else◌, Bool, List, [], ◌∷◌, ◌++◌, map, filter}
 use Rattle.std.specs.List.{list_all}
 use Rattle.cwr_call.specs.CallValue.{CallValue}
 use Rattle.work_registry.specs.EntryValue.{EntryValue, entry_of}
@@ -23,6 +23,11 @@ calls_of history = map (λ e. e.call) history
 -- the entries that a session made, in their order in the history
 abbrev pub made : List EntryValue → ℕ → List EntryValue
 made history session = filter (λ e. e.session == session) history
+
+-- how many entries at the front are of session 0, the opening, up to the first that is not
+abbrev pub opening_count : List EntryValue → ℕ
+opening_count [] = 0
+opening_count (e ∷ history) = if e.session == 0 then 1 + opening_count history else 0
 
 -- all entries are of session 0, the opening
 abbrev pub is_opening : List EntryValue → Bool

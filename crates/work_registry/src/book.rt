@@ -1,4 +1,4 @@
-ghost use Rattle.std.specs.Prelude.{◌≡◌, ◌==◌, ◌&&◌, ◌≤◌, ◌<◌, ◌↔◌, ◌∷◌, [], ◌++◌, true, length, map, vec_len, vec_capacity, IfOk, IfErr, OnOk, OnErr};
+ghost use Rattle.std.specs.Prelude.{◌≡◌, ◌==◌, ◌&&◌, ◌+◌, ◌^◌, if◌then◌else◌, ◌≤◌, ◌<◌, ◌↔◌, ◌∷◌, [], ◌++◌, true, length, map, take, drop, vec_len, vec_capacity, IfOk, IfErr, OnOk, OnErr};
 ghost use Rattle.std.specs.List.{AllByRecursion};
 ghost use Rattle.work_registry.specs.EntryValue.{entry_of};
 ghost use Rattle.work_registry.specs.Rows.{rows_of};
@@ -36,8 +36,8 @@ pub struct Book<A: Allocator + Copy + Drop = Global> {
     history: Vec<Entry<A>, A>,
     kept: Indexes<A>,
     limit: u32,
-    /// Whether every entry is of the opening (session 0).
-    opening: bool,
+    /// The number of entries at the front that are of the opening (session 0), up to the first that is not.
+    opening: usize,
 }
 
 impl<A: Allocator + Copy + Drop> Model for Book<A> {
@@ -46,7 +46,7 @@ impl<A: Allocator + Copy + Drop> Model for Book<A> {
     ghost use Rattle.work_registry.specs.BookValue.{BookValue};
     ghost use Rattle.work_registry.specs.Rows.{rows_of, same_key};
     ghost use Rattle.work_registry.specs.Indexes.{AreIndexes, IsBook};
-    ghost use Rattle.work_registry.specs.Replay.{is_opening};
+    ghost use Rattle.work_registry.specs.Replay.{opening_count};
 
     ghost Value = { BookValue };
 
@@ -54,7 +54,7 @@ impl<A: Allocator + Copy + Drop> Model for Book<A> {
 
     ghost invariant = { λ b. IsBook b.history.items b.limit
         × AreIndexes (rows_of b.history.items) (get same_key b.kept.claims) (get nat_eq b.kept.iswcs) b.kept.works.items
-        × (b.opening ≡ is_opening b.history.items) };
+        × (b.opening ≡ opening_count b.history.items) };
 }
 
 impl<A: Allocator + Copy + Drop> Book<A> {
@@ -86,11 +86,12 @@ impl<A: Allocator + Copy + Drop> Book<A> {
         requires most { limit ≤ max_entries }
         ensures { result ≡ record { history = history_index; limit = limit } }
     {
+        let opening = history.len();
         Book {
             history,
             kept: history_index.kept,
             limit,
-            opening: true,
+            opening,
         }
     }
 
@@ -154,7 +155,7 @@ impl<A: Allocator + Copy + Drop> Book<A> {
             });
         };
         self.kept.store(deciding::key(&call), deciding::iswc(&call), decision.change);
-        self.opening = is_still_opening(self.opening, session);
+        self.opening = opening_with(self.opening, self.history.len(), session);
         store_entry(
             &mut self.history,
             Entry {
@@ -210,17 +211,18 @@ impl<A: Allocator + Copy + Drop> Book<A> {
     pub fn is_opening(&self) -> bool
         ensures { result ≡ is_opening self.now.history }
     {
-        self.opening
+        self.opening == self.history.len()
     }
 
     /// The same book with every entry of the opening, session 0, so that it serves one more run.
     ///
-    /// Nothing is copied, and no memory is asked for.
+    /// Nothing is copied, and no memory is asked for. Entries at the front that are of the opening already are not
+    /// visited, so this takes as long as the entries are many that a run has added.
     pub fn reopened(mut self) -> Book<A>
         ensures { result ≡ record { history = map opened self.history; limit = self.limit } }
     {
-        open_entries(&mut self.history);
-        self.opening = true;
+        open_behind(&mut self.history, self.opening);
+        self.opening = self.history.len();
         self
     }
 
@@ -265,11 +267,26 @@ impl<A: Allocator + Copy + Drop> Book<A> {
     }
 }
 
-/// Whether every entry is of the opening once an entry of a session was added.
-fn is_still_opening(opening: bool, session: u32) -> bool
-    ensures { result ≡ (opening && (session == 0)) }
+/// How many entries at the front are of the opening once an entry of a session was added behind `len`, of which the
+/// first `opening` are.
+fn opening_with(opening: usize, len: usize, session: u32) -> usize
+    requires few { len < 2 ^ 63 }
+    requires inside { opening ≤ len }
+    ensures { result ≡ (if (opening == len) && (session == 0) then opening + 1 else opening) }
 {
-    opening && session == 0
+    if opening == len && session == 0 {
+        opening + 1
+    } else {
+        opening
+    }
+}
+
+/// Makes every entry behind the first ones, of which there are `from`, one of the opening.
+fn open_behind<A: Allocator>(history: &mut [Entry<A>], from: usize)
+    requires { from ≤ length history.old }
+    ensures { history.new ≡ take from history.old ++ map opened (drop from history.old) }
+{
+    open_entries(&mut history[from..]);
 }
 
 /// Makes every entry one of the opening.

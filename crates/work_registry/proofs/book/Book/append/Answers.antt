@@ -1,5 +1,4 @@
-use Rattle.std.proofs.Common.{◌≡◌, ◌<◌, ◌∙◌, ◌++◌, ◌∷◌, [], ap, sym, length, nat_eq}
-use Rattle.std.specs.Prelude.{◌==◌, ◌&&◌}
+use Rattle.std.proofs.Common.{arith, ◌≡◌, ◌<◌, ◌∙◌, ◌++◌, ◌∷◌, [], ap, sym, length, nat_eq}
 use Rattle.indexmap.specs.IndexMap.{get}
 use Rattle.work_registry.specs.EntryValue.{EntryValue, entry_of}
 use Rattle.work_registry.specs.Rows.{rows_of, same_key}
@@ -8,7 +7,8 @@ use Rattle.work_registry.proofs.SoundRows.{IsSound}
 use Rattle.work_registry.proofs.SoundHistories.{sound}
 use Rattle.work_registry.proofs.KeptRows.{indexes-room, step-place}
 use Rattle.work_registry.proofs.Decided.{decided-change}
-use Rattle.work_registry.proofs.GrowingBooks.{book-push, indexes-push, opening-push}
+use Rattle.work_registry.proofs.GrowingBooks.{book-push, indexes-push}
+use Rattle.work_registry.proofs.ReopenedBooks.{count_inside, count_push}
 use Rattle.work_registry.proofs.book.Book.append.Goals as goal
 
 pub invariant_of-self-in_default-make_room : goal.invariant_of-self-in_default-make_room
@@ -40,5 +40,11 @@ invariant_of-self-2 g c =
     indexes-push h c.args.session c.args.call c.args.decision c.self.inside.kept.claims c.make_room.new.self.claims c.store.new.self.claims c.self.inside.kept.iswcs c.make_room.new.self.iswcs c.store.new.self.iswcs
     c.self.inside.kept.works.items c.make_room.new.self.works.items c.store.new.self.works.items
     c.self.invariant.0.lawful nine_digits decided c.self.invariant.1 c.make_room.ensures.claims c.make_room.ensures.iswcs c.make_room.ensures.works claims iswcs c.store.ensures.works in
-    let opening = c.is_still_opening-self-inside.ensures ∙ ap (λ b. b && (c.args.session == 0)) c.self.invariant.2 ∙ sym (opening-push h e) in
+    let opening = c.opening_with-self-inside.ensures ∙ sym (count_push h e c.self.inside.opening c.len.result c.self.invariant.2 (c.len.ensures ∙ c.reserve.new.self.ok.0 ∙ ap length c.reserve.ensures.items)) in
     rw grown (book-push h e c.self.inside.limit c.self.invariant.0 room_left (ap (λ d. d.reply) decided), kept, opening)
+
+pub opening_with-self-inside-requires-clause-inside : goal.opening_with-self-inside-requires-clause-inside
+opening_with-self-inside-requires-clause-inside g c =
+    let le = count_inside c.self.inside.history.items in
+    let size = ap length c.reserve.ensures.items in
+    omega (arith, le, size, c.self.invariant.2, c.len.ensures, c.reserve.new.self.ok.0)
