@@ -220,7 +220,9 @@ fn answer<W: Sink, L: Answers, A: Allocator + Copy>(
         (ack_text stamp.now header.now (L.items answers.now)) (length (L.items answers.now)) result }
 {
     let handed = answers.len() as u32;
-    match send_answers(alloc, writer, stamp, header, answers) {
+    let sent = send_answers(alloc, writer, stamp, header, answers);
+    writer.end_text();
+    match sent {
         Ok(()) => acked(handed),
         Err(AckError::Memory) => stopped(handed, Why::Memory),
         Err(AckError::Write { sent }) => stopped(handed, Why::Write { sent }),

@@ -67,7 +67,8 @@ pub fn judge_file<A: Allocator + Copy>(alloc: A, bytes: &[u8]) -> Result<JudgedF
 /// that only for a longer line.
 ///
 /// At most `limit` bytes are taken, with at most `limit` + 2 reads. Where contracts see the reader's bytes, it gave the
-/// first of them and holds the others. A fault is returned once the file was read to its end.
+/// first of them and holds the others. A fault is returned once the file was read to its end. The reader is told that
+/// no more is read.
 pub fn judge_source<R: Source, A: Allocator + Copy>(
     alloc: A,
     reader: &mut R,
@@ -81,7 +82,9 @@ pub fn judge_source<R: Source, A: Allocator + Copy>(
     ensures read_on { HasGiven (R.left reader.old) (R.left reader.new) }
     ensures few_reads { R.reads reader.new ≤ R.reads reader.old + limit + 2 }
 {
-    let (envelope, made) = visit_source(alloc, reader, limit, capacity, CallCollector::new(alloc))?;
+    let visited = visit_source(alloc, reader, limit, capacity, CallCollector::new(alloc));
+    reader.end_text();
+    let (envelope, made) = visited?;
     Ok(JudgedFile {
         header: envelope.header,
         transactions: made.judged,

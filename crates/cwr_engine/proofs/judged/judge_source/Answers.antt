@@ -10,4 +10,4 @@ returns-clause-judged g c =
 pub returns-in_err-envelope-clause-refused : goal.returns-in_err-envelope-clause-refused
 returns-in_err-envelope-clause-refused g c =
     let p = err_from_is_err_and c.from_residual.result c.from_residual.ensures.1 in
-    rw (p.1, p.2) c.in_err-envelope.ensures.refused
+    rw (p.1, p.2, c.end_text.ensures.fails) c.in_err-envelope.ensures.refused
