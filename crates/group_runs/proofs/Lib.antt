@@ -1,0 +1,5 @@
+pub mod Accounts
+pub mod Pieces
+pub mod Grouped
+pub mod Chains
+pub mod lemmas

@@ -1,0 +1,3 @@
+pub mod LongRun
+pub mod Standing
+pub mod Chain
