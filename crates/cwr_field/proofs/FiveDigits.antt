@@ -111,10 +111,3 @@ pub word_of_five : (a b c d e word : ℕ) → a < 256 → b < 256 → c < 256 �
     → to_le_bytes w64 word ≡ a ∷ b ∷ c ∷ d ∷ e ∷ zeros
 word_of_five a b c d e word la lb lc ld le is =
     le_bytes_8 (a ∷ b ∷ c ∷ d ∷ e ∷ zeros) word refl (fits_front a b c d e la lb lc ld le) (omega (arith, is))
-
--- the word of a zero, four bytes and the zeros
-pub word_of_four : (a b c d word : ℕ) → a < 256 → b < 256 → c < 256 → d < 256
-    → word ≡ 3472328089260785664 + 48 + from_le_bytes w32 (a ∷ b ∷ c ∷ d ∷ []) * 256
-    → to_le_bytes w64 word ≡ 48 ∷ a ∷ b ∷ c ∷ d ∷ zeros
-word_of_four a b c d word la lb lc ld is =
-    le_bytes_8 (48 ∷ a ∷ b ∷ c ∷ d ∷ zeros) word refl (fits_front 48 a b c d (omega arith) la lb lc ld) (omega (arith, is))

@@ -4,4 +4,5 @@ mod EachByte
 mod EightDigits
 mod FewDigits
 mod FiveDigits
+mod FourDigits
 pub mod lemmas

@@ -74,14 +74,23 @@ fn number_of_five(bytes: [u8; 5]) -> Option<u64>
     number_of_front(word.to_le_bytes())
 }
 
-/// The number that four bytes spell, where each is a digit. It is read as five, of which the first is a zero.
+/// The number that four bytes spell, where each is a digit. All four are tested at once, by what remains of them above
+/// 9, and added up in pairs, as in `number_of_front`.
 #[inline(always)]
 pub fn number_of_four(bytes: [u8; 4]) -> Option<u64>
     ensures value { result ≡ number_of bytes }
     ensures bound { IfSome result (λ n. n < 10 ^ 4) }
 {
-    let word = ZEROS + 48 + u32::from_le_bytes(bytes) as u64 * 256;
-    number_of_front(word.to_le_bytes())
+    let lanes = u8x4::from_array(bytes) - u8x4::splat(b'0');
+    let above = lanes.saturating_sub(u8x4::splat(9));
+    if u32::from_le_bytes(above.to_array()) != 0 {
+        return None;
+    }
+    let four = u32::from_le_bytes(lanes.to_array()) as u64;
+    let pairs = four * (10 * 256 + 1);
+    let front_pair = pairs / 256 % 256;
+    let back_pair = pairs / 16777216 % 256;
+    Some(front_pair * 100 + back_pair)
 }
 
 /// The number that nine bytes spell, where each is a digit: eight at once, and the last.
@@ -173,8 +182,9 @@ pub fn share(text: Field) -> Option<u16>
     }
 }
 
-/// The share in five bytes that are not all digits: 0 for five blanks, and otherwise no share.
-#[inline(never)]
+/// The share in five bytes that are not all digits: 0 for five blanks, and otherwise no share. A call would have all
+/// shares, those of digits too, stored in memory first.
+#[inline(always)]
 fn no_share(bytes: &[u8]) -> Option<u16>
     requires { number_of bytes.now ≡ None }
     ensures { result ≡ share_of bytes.now }

@@ -1,27 +1,30 @@
-use Rattle.std.proofs.Common.{◌≡◌, ◌∙◌, ◌+◌, ◌*◌, List, ℕ, ◌∷◌, get_or, length, take, drop, sym, ap, rules}
+use Rattle.std.proofs.Common.{◌≡◌, ◌∙◌, ℕ, length, Some, sym, ap, rules}
+use Rattle.std.specs.Int.{w32, from_le_bytes}
 use Rattle.cwr_field.specs.Number.{number_of}
-use Rattle.cwr_field.proofs.EachByte.{each}
 use Rattle.cwr_field.proofs.EightDigits.{IsBytes}
 use Rattle.cwr_field.proofs.FewDigits.{bounded}
-use Rattle.cwr_field.proofs.FiveDigits.{word_of_four, zeros}
+use Rattle.cwr_field.proofs.FourDigits.{lanes_of_four, above, number_from, none_of_four, some_of_four}
 use Rattle.cwr_field.proofs.number.number_of_four.Goals as goal
 
-word_is : (c : goal.After-to_le_bytes) → c.to_le_bytes.result ≡ 48 ∷ get_or c.args.bytes 0 0 ∷ get_or c.args.bytes 1 0 ∷ get_or c.args.bytes 2 0 ∷ get_or c.args.bytes 3 0 ∷ zeros
-word_is c =
+pub returns-then-from_le_bytes-ne0-clause-value : goal.returns-then-from_le_bytes-ne0-clause-value
+returns-then-from_le_bytes-ne0-clause-value c =
+    let len : length c.args.bytes ≡ 4 = search rules in
     let fits : IsBytes c.args.bytes = search rules in
-    let is = ap (λ (n : ℕ). 3472328089260785664 + 48 + n * 256) c.from_le_bytes.ensures in
-    c.to_le_bytes.ensures ∙ word_of_four _ _ _ _ _ (fits 0) (fits 1) (fits 2) (fits 3) is
+    let is : c.from_le_bytes.result ≡ from_le_bytes w32 (above (lanes_of_four c.args.bytes)) = c.from_le_bytes.ensures in
+    none_of_four c.args.bytes len fits (λ none. c.if-from_le_bytes-ne0.true (is ∙ none))
 
-pub number_of_front-requires : goal.number_of_front-requires
-number_of_front-requires c = ap (drop 5) (word_is c)
+-- the number of the lanes is that of the bytes
+value : (c : goal.After-from_le_bytes-four) → Some (number_from c.from_le_bytes-four.result) ≡ number_of c.args.bytes
+value c =
+    let len : length c.args.bytes ≡ 4 = search rules in
+    let fits : IsBytes c.args.bytes = search rules in
+    let none : from_le_bytes w32 (above (lanes_of_four c.args.bytes)) ≡ 0 = sym c.from_le_bytes.ensures ∙ c.if-from_le_bytes-ne0.false in
+    ap (λ (n : ℕ). Some (number_from n)) c.from_le_bytes-four.ensures ∙ some_of_four c.args.bytes len fits none
 
 pub returns-clause-value : goal.returns-clause-value
-returns-clause-value c =
-    let len : length c.args.bytes ≡ 4 = search rules in
-    c.number_of_front.ensures.value ∙ ap (λ (l : List ℕ). number_of (take 5 l)) (word_is c.before) ∙ ap number_of (sym (each 4 c.args.bytes len))
+returns-clause-value c = value c
 
 pub returns-clause-bound : goal.returns-clause-bound
 returns-clause-bound c =
     let len : length c.args.bytes ≡ 4 = search rules in
-    let is = c.number_of_front.ensures.value ∙ ap (λ (l : List ℕ). number_of (take 5 l)) (word_is c.before) ∙ ap number_of (sym (each 4 c.args.bytes len)) in
-    bounded c.args.bytes c.number_of_front.result 4 len is
+    bounded c.args.bytes (Some (number_from c.from_le_bytes-four.result)) 4 len (value c)
