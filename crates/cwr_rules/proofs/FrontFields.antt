@@ -41,7 +41,7 @@ field_in_front line start width n within long =
     ∙ take-take width rest (drop at line) (omega (arith, within))
     ∙ sym (take-append-le width (drop at line) (replicate width 32) whole)
 
-at_column : (line : List ℕ) (c : Column) (n : ℕ) → end_of c ≤ n → n ≤ length line → field_at (take n line) c ≡ field_at line c
+pub at_column : (line : List ℕ) (c : Column) (n : ℕ) → end_of c ≤ n → n ≤ length line → field_at (take n line) c ≡ field_at line c
 at_column line c n within long = field_in_front line c.start c.width n within long
 
 -- two lines with the same fields are the same record
@@ -140,7 +140,7 @@ read_of_padded t line =
     ∙ same_fields t whole line (λ c within. field_padded line c.start c.width 150)
 
 -- a field behind the line's end is blank
-blank_behind : (line : List ℕ) (c : Column) → length line < c.start → field_at line c ≡ replicate c.width 32
+pub blank_behind : (line : List ℕ) (c : Column) → length line < c.start → field_at line c ≡ replicate c.width 32
 blank_behind line c short =
     let none : drop (c.start - 1) line ≡ [] = drop_all (c.start - 1) line (omega (arith, short)) in
     ap (λ (bytes : List ℕ). take c.width (bytes ++ replicate c.width 32)) none

@@ -1,7 +1,7 @@
 ghost use Rattle.std.specs.Prelude.{◌≡◌, IsTrue};
 ghost use Rattle.cwr_field.specs.Iswc.{iswc_of};
 ghost use Rattle.cwr_call.specs.Lawful.{is_iswc};
-ghost use Rattle.cwr_record.specs.Columns.{field_at, work_head_copyright_date, work_head_duration, work_head_iswc};
+ghost use Rattle.cwr_record.specs.Columns.{field_at, work_head_copyright_date, work_head_duration, work_head_iswc, work_head_submitter_number, work_head_title};
 ghost use Rattle.cwr_rules.specs.Head.{has_no_title, has_no_number, has_wrong_iswc, has_wrong_date, is_copyright_date, is_duration, number_in};
 ghost use Rattle.cwr_rules.specs.HeaderFields.{header_fields};
 
@@ -54,13 +54,31 @@ impl HeaderFields {
     {
         let (has_wrong_iswc, iswc) = work_iswc(head);
         self.kind = kind;
-        self.title = field_at(head, WorkHead::TITLE).bytes();
-        self.number = field_at(head, WorkHead::SUBMITTER_NUMBER).bytes();
         self.iswc = iswc;
-        self.has_no_title = has_no_title(head);
-        self.has_no_number = has_no_number(head);
         self.has_wrong_iswc = has_wrong_iswc;
         self.has_wrong_date = has_wrong_date(head);
+        // The number, which stands behind the title, ends at byte 95.
+        match head.first_chunk::<95>() {
+            Some(front) => self.read_names(front),
+            None => self.read_names(head),
+        }
+    }
+
+    /// Replaces the title and the number by those of another header's line. Of a line that has both whole, as most
+    /// have, `head` is the front that ends with them, so that their lengths are not tested one by one.
+    #[inline(always)]
+    fn read_names(&mut self, head: &[u8])
+        ensures { self.new ≡ record self.old {
+          title = field_at head.now work_head_title;
+          number = field_at head.now work_head_submitter_number;
+          has_no_title = has_no_title head.now;
+          has_no_number = has_no_number head.now;
+        } }
+    {
+        self.title = field_at(head, WorkHead::TITLE).bytes();
+        self.number = field_at(head, WorkHead::SUBMITTER_NUMBER).bytes();
+        self.has_no_title = has_no_title(head);
+        self.has_no_number = has_no_number(head);
     }
 }
 
@@ -70,6 +88,10 @@ fn work_iswc(head: &[u8]) -> (bool, Option<u64>)
     ensures value { result.1 ≡ number_in (iswc_of (field_at head.now work_head_iswc)) }
     ensures nine_digits { IsTrue (is_iswc result.1) }
 {
+    // Many lines end before the ISWC: it is blank, and no bytes are read for it.
+    if head.len() < WorkHead::ISWC.start {
+        return (false, None);
+    }
     match iswc(field_at(head, WorkHead::ISWC)) {
         Iswc::Valid(number) => (false, Some(number)),
         Iswc::Blank => (false, None),
@@ -112,5 +134,9 @@ pub fn is_duration(head: &[u8]) -> bool
 fn has_wrong_date(head: &[u8]) -> bool
     ensures { result ≡ has_wrong_date head.now }
 {
+    // Many lines end before both: they are blank, and no bytes are read for them.
+    if head.len() < WorkHead::COPYRIGHT_DATE.start {
+        return false;
+    }
     !(is_copyright_date(head) && is_duration(head))
 }
