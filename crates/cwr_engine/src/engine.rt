@@ -36,6 +36,8 @@ use work_registry::{Call, Reply};
 /// - `transactions` are those of the file, judged.
 /// - `replies` gets a reply for each transaction, up to the first one that gets none. It is empty, and has room for
 ///   all.
+// Inlined, the loop would keep in registers, or reload each time, what its caller needs only afterwards.
+#[inline(never)]
 fn hand_in_all<H: Submit<Call<A>>, G: Gate, A: Allocator + Copy + Drop>(
     alloc: A,
     mut registry: H,
