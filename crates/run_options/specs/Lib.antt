@@ -1,2 +1,3 @@
 pub mod RunFault
 pub mod WordsFault
+pub mod ListFault

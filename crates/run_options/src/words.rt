@@ -235,7 +235,7 @@ fn is_file_lost(files: &[&str]) -> bool
 
 /// Whether the name of the register that a run begins with is that of an acknowledgement of one of the files, or of its
 /// draft.
-fn is_read_lost(from: Option<&str>, files: &[&str]) -> bool
+pub(crate) fn is_read_lost(from: Option<&str>, files: &[&str]) -> bool
     ensures { result ≡ is_read_lost (option_map (λ word. word.now) from.entry) (map (λ file. file.now) files.now) }
 {
     match from {
@@ -246,7 +246,7 @@ fn is_read_lost(from: Option<&str>, files: &[&str]) -> bool
 
 /// Whether the name of the register that a run writes, of its draft or its lock is that of one of the files, or of its
 /// acknowledgement or draft.
-fn is_kept_over(to: Option<&str>, files: &[&str]) -> bool
+pub(crate) fn is_kept_over(to: Option<&str>, files: &[&str]) -> bool
     ensures { result ≡ is_kept_over (option_map (λ word. word.now) to.entry) (map (λ file. file.now) files.now) }
 {
     match to {
@@ -256,7 +256,7 @@ fn is_kept_over(to: Option<&str>, files: &[&str]) -> bool
 }
 
 /// Whether the name of the register that a run begins with is that of the draft or the lock of the other.
-fn is_read_taken(from: Option<&str>, to: Option<&str>) -> bool
+pub(crate) fn is_read_taken(from: Option<&str>, to: Option<&str>) -> bool
     ensures { result ≡ is_read_taken (option_map (λ word. word.now) from.entry) (option_map (λ word. word.now) to.entry) }
 {
     match (from, to) {
