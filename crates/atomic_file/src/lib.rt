@@ -8,6 +8,7 @@ mod chunks;
 mod draft;
 mod exclusive;
 mod failed;
+mod folders;
 mod following;
 mod keeping;
 mod listener;

@@ -40,10 +40,10 @@ impl Answer {
     }
 
     /// Keeps the result of a sync.
-    fn keep(&self, done: io::Result<()>) {
+    pub(crate) fn keep(&self, done: &io::Result<()>) {
         let code = match done {
             Ok(()) => SYNCED,
-            Err(error) => code_of(&error),
+            Err(error) => code_of(error),
         };
         self.code.store(code, Ordering::SeqCst);
     }
@@ -102,7 +102,7 @@ impl Round {
                 return;
             };
             if follower.is_written() {
-                follower.answer.keep(sync_draft(rt, follower.names));
+                follower.answer.keep(&sync_draft(rt, follower.names));
             }
         }
     }

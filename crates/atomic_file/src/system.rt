@@ -4,6 +4,7 @@ use crate::draft::{
     name_draft, name_first_draft, name_new_draft, open_draft, remove_draft, sync_directory,
     sync_draft, sync_file, takes_draft,
 };
+use crate::folders::SyncedFolders;
 use crate::rounds::{Answer, Round, sync_beside};
 use crate::{CallFailed, FileNames, Listener, Storage};
 use std::fs::OpenFile;
@@ -258,24 +259,49 @@ impl<'a, R: Files, L: Listener + Drop> SystemStorage<'a, R, L> {
         self.report_trouble(at);
     }
 
-    /// Syncs the folder of a follower to disk, where the follower's name is not on disk yet. The names of all followers
-    /// in that folder are on disk with it.
-    fn sync_folder_of(&mut self, at: usize)
+    /// Syncs the folder of a follower to disk, where the follower's name is not on disk yet. A folder that was synced
+    /// before is not synced again. Where there is no memory to keep that it was, all followers in it are done at once.
+    fn sync_folder_of(&mut self, at: usize, folders: &mut SyncedFolders<'a>)
         ensures { self.new.failed ≡ self.old.failed }
     {
         let directory = match self.followers.get(at) {
             Some(follower) if follower.stage == Stage::Named => follower.names.directory(),
             Some(_) | None => return,
         };
+        if let Some(synced) = folders.answer(directory) {
+            self.end_naming(at, directory, &synced);
+            return;
+        }
         let synced = sync_directory(self.rt, directory);
-        for follower in &mut self.followers {
-            if follower.stage == Stage::Named && follower.names.directory() == directory {
-                match &synced {
-                    Ok(()) => follower.stage = Stage::InPlace,
-                    Err(error) => {
-                        follower.stage = Stage::Refused;
-                        self.listener.failed(follower.names, error);
-                    }
+        if folders.keep(directory, &synced) {
+            self.end_naming(at, directory, &synced);
+        } else {
+            self.end_all_in(directory, &synced);
+        }
+    }
+
+    /// Ends the naming of each follower in a folder that was synced.
+    fn end_all_in(&mut self, directory: &str, synced: &io::Result<()>)
+        ensures { self.new.failed ≡ self.old.failed }
+    {
+        for at in 0..self.followers.len() {
+            self.end_naming(at, directory, synced);
+        }
+    }
+
+    /// Ends the naming of a follower whose folder was synced, if its folder is this one.
+    fn end_naming(&mut self, at: usize, directory: &str, synced: &io::Result<()>)
+        ensures { self.new.failed ≡ self.old.failed }
+    {
+        let Some(follower) = self.followers.get_mut(at) else {
+            return;
+        };
+        if follower.stage == Stage::Named && follower.names.directory() == directory {
+            match synced {
+                Ok(()) => follower.stage = Stage::InPlace,
+                Err(error) => {
+                    follower.stage = Stage::Refused;
+                    self.listener.failed(follower.names, error);
                 }
             }
         }
@@ -402,8 +428,9 @@ impl<R: Files, L: Listener + Drop> Storage for SystemStorage<'_, R, L> {
     }
 
     fn sync_follower_names(&mut self) {
+        let mut folders = SyncedFolders::none(*self.followers.allocator());
         for at in 0..self.followers.len() {
-            self.sync_folder_of(at);
+            self.sync_folder_of(at, &mut folders);
         }
     }
 
