@@ -8,7 +8,7 @@ use std::alloc::{AllocError, Global};
 pub(crate) enum Argument {
     /// A required word.
     Word(&'static str, &'static str),
-    /// One word or more.
+    /// One word or more, unless `--files-from` has a list of such words.
     Words(&'static str, &'static str),
     /// Zero or more words.
     AnyWords(&'static str, &'static str),
@@ -20,9 +20,19 @@ pub(crate) enum Argument {
     Flag(&'static str, &'static str),
     /// Such an option that excludes others, whose names stand before its help.
     FlagAgainst(&'static str, &'static [&'static str], &'static str),
+    /// `--files-from`, a list of what is else words of this name.
+    FilesFrom(&'static str),
+    /// `--null`, of such a list.
+    Null(&'static str),
     /// `--verbose`, as each command takes it.
     Verbose,
 }
+
+/// The name of the option that has a list of files.
+pub(crate) const FILES_FROM: &str = "files-from";
+
+/// The name of the option that says how the names of that list end.
+pub(crate) const NULL: &str = "null";
 
 /// A command: its name, what it does, its arguments in their order, and what its long help prints in addition.
 #[derive(Clone, Copy)]
@@ -64,12 +74,14 @@ fn arguments_of<'a>(alloc: Global, all: &[Argument]) -> Result<Vec<Arg<'a>>, All
 fn argument_of<'a>(alloc: Global, argument: Argument) -> Result<Arg<'a>, AllocError> {
     match argument {
         Argument::Word(name, help) => Ok(word(alloc, name, help)),
-        Argument::Words(name, help) => Ok(words(alloc, name, help)),
+        Argument::Words(name, help) => words(alloc, name, help),
         Argument::AnyWords(name, help) => Ok(any_words(alloc, name, help)),
         Argument::Value(name, value, help) => Ok(option(alloc, name, value, help)),
         Argument::NeededValue(name, value, help) => Ok(needed_option(alloc, name, value, help)),
         Argument::Flag(name, help) => Ok(flag(alloc, name, help)),
         Argument::FlagAgainst(name, others, help) => flag_against(alloc, name, others, help),
+        Argument::FilesFrom(words) => files_from(alloc, words),
+        Argument::Null(words) => null_flag(alloc, words),
         Argument::Verbose => Ok(verbose_flag(alloc)),
     }
 }
@@ -78,12 +90,12 @@ fn word<'a>(alloc: Global, name: &'a str, help: &'a str) -> Arg<'a> {
     Arg::new(alloc, name).required(true).help(help)
 }
 
-fn words<'a>(alloc: Global, name: &'a str, help: &'a str) -> Arg<'a> {
+fn words<'a>(alloc: Global, name: &'a str, help: &'a str) -> Result<Arg<'a>, AllocError> {
     Arg::new(alloc, name)
         .action(ArgAction::Append)
         .num_args(1..)
-        .required(true)
         .help(help)
+        .required_unless_present(FILES_FROM)
 }
 
 fn any_words<'a>(alloc: Global, name: &'a str, help: &'a str) -> Arg<'a> {
@@ -123,6 +135,25 @@ fn flag_against<'a>(
         against = against.conflicts_with(other)?;
     }
     Ok(against)
+}
+
+fn files_from<'a>(alloc: Global, words: &'a str) -> Result<Arg<'a>, AllocError> {
+    let list = option(
+        alloc,
+        FILES_FROM,
+        "LIST",
+        "a file with the name of a file on each line, in place of FILE; - for standard input",
+    );
+    list.conflicts_with(words)
+}
+
+fn null_flag<'a>(alloc: Global, words: &'a str) -> Result<Arg<'a>, AllocError> {
+    let ends = flag(
+        alloc,
+        NULL,
+        "each name of LIST ends with a NUL, as find -print0 prints them",
+    );
+    ends.short('0').conflicts_with(words)
 }
 
 fn verbose_flag<'a>(alloc: Global) -> Arg<'a> {

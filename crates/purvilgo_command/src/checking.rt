@@ -3,6 +3,7 @@
 use crate::arguments::{Argument, CommandWords};
 use crate::files::{Reading, bytes_of, read_named};
 use crate::help::CHECK_HELP;
+use crate::listed_files::{given_list, path_of};
 use crate::page_of_check::check_as_page;
 use crate::printing::StandardOutput;
 use crate::status::{bad_words, status_of};
@@ -21,7 +22,7 @@ use std::process::ExitCode;
 use std::rt::Files;
 
 /// `check [--long | --json | --html] [--quiet] [--verbose] FILE..`, where `--quiet` is not taken with `--json` or
-/// `--html`, and `--html` goes with one FILE alone.
+/// `--html`, and `--html` goes with one FILE alone. In place of FILE there may be `--files-from LIST [--null]`.
 pub(crate) const CHECK: CommandWords = CommandWords {
     name: "check",
     about: "Prints which rules a CWR 2.2 file breaks, before it is sent; nothing is registered",
@@ -46,6 +47,8 @@ pub(crate) const CHECK: CommandWords = CommandWords {
             &["json", "html"],
             "print faults alone, and nothing for a file without",
         ),
+        Argument::FilesFrom("FILE"),
+        Argument::Null("FILE"),
         Argument::Verbose,
     ],
     more: CHECK_HELP,
@@ -70,6 +73,8 @@ struct Manner {
     quiet: bool,
     /// Whether each line begins with the name of its file, as that is one of several.
     named: bool,
+    /// Whether the names come from a list. There `-` is a file of that name.
+    listed: bool,
     verbose: bool,
 }
 
@@ -92,18 +97,35 @@ pub(crate) fn check_files<R: AllocGlobal + Input + Print + Eprint + Files>(
     rt: &R,
     given: &ArgMatches,
 ) -> ExitCode {
-    let names = given.get_strs("FILE").unwrap_or(&[]);
+    match given_list(rt, given) {
+        Ok(None) => check_named(rt, given, given.get_strs("FILE").unwrap_or(&[]), false),
+        Ok(Some(list)) => match list.names(rt) {
+            Ok(names) => check_named(rt, given, &names, true),
+            Err(status) => status,
+        },
+        Err(status) => status,
+    }
+}
+
+/// Checks the files of these names, as `check_files` does. `listed` says whether the names come from a list.
+fn check_named<R: AllocGlobal + Input + Print + Eprint + Files>(
+    rt: &R,
+    given: &ArgMatches,
+    names: &[&str],
+    listed: bool,
+) -> ExitCode {
     if names.is_empty() {
         return bad_words(rt, "the command line is not taken");
     }
     let verbose = given.get_flag("verbose");
     if given.get_flag("html") {
-        return check_as_page(rt, names, verbose);
+        return check_as_page(rt, names, listed, verbose);
     }
     let manner = Manner {
         form: form_of(given),
         quiet: given.get_flag("quiet"),
         named: names.len() > 1,
+        listed,
         verbose,
     };
     status_of(are_clean(rt, names, manner))
@@ -172,16 +194,17 @@ fn checked_file<R: AllocGlobal + Input + Eprint + Files>(
 ) -> Result<Checked, ReadRefused> {
     let alloc = rt.alloc();
     let verbose = manner.verbose;
+    let path = path_of(name, manner.listed);
     match manner.form {
         CheckForm::Short => {
-            let checked = read_named(rt, name, verbose, ShortCheck { alloc })?;
+            let checked = read_named(rt, path, verbose, ShortCheck { alloc })?;
             printed_lines(alloc, name, checked, manner)
         }
         CheckForm::Long => {
-            let checked = long_check(alloc, &bytes_of(rt, name, verbose)?, manner)?;
+            let checked = long_check(alloc, &bytes_of(rt, path, verbose)?, manner)?;
             printed_lines(alloc, name, checked, manner)
         }
-        CheckForm::Json => json_check(alloc, name, &bytes_of(rt, name, verbose)?, manner),
+        CheckForm::Json => json_check(alloc, name, &bytes_of(rt, path, verbose)?, manner),
     }
 }
 

@@ -97,7 +97,8 @@ impl<R: AllocGlobal + Input + Eprint> Read for StandardInput<'_, R> {
     }
 }
 
-/// A file that is opened at its first read, and closed once it was read to its end. A contract does not see its bytes.
+/// A file that is opened at its first read, and closed once it was read to its end, or its reader wants no more of it. A
+/// contract does not see its bytes.
 ///
 /// A file that cannot be opened counts as a failed read.
 #[derive(Drop)]
@@ -109,7 +110,7 @@ pub(crate) struct InputFile<'a, R: Files> {
     /// The number of bytes that were read.
     bytes: usize,
     file: Option<R::File>,
-    /// Whether it was read to its end.
+    /// Whether it was closed, and has no more bytes.
     ended: bool,
     failed: bool,
     reads: ReadCount,
@@ -183,8 +184,7 @@ impl<'a, R: AllocGlobal + Eprint + Files> InputFile<'a, R> {
         }
     }
 
-    /// Closes the file at its end. A run keeps its files until all of its workers have ended, and a table of open files
-    /// that grows while there are threads holds all of them up.
+    /// Closes the file. A run keeps its files until all of them are worked, and no more than a few may be open at a time.
     fn close(&mut self)
         ensures reads { self.new.reads ≡ self.old.reads }
         ensures failed { self.new.failed ≡ self.old.failed }
@@ -218,5 +218,9 @@ impl<R: AllocGlobal + Eprint + Files> Source for InputFile<'_, R> {
         let read = self.read(buffer);
         self.failed = read.is_err();
         read
+    }
+
+    fn end_text(&mut self) {
+        self.close();
     }
 }

@@ -18,11 +18,16 @@ written where such a file is there already. Without --from the history begins em
 register of --to then takes the place of one that is there, with nothing of it inside.
 Without --to the decisions are kept nowhere, and no acknowledgement may be sent.
 
-Reads: 1 to 63 files, and the register of --from.
+List: --files-from LIST takes any number of files, in place of FILE. They are in order, in
+the order of the list, if not in turn. Each line is a name as it stands, - too, and the last
+line may lack its end; with --null each name ends with a NUL, and may have any other byte.
+A list with an empty name, or one that is not text, is not taken.
+
+Reads: 1 to 63 files or those of LIST, and the register of --from.
 Writes: FILE.ack of each file that is acknowledged, the register of --to, and on standard
-output a line for each file. Nothing that is read is written over, and nothing is written
-twice: where FILE.ack or --to is one file with another of these or with a FILE, or --from
-with FILE.ack, the run is refused.
+output a line for each file, in order and in turn after each 63 of them. Nothing that is
+read is written over, and nothing is written twice: where FILE.ack or --to is one file with
+another of these or with a FILE, or --from with FILE.ack, the run is refused.
 Drafts: FILE.ack.new and REGISTER.new take their names when they are whole, first the
 register, then the acknowledgements. Where the register cannot be kept, there are no
 new acknowledgements: make the run again. While a run leaves a register, it has
@@ -32,11 +37,16 @@ help; 1 else.
 
 Example:
   purvilgo run --society 007 --name 'MY SOCIETY' --date 20240601 --time 090000 \\
-    --from 0041.register --to 0042.register --in-order --no-clobber in/a.v22 in/b.v22";
+    --from 0041.register --to 0042.register --in-order --no-clobber in/a.v22 in/b.v22
+  find in -name '*.v22' -print0 | sort -z | purvilgo run --society 007 \\
+    --name 'MY SOCIETY' --date 20240601 --time 090000 --from 0041.register \\
+    --to 0042.register --null --files-from -";
 
 /// Of `check`.
 pub(crate) const CHECK_HELP: &str = "\
-Reads: each FILE, one after another; standard input where FILE is -.
+Reads: each FILE, one after another; standard input where FILE is -. In place of FILE those
+whose names --files-from LIST has, one a line, or ended by a NUL with --null: there - is a
+file of that name.
 Writes: on standard output a line for each transaction, or the file's first fault. With
 --long some lines for each fault, and none for a transaction without; with --json one
 object a file; with --html one page of HTML. Of several files each line begins with the
@@ -153,7 +163,8 @@ Example:
 pub(crate) const VERIFY_HELP: &str = "\
 Reads: REGISTER, or standard input where REGISTER is -; each FILE, and FILE.ack beside it,
 or for one FILE the ACK of --ack, as a draft. Give the files in the order in which they
-were run.
+were run. In place of FILE those whose names --files-from LIST has, one a line, or ended by
+a NUL with --null.
 Writes: on standard output how many transactions of how many files are verified; or the
 register's first fault, or the first FILE that does not fit, with the group and the
 transaction, or the line of its acknowledgement.

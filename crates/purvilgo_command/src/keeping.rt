@@ -119,6 +119,20 @@ fn add_all<'a, I: Drop, R: AllocGlobal + Eprint + Files>(
     added
 }
 
+/// Removes the drafts that the jobs of a run left which is not kept.
+pub(crate) fn drop_drafts<'a, I: Drop, R: AllocGlobal + Eprint + Files>(
+    rt: &'a R,
+    jobs: Vec<Job<I, OutputFile<'a, R>>>,
+) {
+    for job in jobs {
+        let Job { reader: _, writer } = job;
+        match writer.into_draft() {
+            LeftDraft::Whole(names) | LeftDraft::Cut(names) => remove_draft(rt, names),
+            LeftDraft::None => {}
+        }
+    }
+}
+
 /// Puts the waiting acknowledgements on disk, keeps the register, if one is asked for, and gives the acknowledgements
 /// their names. Returns whether all of it is in place.
 ///

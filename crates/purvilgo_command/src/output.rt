@@ -14,9 +14,6 @@ use std::{fs, io};
 /// The number of the system's error that a file exists.
 const FILE_EXISTS: i32 = 17;
 
-/// A piece of an acknowledgement that is not its last one has more bytes than this.
-const LAST_PIECE: usize = 65_000;
-
 /// The draft that a job leaves.
 #[derive(Clone, Copy)]
 pub(crate) enum LeftDraft<'a> {
@@ -30,8 +27,8 @@ pub(crate) enum LeftDraft<'a> {
 
 /// The draft of a file, which is opened at its first write, and then begins empty. A contract does not see its bytes.
 ///
-/// It is closed behind what looks like the last piece, and opened again for a further one. A run keeps its drafts until
-/// all of its workers have ended, and a table of open files that grows while there are threads holds all of them up.
+/// It is closed once its text has ended, or a write failed: a run keeps its drafts until all of its files are worked, and
+/// no more than a few are to be open at a time. For a later write it is opened again at its end.
 ///
 /// What is neither a regular file nor a directory, as a device or a pipe, has no draft: it is written itself. A
 /// directory, and a file or a draft that cannot be opened, count as a failed write.
@@ -48,7 +45,7 @@ pub(crate) struct OutputFile<'a, R: Files> {
     drafted: bool,
     /// Whether it took some bytes.
     began: bool,
-    /// Whether the draft was closed.
+    /// Whether it was closed.
     closed: bool,
     failed: bool,
 }
@@ -119,7 +116,12 @@ impl<'a, R: AllocGlobal + Eprint + Files> OutputFile<'a, R> {
     {
         let names = self.names;
         if self.closed {
-            return File::options().append(true).open(self.rt, names.draft());
+            let name = if self.drafted {
+                names.draft()
+            } else {
+                names.name()
+            };
+            return File::options().append(true).open(self.rt, name);
         }
         if !self.replaces && fs::symlink_metadata(self.rt, names.name()).is_ok() {
             return Err(io::Error::from_raw_os_error(FILE_EXISTS));
@@ -140,34 +142,29 @@ impl<'a, R: AllocGlobal + Eprint + Files> OutputFile<'a, R> {
         };
         match written {
             Ok(n) => {
-                self.took(n, n == bytes.len());
+                self.took(n);
                 Ok(n)
             }
             Err(error) => Err(self.fail(&error)),
         }
     }
 
-    /// Closes the draft if it took all of what looks like the last piece, and reports the number of bytes that it took.
-    fn took(&mut self, n: usize, whole: bool)
+    /// Reports the number of bytes that it took.
+    fn took(&mut self, n: usize)
         ensures { self.new.failed ≡ self.old.failed }
     {
         self.began = self.began || n > 0;
-        if whole && n < LAST_PIECE {
-            self.close();
-        }
         if self.verbose {
             let _ = eprintln!(self.rt; "{}: written, {n} bytes", self.names.word());
         }
     }
 
-    /// Closes a draft. A device or a pipe stays open.
+    /// Closes what is open, if anything is.
     fn close(&mut self)
         ensures { self.new.failed ≡ self.old.failed }
     {
-        if self.drafted {
-            self.file = None;
-            self.closed = true;
-        }
+        self.closed = self.closed || self.file.is_some();
+        self.file = None;
     }
 
     /// Prints why the opening or a write failed, if it is verbose.
@@ -194,6 +191,13 @@ impl<R: AllocGlobal + Eprint + Files> Sink for OutputFile<'_, R> {
             Ok(n) => n == 0 && !bytes.is_empty(),
             Err(_) => true,
         };
+        if self.failed {
+            self.close();
+        }
         written
+    }
+
+    fn end_text(&mut self) {
+        self.close();
     }
 }

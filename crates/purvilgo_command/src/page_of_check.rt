@@ -1,6 +1,7 @@
 //! What the rules say of a file, as a page of HTML.
 
 use crate::files::{STANDARD_INPUT, bytes_of};
+use crate::listed_files::path_of;
 use crate::printing::StandardOutput;
 use crate::status::{bad_words, no_memory, status_of};
 use check_pages::{PageError, check_page};
@@ -10,17 +11,20 @@ use std::rt::Files;
 /// Checks a file, or standard input for `-`, and prints the page of its check on standard output.
 ///
 /// The status is 0 if the file is clean and its whole page was printed, 2 if `names` has not one name alone, and else 1.
-/// A file that cannot be read has no page. After a failed allocation or write the page may have no end.
+/// A file that cannot be read has no page. After a failed allocation or write the page may have no end. `listed` says
+/// whether the names come from a list.
 pub(crate) fn check_as_page<R: AllocGlobal + Input + Print + Eprint + Files>(
     rt: &R,
     names: &[&str],
+    listed: bool,
     verbose: bool,
 ) -> ExitCode {
     let [name] = names else {
         return bad_words(rt, "--html goes with one FILE alone");
     };
-    match bytes_of(rt, name, verbose) {
-        Ok(bytes) => print_page(rt, name_shown(name), &bytes),
+    let path = path_of(name, listed);
+    match bytes_of(rt, path, verbose) {
+        Ok(bytes) => print_page(rt, name_shown(path), &bytes),
         Err(unread) => {
             let _ = eprintln!(rt; "stopped: {unread}");
             ExitCode::FAILURE

@@ -22,6 +22,21 @@ impl<'a, R: Print + Eprint> StandardOutput<'a, R> {
         }
     }
 
+    /// Standard output of which `sent` bytes were written, or which has `failed`.
+    pub(crate) fn behind(rt: &'a R, sent: u64, failed: bool) -> StandardOutput<'a, R> {
+        StandardOutput { rt, sent, failed }
+    }
+
+    /// The number of bytes that were written.
+    pub(crate) fn sent(&self) -> u64 {
+        self.sent
+    }
+
+    /// Whether a write failed.
+    pub(crate) fn has_failed(&self) -> bool {
+        self.failed
+    }
+
     /// Writes all the bytes, and returns whether they went out.
     pub(crate) fn put(&mut self, bytes: &[u8]) -> bool {
         self.write_all(bytes).is_ok()

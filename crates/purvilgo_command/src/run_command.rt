@@ -1,20 +1,23 @@
 //! The options of a run.
 
-ghost use Rattle.std.specs.Prelude.{◌≡◌, ◌<◌, [], None, map, option_map, length, IfOk};
+ghost use Rattle.std.specs.Prelude.{◌≡◌, ◌≢◌, ◌<◌, [], None, map, option_map, length, IfOk, IfSome};
 ghost use Rattle.run_options.specs.RunFault.{run_fault, run_stamp};
 ghost use Rattle.run_options.specs.WordsFault.{words_fault};
+ghost use Rattle.run_options.specs.ListFault.{list_fault};
 
 use crate::arguments::{Argument, CommandWords};
 use crate::help::RUN_HELP;
-use crate::status::bad_words;
+use crate::status::{bad_words, no_memory};
 use clap::ArgMatches;
-use cwr_field::{cut, date, digits, time};
+use cwr_field::{Memory, cut, date, digits, time};
 use cwr_record::Stamp;
-use run_options::{RunFault, WordsFault, run_fault, words_fault};
+use run_options::{RunFault, WordsFault, files_fault, run_fault, words_fault};
+use std::alloc::Global;
 use std::process::ExitCode;
 
 /// `run --society NNN --name TEXT --date YYYYMMDD --time HHMMSS [--from REGISTER] [--to REGISTER]
-/// [--in-order | --in-turn] [--no-clobber] [--verbose] FILE..`
+/// [--in-order | --in-turn] [--no-clobber] [--verbose] FILE..`. In place of FILE there may be `--files-from LIST
+/// [--null]`, with any number of files, which are then in order too if no option says how.
 pub(crate) const RUN: CommandWords = CommandWords {
     name: "run",
     about: "Acknowledges CWR 2.2 files into one history, the acknowledgement of FILE in FILE.ack",
@@ -46,6 +49,8 @@ pub(crate) const RUN: CommandWords = CommandWords {
             "no-clobber",
             "write over no acknowledgement, and over no register but that of --from",
         ),
+        Argument::FilesFrom("FILE"),
+        Argument::Null("FILE"),
         Argument::Verbose,
         Argument::Words("FILE", "a CWR 2.2 file, 1 to 63 of them"),
     ],
@@ -109,13 +114,24 @@ impl<'a> StampWords<'a> {
 pub(crate) enum Way {
     /// All at once, each on a thread of its own. The order of the decisions is open.
     AtOnce,
-    /// Read and answered on threads, and decided one after another, in the order of the command line.
+    /// Read and answered on threads, and decided one after another, in their order.
     InOrder,
-    /// One after another, in the order of the command line, on one thread.
+    /// One after another, in their order, on one thread.
     InTurn,
 }
 
 impl Way {
+    /// The way of a run with a list of files: in order, if not in turn.
+    fn of_list(matches: &ArgMatches) -> Way
+        ensures { result ≢ Way.AtOnce }
+    {
+        if matches.get_flag("in-turn") {
+            Way::InTurn
+        } else {
+            Way::InOrder
+        }
+    }
+
     /// The way that a command line of [`RUN`] asks for, which has at most one of the two options.
     fn given(matches: &ArgMatches) -> Way {
         if matches.get_flag("in-order") {
@@ -148,21 +164,36 @@ pub(crate) struct RunWords<'m, 'a> {
 }
 
 impl<'m, 'a> RunWords<'m, 'a> {
-    /// The options that a command line of [`RUN`] was given.
-    fn given(matches: &'m ArgMatches<'a>) -> Option<RunWords<'m, 'a>> {
+    /// The options that a command line of [`RUN`] was given, with these files, which are worked in this way.
+    fn given(matches: &ArgMatches<'a>, files: &'m [&'a str], way: Way) -> Option<RunWords<'m, 'a>>
+        ensures files { IfSome result (λ words. words.files ≡ files.entry) }
+        ensures way { IfSome result (λ words. words.way ≡ way) }
+    {
         Some(RunWords {
             who: StampWords::given(matches)?,
             from: matches.get_str("from"),
             to: matches.get_str("to"),
-            way: Way::given(matches),
+            way,
             no_clobber: matches.get_flag("no-clobber"),
             verbose: matches.get_flag("verbose"),
-            files: matches.get_strs("FILE")?,
+            files,
         })
     }
 
+    /// What is wrong with them and a list of files, if anything is.
+    fn list_fault(&self, alloc: Global) -> Result<Option<WordsFault>, Memory>
+        ensures { IfOk result (λ fault. fault ≡ list_fault self.now.who.society.now self.now.who.name.now self.now.who.date.now self.now.who.time.now
+            (map (λ file. file.now) self.now.files.now)
+            (option_map (λ word. word.now) self.now.from) (option_map (λ word. word.now) self.now.to)) }
+    {
+        match self.who.fault() {
+            Some(fault) => Ok(Some(WordsFault::Run(fault))),
+            None => files_fault(alloc, self.files, self.from, self.to),
+        }
+    }
+
     /// What is wrong with them, if anything is.
-    pub(crate) fn fault(&self) -> Option<WordsFault>
+    fn fault(&self) -> Option<WordsFault>
         ensures { result ≡ words_fault self.now.who.society.now self.now.who.name.now self.now.who.date.now self.now.who.time.now
             (map (λ file. file.now) self.now.files.now)
             (option_map (λ word. word.now) self.now.from) (option_map (λ word. word.now) self.now.to) }
@@ -184,19 +215,41 @@ impl<'m, 'a> RunWords<'m, 'a> {
     }
 }
 
-/// The options of a run, if nothing is wrong with them. Else the fault is printed on standard error, and its status
-/// returned.
+/// The options of a run on the files of the command line, if nothing is wrong with them. Else the fault is printed on
+/// standard error, and its status returned.
 pub(crate) fn right_words<'m, 'a, R: Eprint>(
     rt: &R,
     matches: &'m ArgMatches<'a>,
 ) -> Result<RunWords<'m, 'a>, ExitCode>
-    ensures few { IfOk result (λ words. length words.files.now < 64) }
+    ensures few { IfOk result (λ words. words.way ≡ Way.AtOnce → length words.files.now < 64) }
 {
-    let Some(words) = RunWords::given(matches) else {
+    let Some(files) = matches.get_strs("FILE") else {
+        return Err(bad_words(rt, "the command line is not taken"));
+    };
+    let Some(words) = RunWords::given(matches, files, Way::given(matches)) else {
         return Err(bad_words(rt, "the command line is not taken"));
     };
     match words.fault() {
         None => Ok(words),
         Some(fault) => Err(bad_words(rt, fault.text())),
+    }
+}
+
+/// The options of a run on the files of a list, if nothing is wrong with them. Else the fault is printed on standard
+/// error, and its status returned.
+pub(crate) fn right_listed_words<'m, 'a, R: AllocGlobal + Eprint>(
+    rt: &R,
+    matches: &ArgMatches<'a>,
+    files: &'m [&'a str],
+) -> Result<RunWords<'m, 'a>, ExitCode>
+    ensures few { IfOk result (λ words. words.way ≡ Way.AtOnce → length words.files.now < 64) }
+{
+    let Some(words) = RunWords::given(matches, files, Way::of_list(matches)) else {
+        return Err(bad_words(rt, "the command line is not taken"));
+    };
+    match words.list_fault(rt.alloc()) {
+        Ok(None) => Ok(words),
+        Ok(Some(fault)) => Err(bad_words(rt, fault.text())),
+        Err(Memory) => Err(no_memory(rt)),
     }
 }

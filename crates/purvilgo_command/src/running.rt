@@ -4,25 +4,23 @@ ghost use Rattle.std.specs.Prelude.{◌≡◌, ◌<◌, ◌≤◌, All, IfOk, fa
 ghost use Rattle.work_registry.specs.Replay.{is_opening};
 
 use crate::files::InputFile;
-use crate::keeping::{Waiting, keep_run};
-use crate::messages::print_outcome;
+use crate::keeping::{Waiting, drop_drafts, keep_run};
+use crate::listed_files::given_list;
 use crate::output::OutputFile;
-use crate::printing::StandardOutput;
 use crate::registers::{locked_register, opening_book};
-use crate::run_command::{RunWords, Way, right_words};
+use crate::run_command::{RunWords, Way, right_listed_words, right_words};
 use crate::same_files::is_one_file_twice;
 use crate::status::{bad_words, no_memory, status_of};
 use crate::targets::Targets;
+use crate::told_outcomes::OutcomePrinter;
 use atomic_file::{Exclusive, FileNames};
 use clap::ArgMatches;
 use cwr_desk::{
-    Book, FileOutcome, Job, OpenGate, Run, Sink, Source, outcome_line, serve, serve_in_order,
-    serve_in_turn,
+    Book, Job, OpenGate, Run, RunListener, Sink, Source, serve, serve_all, serve_all_in_turn,
 };
 use cwr_field::Memory;
 use cwr_record::Stamp;
 use run_options::WordsFault;
-use std::alloc::Global;
 use std::fs;
 use std::process::ExitCode;
 use std::rt::Files;
@@ -30,17 +28,17 @@ use std::sync::Wait;
 use std::thread::Threads;
 
 /// Acknowledges the given files, all at one book: each by a worker on a thread of its own, or, if the options ask for
-/// it, in their order, with threads or without.
+/// it or the files come from a list, in their order, with threads or without.
 ///
 /// The acknowledgements are drafts until all workers have ended and the register, if one is asked for, is on disk under
 /// its name. If the register cannot be kept, they are removed. A run that writes a register holds its lock.
 ///
-/// How each job ended is printed on standard output. The status is 0 if all files were acknowledged, and all of it was
-/// printed and kept.
+/// How each job ended is printed on standard output: once all have ended, or, in order and in turn, as each group of 63
+/// has. The status is 0 if all files were acknowledged, and all of it was printed and kept.
 ///
 /// A worker on another thread may call what the runtime does with files only if both its types may go there:
 /// directories too, though none is opened.
-pub(crate) fn run_files<R: AllocGlobal + Print + Eprint + Files + Threads + Wait + Sync>(
+pub(crate) fn run_files<R: AllocGlobal + Input + Print + Eprint + Files + Threads + Wait + Sync>(
     rt: &R,
     matches: &ArgMatches,
 ) -> ExitCode
@@ -48,7 +46,30 @@ where
     R::File: Send + Exclusive,
     R::Dir: Send,
 {
-    match right_words(rt, matches) {
+    match given_list(rt, matches) {
+        Ok(None) => match right_words(rt, matches) {
+            Ok(words) => run_words(rt, &words),
+            Err(status) => status,
+        },
+        Ok(Some(list)) => match list.names(rt) {
+            Ok(names) => run_listed(rt, matches, &names),
+            Err(status) => status,
+        },
+        Err(status) => status,
+    }
+}
+
+/// Acknowledges the files of a list, as `run_files` does.
+fn run_listed<R: AllocGlobal + Print + Eprint + Files + Threads + Wait + Sync>(
+    rt: &R,
+    matches: &ArgMatches,
+    names: &[&str],
+) -> ExitCode
+where
+    R::File: Send + Exclusive,
+    R::Dir: Send,
+{
+    match right_listed_words(rt, matches, names) {
         Ok(words) => run_words(rt, &words),
         Err(status) => status,
     }
@@ -63,7 +84,7 @@ fn run_words<R: AllocGlobal + Print + Eprint + Files + Threads + Wait + Sync>(
 where
     R::File: Send + Exclusive,
     R::Dir: Send,
-    requires few { length words.now.files.now < 64 }
+    requires few { words.now.way ≡ Way.AtOnce → length words.now.files.now < 64 }
 {
     let Some(stamp) = words.stamp() else {
         return bad_words(rt, "the words name no stamp");
@@ -112,7 +133,7 @@ fn run_at<R: AllocGlobal + Print + Eprint + Files + Threads + Wait + Sync>(
 where
     R::File: Send,
     R::Dir: Send,
-    requires few { length words.now.files.now < 64 }
+    requires few { words.now.way ≡ Way.AtOnce → length words.now.files.now < 64 }
     requires opening { is_opening book.history ≡ true }
 {
     let Ok(waiting) = Waiting::room_for(rt.alloc(), words.files.len()) else {
@@ -121,74 +142,78 @@ where
     let Ok(jobs) = jobs_of(rt, words.files, &targets.answers, words) else {
         return no_memory(rt);
     };
-    match serve_jobs(rt, rt.alloc(), words.way, jobs, book, stamp) {
-        Some(run) => end_run(rt, words, targets, run, waiting),
-        None => no_memory(rt),
+    let printer = OutcomePrinter::new(rt, words);
+    match serve_jobs(rt, words.way, jobs, book, stamp, &printer) {
+        Ok(run) => {
+            let kept = keep_run(rt, &run.book, run.jobs, waiting, targets, words);
+            status_of(printer.are_all_told() && kept)
+        }
+        Err(jobs) => {
+            drop_drafts(rt, jobs);
+            no_memory(rt)
+        }
     }
 }
 
-/// Works jobs at a book, in one of the three ways. If there is no memory, none is worked.
+/// Works jobs at a book, in one of the three ways, and tells `listener` how they ended. If there is no memory, the jobs
+/// come back, of which some may be worked.
 ///
-/// `rt` starts threads and waits, and `alloc` allocates. `way` is one of the three ways, in which `jobs` are worked
-/// into `book`, and `stamp` is that of the acknowledgements.
-fn serve_jobs<T: Threads + Wait + Sync, I: Source + Send + Drop, O: Sink + Send + Drop>(
+/// `rt` starts threads, waits and allocates. `way` is one of the three ways, in which `jobs` are worked into `book`, and
+/// `stamp` is that of the acknowledgements.
+fn serve_jobs<
+    T: AllocGlobal + Threads + Wait + Sync,
+    I: Source + Send + Drop,
+    O: Sink + Send + Drop,
+    L: RunListener,
+>(
     rt: &T,
-    alloc: Global,
     way: Way,
     jobs: Vec<Job<I, O>>,
     book: Book,
     stamp: &Stamp,
-) -> Option<Run<I, O>>
+    listener: &L,
+) -> Result<Run<I, O>, Vec<Job<I, O>>>
+    requires few { way ≡ Way.AtOnce → vec_len jobs < 64 }
+    requires opening { is_opening book.history ≡ true }
+    requires works { All (λ j. (I.has_failed j.reader ≡ false) × (O.has_failed j.writer ≡ false)) jobs.items }
+{
+    let alloc = rt.alloc();
+    let served = match way {
+        Way::AtOnce => return serve_at_once(rt, jobs, book, stamp, listener),
+        Way::InOrder => serve_all(rt, alloc, jobs, book, stamp, listener),
+        Way::InTurn => serve_all_in_turn(alloc, jobs, book, stamp, listener),
+    };
+    match served {
+        Ok(run) => Ok(run),
+        Err(cut) => Err(cut.jobs),
+    }
+}
+
+/// Works jobs at a book, all at once, and tells `listener` how they ended. If there is no memory, none is worked, and
+/// the jobs come back.
+fn serve_at_once<
+    T: AllocGlobal + Threads + Wait + Sync,
+    I: Source + Send + Drop,
+    O: Sink + Send + Drop,
+    L: RunListener,
+>(
+    rt: &T,
+    jobs: Vec<Job<I, O>>,
+    book: Book,
+    stamp: &Stamp,
+    listener: &L,
+) -> Result<Run<I, O>, Vec<Job<I, O>>>
     requires few { vec_len jobs < 64 }
     requires opening { is_opening book.history ≡ true }
     requires works { All (λ j. (I.has_failed j.reader ≡ false) × (O.has_failed j.writer ≡ false)) jobs.items }
 {
-    let served = match way {
-        Way::AtOnce => serve(rt, alloc, jobs, book, stamp, &OpenGate),
-        Way::InOrder => serve_in_order(rt, alloc, jobs, book, stamp),
-        Way::InTurn => serve_in_turn(alloc, jobs, book, stamp),
-    };
-    match served {
-        Ok(run) => Some(run),
-        Err(_) => None,
+    match serve(rt, rt.alloc(), jobs, book, stamp, &OpenGate) {
+        Ok(run) => {
+            listener.ended(0, &run.outcomes);
+            Ok(run)
+        }
+        Err(refused) => Err(refused.jobs),
     }
-}
-
-/// Prints how the jobs of a run ended, and keeps what they left.
-///
-/// `rt` is the runtime, and `words` has the options. `targets` has the names of the files that the run writes, `run` is
-/// what the jobs left, and `waiting` an empty list for their acknowledgements.
-fn end_run<'a, I: Drop, R: AllocGlobal + Print + Eprint + Files + Threads + Sync>(
-    rt: &'a R,
-    words: &RunWords,
-    targets: &'a Targets,
-    run: Run<I, OutputFile<'a, R>>,
-    waiting: Waiting<'a>,
-) -> ExitCode
-where
-    R::File: Send,
-    R::Dir: Send,
-{
-    let Run {
-        book,
-        outcomes,
-        jobs,
-    } = run;
-    let told = print_run(rt, words, &outcomes);
-    let kept = keep_run(rt, &book, jobs, waiting, targets, words);
-    status_of(told && kept)
-}
-
-/// Prints how each job ended, and returns whether all are acknowledged and printed.
-fn print_run<R: AllocGlobal + Print + Eprint>(
-    rt: &R,
-    words: &RunWords,
-    outcomes: &[FileOutcome],
-) -> bool {
-    if words.verbose {
-        print_unacknowledged(rt, words.files, outcomes);
-    }
-    print_outcomes(rt, words.files, outcomes)
 }
 
 /// Prints on standard error which acknowledgements exist, and whether the register does, if it may replace no file.
@@ -243,54 +268,5 @@ fn job_of<'a, R: AllocGlobal + Eprint + Files>(
     Job {
         reader: InputFile::new(rt, file, words.verbose),
         writer: OutputFile::new(rt, answer, !words.no_clobber, words.verbose),
-    }
-}
-
-/// Prints on standard error how each job ended whose file is not acknowledged. If an allocation fails, nothing is
-/// printed.
-fn print_unacknowledged<R: AllocGlobal + Eprint>(rt: &R, files: &[&str], outcomes: &[FileOutcome]) {
-    for (file, outcome) in files.iter().zip(outcomes) {
-        if !is_acknowledged(outcome) {
-            if let Ok(name) = format!(in rt.alloc(); "{file}: ended") {
-                print_outcome(rt, &name, outcome);
-            }
-        }
-    }
-}
-
-/// Prints on standard output how each job ended, and returns whether all are acknowledged and printed.
-///
-/// A line for which there is no memory is left out.
-fn print_outcomes<R: AllocGlobal + Print + Eprint>(
-    rt: &R,
-    files: &[&str],
-    outcomes: &[FileOutcome],
-) -> bool {
-    let mut out = StandardOutput::of(rt);
-    let mut all = true;
-    for (file, outcome) in files.iter().zip(outcomes) {
-        let told = put_outcome(rt.alloc(), &mut out, file, outcome);
-        all = all && told && is_acknowledged(outcome);
-    }
-    all
-}
-
-/// Prints how a job ended, and returns whether that was printed.
-fn put_outcome<R: Print + Eprint>(
-    alloc: Global,
-    out: &mut StandardOutput<R>,
-    file: &str,
-    outcome: &FileOutcome,
-) -> bool {
-    match outcome_line(alloc, file.as_bytes(), outcome) {
-        Ok(line) => out.put(&line),
-        Err(_) => false,
-    }
-}
-
-fn is_acknowledged(outcome: &FileOutcome) -> bool {
-    match outcome {
-        FileOutcome::Acked { transactions: _ } => true,
-        FileOutcome::Refused { .. } | FileOutcome::Stopped { .. } => false,
     }
 }

@@ -3,6 +3,7 @@
 use crate::targets::Targets;
 use atomic_file::FileNames;
 use cwr_field::Memory;
+use indexmap::IndexMap;
 use std::alloc::Global;
 use std::fs::{self, Metadata};
 use std::io::ErrorKind;
@@ -14,14 +15,14 @@ use std::rt::Files;
 const HERE: &str = ".";
 
 /// An existing file or directory: its device, and its number on it.
-#[derive(Clone, Copy, PartialEq, Eq)]
+#[derive(Clone, Copy, PartialEq, Eq, Hash)]
 struct Node {
     device: u64,
     number: u64,
 }
 
 /// Where a name leads.
-#[derive(PartialEq, Eq, Drop)]
+#[derive(PartialEq, Eq, Hash, Drop)]
 enum FileIdentity {
     /// To an existing file.
     Taken(Node),
@@ -32,12 +33,17 @@ enum FileIdentity {
 }
 
 impl FileIdentity {
-    /// Whether both lead to one file.
-    fn is_one_with(&self, other: &FileIdentity) -> bool {
+    /// Whether the system says where the name leads.
+    fn is_known(&self) -> bool {
         match self {
             FileIdentity::Unprinted => false,
-            FileIdentity::Taken(_) | FileIdentity::Free(_, _) => self == other,
+            FileIdentity::Taken(_) | FileIdentity::Free(_, _) => true,
         }
+    }
+
+    /// Whether both lead to one file.
+    fn is_one_with(&self, other: &FileIdentity) -> bool {
+        self.is_known() && self == other
     }
 }
 
@@ -85,19 +91,45 @@ impl Written {
     fn has(&self, place: &FileIdentity) -> bool {
         is_among(place, &self.files) || is_among(place, &self.drafts)
     }
+}
 
-    /// Whether two of them are one place, or two of their drafts, or the draft of one and another.
-    fn is_twice(&self) -> bool {
-        is_twice(&self.files) || is_twice(&self.drafts) || self.has_draft_of_another()
+/// Some places, none of which is one with another: of each its position among them.
+#[derive(Drop)]
+struct Positions<'p> {
+    of_places: IndexMap<&'p FileIdentity, usize>,
+}
+
+impl<'p> Positions<'p> {
+    /// Those of these places, or `None` where two of them are one.
+    fn of(alloc: Global, places: &'p [FileIdentity]) -> Result<Option<Positions<'p>>, Memory> {
+        let mut of_places = IndexMap::with_capacity(alloc, places.len())?;
+        for (position, place) in places.iter().enumerate() {
+            if place.is_known() && of_places.insert(place, position)?.is_some() {
+                return Ok(None);
+            }
+        }
+        Ok(Some(Positions { of_places }))
     }
 
-    /// Whether the draft of one of them is another of them.
-    fn has_draft_of_another(&self) -> bool {
-        for (index, draft) in self.drafts.iter().enumerate() {
-            for (other, file) in self.files.iter().enumerate() {
-                if index != other && draft.is_one_with(file) {
-                    return true;
-                }
+    /// Whether one of some other places is among them.
+    fn have_any(&self, others: &[FileIdentity]) -> bool {
+        for other in others {
+            if self.of_places.get(&other).is_some() {
+                return true;
+            }
+        }
+        false
+    }
+
+    /// Whether one of some other places is among them, at another position than there.
+    fn have_any_elsewhere(&self, others: &[FileIdentity]) -> bool {
+        for (position, other) in others.iter().enumerate() {
+            if self
+                .of_places
+                .get(&other)
+                .is_some_and(|found| *found != position)
+            {
+                return true;
             }
         }
         false
@@ -119,7 +151,7 @@ pub(crate) fn is_one_file_twice<'a, R: AllocGlobal + Files>(
     targets: &'a Targets,
 ) -> Result<bool, Memory> {
     let places = FileIdentities::of(rt, files, from, targets)?;
-    Ok(places.has_one_twice())
+    places.has_one_twice(rt.alloc())
 }
 
 /// Whether both words are given, and lead to one file.
@@ -169,14 +201,26 @@ impl FileIdentities {
         })
     }
 
-    /// Whether the run would write over what it reads, or twice over one of them.
-    fn has_one_twice(&self) -> bool {
-        self.answers_its_register()
+    /// Whether the run would write over what it reads, or twice over one of them. The time that it takes grows as the
+    /// number of files does.
+    fn has_one_twice(&self, alloc: Global) -> Result<bool, Memory> {
+        if self.answers_its_register()
             || self.locks_another()
-            || are_crossed(&self.read, &self.written.files)
-            || are_crossed(&self.read, &self.written.drafts)
             || is_among(&self.begun, &self.written.drafts)
-            || self.written.is_twice()
+        {
+            return Ok(true);
+        }
+        let Some(files) = Positions::of(alloc, &self.written.files)? else {
+            return Ok(true);
+        };
+        let Some(drafts) = Positions::of(alloc, &self.written.drafts)? else {
+            return Ok(true);
+        };
+        Ok(
+            files.have_any(&self.read)
+                || drafts.have_any(&self.read)
+                || files.have_any_elsewhere(&self.written.drafts),
+        )
     }
 
     /// Whether the register that the run begins with is one of the acknowledgements.
@@ -191,26 +235,6 @@ impl FileIdentities {
             || is_among(&self.lock, &self.read)
             || self.written.has(&self.lock)
     }
-}
-
-/// Whether two of the places, at different positions, are one.
-fn is_twice(places: &[FileIdentity]) -> bool {
-    for (index, place) in places.iter().enumerate() {
-        if is_among(place, &places[index + 1..]) {
-            return true;
-        }
-    }
-    false
-}
-
-/// Whether a place is both one of some and one of others.
-fn are_crossed(places: &[FileIdentity], others: &[FileIdentity]) -> bool {
-    for place in places {
-        if is_among(place, others) {
-            return true;
-        }
-    }
-    false
 }
 
 /// Whether a place is one of some others.

@@ -1,9 +1,10 @@
 //! Files and their acknowledgements against a register.
 
-use crate::arguments::{Argument, CommandWords};
+use crate::arguments::{Argument, CommandWords, FILES_FROM};
 use crate::file_names::ack_name;
-use crate::files::{InputFile, whole_file};
+use crate::files::{InputFile, STANDARD_INPUT, whole_file};
 use crate::help::VERIFY_HELP;
+use crate::listed_files::given_list;
 use crate::printing::StandardOutput;
 use crate::registers::{MAX_REGISTER_BYTES, REGISTER, audited_book};
 use crate::status::{bad_words, no_memory, status_of};
@@ -15,7 +16,7 @@ use std::process::ExitCode;
 use std::rt::Files;
 use work_registry::Book;
 
-/// `verify [--ack ACK] [--verbose] REGISTER FILE..`.
+/// `verify [--ack ACK] [--verbose] REGISTER FILE..`. In place of FILE there may be `--files-from LIST [--null]`.
 pub(crate) const VERIFY: CommandWords = CommandWords {
     name: "verify",
     about: "Checks a register against files and their acknowledgements",
@@ -27,6 +28,8 @@ pub(crate) const VERIFY: CommandWords = CommandWords {
             "ACK",
             "the acknowledgement of one FILE, in place of FILE.ack",
         ),
+        Argument::FilesFrom("FILE"),
+        Argument::Null("FILE"),
         Argument::Verbose,
     ],
     more: VERIFY_HELP,
@@ -49,8 +52,27 @@ pub(crate) fn verify_files<R: AllocGlobal + Input + Print + Eprint + Files>(
     register: &str,
     given: &ArgMatches,
 ) -> ExitCode {
+    if register == STANDARD_INPUT && given.get_str(FILES_FROM) == Some(STANDARD_INPUT) {
+        return bad_words(rt, "standard input is named twice");
+    }
+    match given_list(rt, given) {
+        Ok(None) => verify_named(rt, register, given, given.get_strs("FILE").unwrap_or(&[])),
+        Ok(Some(list)) => match list.names(rt) {
+            Ok(names) => verify_named(rt, register, given, &names),
+            Err(status) => status,
+        },
+        Err(status) => status,
+    }
+}
+
+/// Checks the files of these names against a register, as `verify_files` does.
+fn verify_named<R: AllocGlobal + Input + Print + Eprint + Files>(
+    rt: &R,
+    register: &str,
+    given: &ArgMatches,
+    names: &[&str],
+) -> ExitCode {
     let verbose = given.get_flag("verbose");
-    let names = given.get_strs("FILE").unwrap_or(&[]);
     let ack = given.get_str("ack");
     if ack.is_some() && names.len() != 1 {
         return bad_words(rt, "--ack goes with one FILE alone");
