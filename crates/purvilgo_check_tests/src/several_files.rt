@@ -200,3 +200,34 @@ fn stops_where_standard_output_fails(rt: HostRuntime) -> Result<(), Fail> {
         ],
     )
 }
+
+/// In a list `-` is a file of that name.
+#[test]
+fn tells_the_files_of_a_list(rt: HostRuntime) -> Result<(), Fail> {
+    let ok = "00001 00000000 NWR ok\n1 transactions, 0 with faults\n";
+    expect_play(
+        &rt,
+        &[
+            ("./-", Given::Holds(Text::Plain)),
+            ("refused", Given::Holds(Text::Miscounted)),
+            ("list", Given::Holds(Text::Bytes(b"-\nrefused\nabsent"))),
+            ("one", Given::Holds(Text::Bytes(b"-\0"))),
+            ("gap", Given::Holds(Text::Bytes(b"\n"))),
+        ],
+        &[],
+        &[
+            Step::of(&["check", "--files-from", "list"])
+                .ends(1)
+                .prints(
+                    "-: 00001 00000000 NWR ok\n\
+-: 1 transactions, 0 with faults\n\
+refused: refused F9 at line 5\n",
+                )
+                .complains("absent: stopped: read\n"),
+            Step::of(&["check", "--null", "--files-from", "one"]).prints(ok),
+            Step::of(&["check", "--files-from", "gap"])
+                .ends(2)
+                .complains("gap: line 1: an empty name\n"),
+        ],
+    )
+}

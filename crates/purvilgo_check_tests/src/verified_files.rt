@@ -92,3 +92,29 @@ fn takes_another_acknowledgement(rt: HostRuntime) -> Result<(), Fail> {
         ],
     )
 }
+
+#[test]
+fn verifies_the_files_of_a_list(rt: HostRuntime) -> Result<(), Fail> {
+    expect_play(
+        &rt,
+        &[
+            ("register", Given::Holds(Text::Bytes(REGISTER))),
+            ("a", Given::Holds(Text::Plain)),
+            ("a.ack", Given::Holds(Text::Answer("AS"))),
+            ("list", Given::Holds(Text::Bytes(b"a\n"))),
+        ],
+        &[],
+        &[
+            Step::of(&["verify", "register", "--files-from", "list"]).prints(
+                "1 transactions of 1 files\n",
+            ),
+            Step::of(&["verify", "--files-from", "-", "register"])
+                .reads(Text::Bytes(b"a\na"))
+                .ends(1)
+                .prints("a: group 1, transaction 0: not in the register as a.ack has it\n"),
+            Step::of(&["verify", "--files-from", "-", "-"])
+                .ends(2)
+                .complains("standard input is named twice\n"),
+        ],
+    )
+}

@@ -8,6 +8,8 @@ mod given_words;
 #[cfg(test)]
 mod help_pages;
 #[cfg(test)]
+mod listed_files;
+#[cfg(test)]
 mod option_runs;
 #[cfg(test)]
 mod other_words;

@@ -19,6 +19,8 @@ mod large_files;
 #[cfg(test)]
 mod limits;
 #[cfg(test)]
+mod listed_runs;
+#[cfg(test)]
 mod names_taken;
 #[cfg(test)]
 mod runs;

@@ -232,10 +232,10 @@ const NO_FILE: &str =
     "error: the following required arguments were not provided:\n  <FILE>...\n\nUsage: purvilgo run --society <NNN> --name <TEXT> --date <YYYYMMDD> --time <HHMMSS> <FILE>...\n\nFor more information, try '--help'.\n";
 
 const FROM_TWICE: &str =
-    "error: the argument '--from <REGISTER>' cannot be used multiple times\n\nUsage: purvilgo run [OPTIONS] --society <NNN> --name <TEXT> --date <YYYYMMDD> --time <HHMMSS> <FILE>...\n\nFor more information, try '--help'.\n";
+    "error: the argument '--from <REGISTER>' cannot be used multiple times\n\nUsage: purvilgo run [OPTIONS] --society <NNN> --name <TEXT> --date <YYYYMMDD> --time <HHMMSS> [FILE]...\n\nFor more information, try '--help'.\n";
 
 const TO_TWICE: &str =
-    "error: the argument '--to <REGISTER>' cannot be used multiple times\n\nUsage: purvilgo run [OPTIONS] --society <NNN> --name <TEXT> --date <YYYYMMDD> --time <HHMMSS> <FILE>...\n\nFor more information, try '--help'.\n";
+    "error: the argument '--to <REGISTER>' cannot be used multiple times\n\nUsage: purvilgo run [OPTIONS] --society <NNN> --name <TEXT> --date <YYYYMMDD> --time <HHMMSS> [FILE]...\n\nFor more information, try '--help'.\n";
 
 #[test]
 fn tells_how_a_run_is_called(rt: HostRuntime) -> Result<(), Fail> {
