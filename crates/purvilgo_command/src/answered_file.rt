@@ -1,6 +1,7 @@
 //! The acknowledgement of a file, made again from a register.
 
 use crate::arguments::{Argument, CommandWords};
+use crate::error_terminal::ErrorTerminal;
 use crate::files::{InputFile, whole_file};
 use crate::help::ANSWER_HELP;
 use crate::printing::StandardOutput;
@@ -54,7 +55,7 @@ struct Asked<'a> {
 
 /// Makes the acknowledgement of a file again from a register, on standard output. The register `-` is standard input.
 /// If there is no acknowledgement, the reason is printed on standard error.
-pub(crate) fn answer_file<R: AllocGlobal + Input + Print + Eprint + Files>(
+pub(crate) fn answer_file<R: AllocGlobal + Input + Print + ErrorTerminal + Files>(
     rt: &R,
     register: &str,
     given: &ArgMatches,
@@ -86,7 +87,7 @@ fn asked_of<'a>(given: &ArgMatches<'a>) -> Result<Asked<'a>, &'static str> {
 
 /// The same for a register and options that are right. If there is no acknowledgement, the reason is printed, and its
 /// status returned.
-fn answer_asked<R: AllocGlobal + Input + Print + Eprint + Files>(
+fn answer_asked<R: AllocGlobal + Input + Print + ErrorTerminal + Files>(
     rt: &R,
     register: &str,
     asked: &Asked,
@@ -108,7 +109,7 @@ fn answer_asked<R: AllocGlobal + Input + Print + Eprint + Files>(
 }
 
 /// The book of a register. If there is none, the reason is printed on standard error.
-fn book_in<R: AllocGlobal + Input + Eprint + Files>(
+fn book_in<R: AllocGlobal + Input + ErrorTerminal + Files>(
     rt: &R,
     register: &str,
     verbose: bool,
@@ -124,7 +125,10 @@ fn book_in<R: AllocGlobal + Input + Eprint + Files>(
 }
 
 /// The bytes of the file. If they cannot be read, the reason is printed on standard error.
-fn text_of<R: AllocGlobal + Eprint + Files>(rt: &R, asked: &Asked) -> Result<Vec<u8>, ExitCode> {
+fn text_of<R: AllocGlobal + ErrorTerminal + Files>(
+    rt: &R,
+    asked: &Asked,
+) -> Result<Vec<u8>, ExitCode> {
     let mut file = InputFile::new(rt, asked.file, asked.verbose);
     match whole_file(rt.alloc(), &mut file) {
         Ok(bytes) => Ok(bytes),

@@ -1,11 +1,13 @@
 //! What the rules say of a file, before it is sent.
 
 use crate::arguments::{Argument, CommandWords};
+use crate::error_terminal::ErrorTerminal;
 use crate::files::{Reading, bytes_of, read_named};
 use crate::help::CHECK_HELP;
 use crate::listed_files::{given_list, path_of};
 use crate::page_of_check::check_as_page;
 use crate::printing::StandardOutput;
+use crate::progress::Progress;
 use crate::status::{bad_words, status_of};
 use byte_streams::{ReadRefused, Source};
 use clap::ArgMatches;
@@ -17,6 +19,7 @@ use cwr_remarks::{
     remarked_long,
 };
 use cwr_source::WINDOW;
+use progress_text::Counted;
 use std::alloc::Global;
 use std::process::ExitCode;
 use std::rt::Files;
@@ -93,7 +96,7 @@ enum Ended {
 /// for. If there are several files each line begins with the file's name. A file that is not checked stops no other.
 ///
 /// The status is 0 if all of them are clean and that was printed. If standard output fails no more files are read.
-pub(crate) fn check_files<R: AllocGlobal + Input + Print + Eprint + Files>(
+pub(crate) fn check_files<R: AllocGlobal + Input + Print + ErrorTerminal + Files>(
     rt: &R,
     given: &ArgMatches,
 ) -> ExitCode {
@@ -108,7 +111,7 @@ pub(crate) fn check_files<R: AllocGlobal + Input + Print + Eprint + Files>(
 }
 
 /// Checks the files of these names, as `check_files` does. `listed` says whether the names come from a list.
-fn check_named<R: AllocGlobal + Input + Print + Eprint + Files>(
+fn check_named<R: AllocGlobal + Input + Print + ErrorTerminal + Files>(
     rt: &R,
     given: &ArgMatches,
     names: &[&str],
@@ -143,34 +146,46 @@ fn form_of(given: &ArgMatches) -> CheckForm {
 }
 
 /// Checks files, and returns whether all of them are clean, and that was printed.
-fn are_clean<R: AllocGlobal + Input + Print + Eprint + Files>(
+fn are_clean<R: AllocGlobal + Input + Print + ErrorTerminal + Files>(
     rt: &R,
     names: &[&str],
     manner: Manner,
 ) -> bool {
     let mut out = StandardOutput::of(rt);
+    let progress = Progress::of(rt, Counted::Files, names.len(), manner.verbose);
     let mut clean = true;
     for name in names {
-        match check_file(rt, &mut out, name, manner) {
+        match check_file(rt, &mut out, name, manner, &progress) {
             Ended::Clean => {}
             Ended::Faulty => clean = false,
             Ended::Unprinted => return false,
         }
+        progress.add(1);
     }
+    progress.clear();
     clean
 }
 
 /// Checks a file, or standard input for `-`.
-fn check_file<R: AllocGlobal + Input + Print + Eprint + Files>(
+///
+/// `rt` is the runtime, and `out` standard output. `name` is that of the file, and `manner` says how it is checked and
+/// what is printed of it. The line of `progress` gives way to what is printed.
+fn check_file<R: AllocGlobal + Input + Print + ErrorTerminal + Files>(
     rt: &R,
     out: &mut StandardOutput<'_, R>,
     name: &str,
     manner: Manner,
+    progress: &Progress<R>,
 ) -> Ended {
     match checked_file(rt, name, manner) {
-        Ok(checked) => print_check(out, &checked),
+        Ok(checked) => {
+            if !checked.text.is_empty() {
+                progress.clear();
+            }
+            print_check(out, &checked)
+        }
         Err(unread) => {
-            print_unread(rt, name, manner, unread);
+            print_unread(progress.cleared(), name, manner, unread);
             Ended::Faulty
         }
     }
@@ -187,7 +202,7 @@ fn print_unread<R: Eprint>(rt: &R, name: &str, manner: Manner, unread: ReadRefus
 
 /// The text that is printed of a file. For the short form the file goes through a window. For the others all of it is
 /// in memory until it is checked.
-fn checked_file<R: AllocGlobal + Input + Eprint + Files>(
+fn checked_file<R: AllocGlobal + Input + ErrorTerminal + Files>(
     rt: &R,
     name: &str,
     manner: Manner,

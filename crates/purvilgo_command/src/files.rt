@@ -3,7 +3,9 @@
 ghost use Rattle.std.specs.Prelude.{◌≡◌, ◌<◌, ◌≤◌, ◌↔◌, true, false, None, length, vec_len, IfOk, IfSome, IsErrOf};
 ghost use Rattle.cwr_engine.specs.Account.{max_file_bytes};
 
+use crate::error_terminal::ErrorTerminal;
 use crate::messages::print_reason;
+use crate::progress::Progress;
 use byte_streams::{Failed, ReadCount, ReadRefused, Source, Through, read_file};
 use cwr_desk::MAX_BYTES;
 use std::alloc::Global;
@@ -25,26 +27,32 @@ pub(crate) trait Reading {
 }
 
 /// Reads a file, or standard input where the name is `-`.
-pub(crate) fn read_named<R: AllocGlobal + Input + Eprint + Files, T: Reading>(
+pub(crate) fn read_named<R: AllocGlobal + Input + ErrorTerminal + Files, T: Reading>(
     rt: &R,
     name: &str,
     verbose: bool,
     reading: T,
 ) -> T::Made {
     if name == STANDARD_INPUT {
-        let reader = StandardInput {
-            rt,
-            reader: rt.reader(),
-            verbose,
-        };
-        reading.read(&mut Through::new(reader))
+        reading.read(&mut standard_input(rt, verbose))
     } else {
         reading.read(&mut InputFile::new(rt, name, verbose))
     }
 }
 
+/// Standard input as a source.
+pub(crate) fn standard_input<R: Input>(rt: &R, verbose: bool) -> Through<StandardInput<'_, R>>
+    ensures { result.has_failed ≡ false }
+{
+    Through::new(StandardInput {
+        rt,
+        reader: rt.reader(),
+        verbose,
+    })
+}
+
 /// The bytes of a CWR file, or of standard input where the name is `-`: at most 16,777,216.
-pub(crate) fn bytes_of<R: AllocGlobal + Input + Eprint + Files>(
+pub(crate) fn bytes_of<R: AllocGlobal + Input + ErrorTerminal + Files>(
     rt: &R,
     name: &str,
     verbose: bool,
@@ -79,7 +87,7 @@ impl Reading for Whole {
 
 /// Standard input. If it cannot be read, the reason is printed on standard error, if that is asked for.
 #[derive(Drop)]
-struct StandardInput<'a, R: Input> {
+pub(crate) struct StandardInput<'a, R: Input> {
     rt: &'a R,
     reader: R::Reader,
     verbose: bool,
@@ -114,9 +122,11 @@ pub(crate) struct InputFile<'a, R: Files> {
     ended: bool,
     failed: bool,
     reads: ReadCount,
+    /// Where it is told that it is done, until it is.
+    progress: Option<&'a Progress<'a, R>>,
 }
 
-impl<'a, R: AllocGlobal + Eprint + Files> InputFile<'a, R> {
+impl<'a, R: AllocGlobal + ErrorTerminal + Files> InputFile<'a, R> {
     /// The file of this name, which is not opened yet.
     pub(crate) fn new(rt: &'a R, path: &'a str, verbose: bool) -> InputFile<'a, R>
         ensures { result.failed ≡ false }
@@ -130,6 +140,26 @@ impl<'a, R: AllocGlobal + Eprint + Files> InputFile<'a, R> {
             ended: false,
             failed: false,
             reads: ReadCount::zero(),
+            progress: None,
+        }
+    }
+
+    /// The same file, which is a step of this work once it was read to its end, or failed.
+    pub(crate) fn step_of(self, progress: &'a Progress<'a, R>) -> InputFile<'a, R>
+        ensures { result.failed ≡ self.failed }
+    {
+        let mut file = self;
+        file.progress = Some(progress);
+        file
+    }
+
+    /// Tells that it is done, unless that was told.
+    fn tell_done(&mut self)
+        ensures reads { self.new.reads ≡ self.old.reads }
+        ensures failed { self.new.failed ≡ self.old.failed }
+    {
+        if let Some(progress) = self.progress.take() {
+            progress.add(1);
         }
     }
 
@@ -191,18 +221,23 @@ impl<'a, R: AllocGlobal + Eprint + Files> InputFile<'a, R> {
     {
         self.file = None;
         self.ended = true;
+        self.tell_done();
     }
 
     /// Reports why it failed.
-    fn fail(&self, error: &io::Error) -> Failed {
+    fn fail(&mut self, error: &io::Error) -> Failed
+        ensures reads { self.new.reads ≡ self.old.reads }
+        ensures failed { self.new.failed ≡ self.old.failed }
+    {
         if self.verbose {
             print_reason(self.rt, self.path, error);
         }
+        self.tell_done();
         Failed
     }
 }
 
-impl<R: AllocGlobal + Eprint + Files> Source for InputFile<'_, R> {
+impl<R: AllocGlobal + ErrorTerminal + Files> Source for InputFile<'_, R> {
     ghost left = { λ _. None };
 
     ghost reads = { λ s. s.reads };

@@ -1,6 +1,7 @@
 //! The files of a command, as words or from a list of their names.
 
 use crate::arguments::{FILES_FROM, NULL};
+use crate::error_terminal::ErrorTerminal;
 use crate::files::{Reading, STANDARD_INPUT, read_named};
 use crate::status::{BAD_WORDS, no_memory};
 use byte_streams::{ReadRefused, Source, read_file};
@@ -24,7 +25,7 @@ pub(crate) struct FileList<'a> {
 
 /// The list of files that a command is given, if it is given one; `-` is standard input. If it cannot be read, the
 /// reason is printed on standard error, and its status returned.
-pub(crate) fn given_list<'a, R: AllocGlobal + Input + Eprint + Files>(
+pub(crate) fn given_list<'a, R: AllocGlobal + Input + ErrorTerminal + Files>(
     rt: &R,
     given: &ArgMatches<'a>,
 ) -> Result<Option<FileList<'a>>, ExitCode> {

@@ -1,5 +1,6 @@
 //! What the rules say of a file, as a page of HTML.
 
+use crate::error_terminal::ErrorTerminal;
 use crate::files::{STANDARD_INPUT, bytes_of};
 use crate::listed_files::path_of;
 use crate::printing::StandardOutput;
@@ -13,7 +14,7 @@ use std::rt::Files;
 /// The status is 0 if the file is clean and its whole page was printed, 2 if `names` has not one name alone, and else 1.
 /// A file that cannot be read has no page. After a failed allocation or write the page may have no end. `listed` says
 /// whether the names come from a list.
-pub(crate) fn check_as_page<R: AllocGlobal + Input + Print + Eprint + Files>(
+pub(crate) fn check_as_page<R: AllocGlobal + Input + Print + ErrorTerminal + Files>(
     rt: &R,
     names: &[&str],
     listed: bool,

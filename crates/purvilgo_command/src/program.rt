@@ -1,6 +1,7 @@
 use crate::answered_file::answer_file;
 use crate::checking::check_files;
 use crate::command_line::command_line;
+use crate::error_terminal::ErrorTerminal;
 use crate::explain::explain_rules;
 use crate::given_words::given_words;
 use crate::messages::print_outcome;
@@ -46,9 +47,9 @@ use std::thread::Threads;
 /// for, a word of `explain` names no page, the value of an option is not valid, those of `run` or `answer` have a
 /// [`WordsFault`](run_options::WordsFault), or those of `run` lead to a file of the system that it would write over
 /// what it reads, or twice. Else it is 1, also if an allocation for the words fails.
-pub fn run_program<R: Env + AllocGlobal + Input + Print + Eprint + Files + Threads + Wait + Sync>(
-    rt: &R,
-) -> ExitCode
+pub fn run_program<
+    R: Env + AllocGlobal + Input + Print + ErrorTerminal + Files + Threads + Wait + Sync,
+>(rt: &R) -> ExitCode
 where
     R::File: Send + Exclusive,
     R::Dir: Send,
@@ -80,7 +81,7 @@ fn print_clap_error<R: Print + Eprint>(rt: &R, error: &clap::Error) -> ExitCode 
 }
 
 /// Runs the command that the words name, or without words the one that has no name.
-fn run_given<R: AllocGlobal + Input + Print + Eprint + Files + Threads + Wait + Sync>(
+fn run_given<R: AllocGlobal + Input + Print + ErrorTerminal + Files + Threads + Wait + Sync>(
     rt: &R,
     matches: &ArgMatches,
 ) -> ExitCode
@@ -96,7 +97,7 @@ where
 }
 
 /// Runs a command that prints something, and leaves no file.
-fn run_printing_command<R: AllocGlobal + Input + Print + Eprint + Files>(
+fn run_printing_command<R: AllocGlobal + Input + Print + ErrorTerminal + Files>(
     rt: &R,
     name: &str,
     given: &ArgMatches,
@@ -113,7 +114,7 @@ fn run_printing_command<R: AllocGlobal + Input + Print + Eprint + Files>(
 }
 
 /// Runs a command that prints something of a register.
-fn run_register_command<R: AllocGlobal + Input + Print + Eprint + Files>(
+fn run_register_command<R: AllocGlobal + Input + Print + ErrorTerminal + Files>(
     rt: &R,
     name: &str,
     path: &str,

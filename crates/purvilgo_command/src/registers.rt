@@ -7,15 +7,19 @@ ghost use Rattle.work_registry.specs.Register.{IsAudited};
 ghost use Rattle.work_registry.specs.Replay.{is_opening};
 
 use crate::arguments::{Argument, CommandWords};
+use crate::error_terminal::ErrorTerminal;
 use crate::file_names::has_draft;
-use crate::files::{InputFile, Reading, read_named};
+use crate::files::{InputFile, Reading};
 use crate::help::AUDIT_HELP;
 use crate::messages::print_reason;
 use crate::printing::{StandardOutput, is_printed};
+use crate::progress::Progress;
 use crate::status::{no_memory, status_of};
+use crate::watched_register::{WatchedRegister, read_register};
 use atomic_file::{CallFailed, Exclusive, FileNames, lock};
 use byte_streams::Source;
 use clap::ArgMatches;
+use progress_text::Counted;
 pub use register_store::MAX_REGISTER_BYTES;
 use register_store::{REGISTER_WINDOW, ReadBookError, audit_source, new_book, read_book};
 use register_tables::{Audited, audit_json};
@@ -46,7 +50,7 @@ pub(crate) const REGISTER: Argument = Argument::Word(
 
 /// The book that a run begins with: an empty one, or that of a register. A refused register is reported on standard
 /// error.
-pub(crate) fn opening_book<R: AllocGlobal + Eprint + Files>(
+pub(crate) fn opening_book<R: AllocGlobal + ErrorTerminal + Files>(
     rt: &R,
     from: Option<&str>,
     verbose: bool,
@@ -61,11 +65,15 @@ pub(crate) fn opening_book<R: AllocGlobal + Eprint + Files>(
 }
 
 /// The book of a register. A refused register is reported on standard error.
-fn book_in<R: AllocGlobal + Eprint + Files>(rt: &R, path: &str, verbose: bool) -> Option<Book>
+fn book_in<R: AllocGlobal + ErrorTerminal + Files>(
+    rt: &R,
+    path: &str,
+    verbose: bool,
+) -> Option<Book>
     ensures opening { IfSome result (λ book. is_opening book.history ≡ true) }
     ensures limit { IfSome result (λ book. book.limit ≡ max_entries) }
 {
-    match read_book(rt.alloc(), &mut InputFile::new(rt, path, verbose)) {
+    match book_of_file(rt, path, verbose) {
         Ok(book) => {
             print_read(rt, path, &book, verbose);
             Some(book)
@@ -75,6 +83,22 @@ fn book_in<R: AllocGlobal + Eprint + Files>(rt: &R, path: &str, verbose: bool) -
             None
         }
     }
+}
+
+/// The book of the register in the file of this name.
+fn book_of_file<R: AllocGlobal + ErrorTerminal + Files>(
+    rt: &R,
+    path: &str,
+    verbose: bool,
+) -> Result<Book, ReadBookError>
+    ensures opening { IfOk result (λ book. is_opening book.history ≡ true) }
+    ensures limit { IfOk result (λ book. book.limit ≡ max_entries) }
+{
+    let progress = Progress::of(rt, Counted::Entries, 0, verbose);
+    let file = InputFile::new(rt, path, verbose);
+    let book = read_book(rt.alloc(), &mut WatchedRegister::new(file, &progress));
+    progress.clear();
+    book
 }
 
 /// Prints on standard error the number of entries of a register that was read, if that is asked for.
@@ -158,14 +182,14 @@ fn print_lock_error<R: AllocGlobal + Eprint + Files>(rt: &R, name: &str) {
 
 /// Prints on standard output the number of entries of a register, or its first fault. The register `-` is standard
 /// input.
-pub(crate) fn audit_file<R: AllocGlobal + Input + Print + Eprint + Files>(
+pub(crate) fn audit_file<R: AllocGlobal + Input + Print + ErrorTerminal + Files>(
     rt: &R,
     path: &str,
     given: &ArgMatches,
 ) -> ExitCode {
     let as_json = given.get_flag("json");
     let audit = Audit { alloc: rt.alloc() };
-    match read_named(rt, path, given.get_flag("verbose"), audit) {
+    match read_register(rt, path, given.get_flag("verbose"), audit) {
         Ok(entries) => print_entries(rt, entries, as_json),
         Err(why) => print_no_book(rt, why, as_json),
     }
@@ -181,7 +205,7 @@ fn print_entries<R: AllocGlobal + Print + Eprint>(rt: &R, entries: u64, as_json:
 }
 
 /// The book of a register; `-` is standard input. If there is none, the reason is printed as an audit prints it.
-pub(crate) fn audited_book<R: AllocGlobal + Input + Print + Eprint + Files>(
+pub(crate) fn audited_book<R: AllocGlobal + Input + Print + ErrorTerminal + Files>(
     rt: &R,
     path: &str,
     verbose: bool,
@@ -194,12 +218,12 @@ pub(crate) fn audited_book<R: AllocGlobal + Input + Print + Eprint + Files>(
 }
 
 /// The book of a register; `-` is standard input.
-pub(crate) fn named_book<R: AllocGlobal + Input + Eprint + Files>(
+pub(crate) fn named_book<R: AllocGlobal + Input + ErrorTerminal + Files>(
     rt: &R,
     path: &str,
     verbose: bool,
 ) -> Result<Book, ReadBookError> {
-    read_named(rt, path, verbose, Opening { alloc: rt.alloc() })
+    read_register(rt, path, verbose, Opening { alloc: rt.alloc() })
 }
 
 /// Prints why a register has no book: on standard output its first fault, as JSON if that is asked for, and on standard

@@ -3,10 +3,12 @@
 ghost use Rattle.std.specs.Prelude.{◌≡◌, ◌<◌, ◌≤◌, All, IfOk, false, true, length, vec_len};
 ghost use Rattle.work_registry.specs.Replay.{is_opening};
 
+use crate::error_terminal::ErrorTerminal;
 use crate::files::InputFile;
 use crate::keeping::{Waiting, drop_drafts, keep_run};
 use crate::listed_files::given_list;
 use crate::output::OutputFile;
+use crate::progress::Progress;
 use crate::registers::{locked_register, opening_book};
 use crate::run_command::{RunWords, Way, right_listed_words, right_words};
 use crate::same_files::is_one_file_twice;
@@ -20,6 +22,7 @@ use cwr_desk::{
 };
 use cwr_field::Memory;
 use cwr_record::Stamp;
+use progress_text::Counted;
 use run_options::WordsFault;
 use std::fs;
 use std::process::ExitCode;
@@ -38,10 +41,9 @@ use std::thread::Threads;
 ///
 /// A worker on another thread may call what the runtime does with files only if both its types may go there:
 /// directories too, though none is opened.
-pub(crate) fn run_files<R: AllocGlobal + Input + Print + Eprint + Files + Threads + Wait + Sync>(
-    rt: &R,
-    matches: &ArgMatches,
-) -> ExitCode
+pub(crate) fn run_files<
+    R: AllocGlobal + Input + Print + ErrorTerminal + Files + Threads + Wait + Sync,
+>(rt: &R, matches: &ArgMatches) -> ExitCode
 where
     R::File: Send + Exclusive,
     R::Dir: Send,
@@ -60,7 +62,7 @@ where
 }
 
 /// Acknowledges the files of a list, as `run_files` does.
-fn run_listed<R: AllocGlobal + Print + Eprint + Files + Threads + Wait + Sync>(
+fn run_listed<R: AllocGlobal + Print + ErrorTerminal + Files + Threads + Wait + Sync>(
     rt: &R,
     matches: &ArgMatches,
     names: &[&str],
@@ -77,7 +79,7 @@ where
 
 /// Acknowledges the files of a run whose options are right, and writes the register. Nothing is done if files are in
 /// the way, or another run has the register.
-fn run_words<R: AllocGlobal + Print + Eprint + Files + Threads + Wait + Sync>(
+fn run_words<R: AllocGlobal + Print + ErrorTerminal + Files + Threads + Wait + Sync>(
     rt: &R,
     words: &RunWords,
 ) -> ExitCode
@@ -99,7 +101,10 @@ where
         return ExitCode::FAILURE;
     };
     match opening_book(rt, words.from, words.verbose) {
-        Some(book) => run_at(rt, words, &stamp, &targets, book),
+        Some(book) => {
+            let progress = Progress::of(rt, Counted::Files, words.files.len(), words.verbose);
+            run_at(&progress, words, &stamp, &targets, book)
+        }
         None => ExitCode::FAILURE,
     }
 }
@@ -121,13 +126,13 @@ fn refusal_of<R: AllocGlobal + Eprint + Files>(
 
 /// Acknowledges the files of a run at a book, all of whose entries are of the opening.
 ///
-/// `rt` is the runtime, and `words` has the options. `stamp` is that of the acknowledgements, which go to `targets`,
-/// and `book` is the one that the run begins with.
-fn run_at<R: AllocGlobal + Print + Eprint + Files + Threads + Wait + Sync>(
-    rt: &R,
-    words: &RunWords,
+/// `progress` has the runtime, and tells how many files are done. `words` has the options. `stamp` is that of the
+/// acknowledgements, which go to `targets`, and `book` is the one that the run begins with.
+fn run_at<'a, R: AllocGlobal + Print + ErrorTerminal + Files + Threads + Wait + Sync>(
+    progress: &'a Progress<'a, R>,
+    words: &'a RunWords,
     stamp: &Stamp,
-    targets: &Targets,
+    targets: &'a Targets,
     book: Book,
 ) -> ExitCode
 where
@@ -136,14 +141,17 @@ where
     requires few { words.now.way ≡ Way.AtOnce → length words.now.files.now < 64 }
     requires opening { is_opening book.history ≡ true }
 {
+    let rt = progress.runtime();
     let Ok(waiting) = Waiting::room_for(rt.alloc(), words.files.len()) else {
         return no_memory(rt);
     };
-    let Ok(jobs) = jobs_of(rt, words.files, &targets.answers, words) else {
+    let Ok(jobs) = jobs_of(progress, words.files, &targets.answers, words) else {
         return no_memory(rt);
     };
-    let printer = OutcomePrinter::new(rt, words);
-    match serve_jobs(rt, words.way, jobs, book, stamp, &printer) {
+    let printer = OutcomePrinter::new(&progress, words);
+    let served = serve_jobs(rt, words.way, jobs, book, stamp, &printer);
+    progress.clear();
+    match served {
         Ok(run) => {
             let kept = keep_run(rt, &run.book, run.jobs, waiting, targets, words);
             status_of(printer.are_all_told() && kept)
@@ -238,10 +246,10 @@ fn is_taken<R: Eprint + Files>(rt: &R, names: &FileNames) -> bool {
     taken
 }
 
-/// A job for each file. `answers` has the names of the acknowledgements, one for each of `files` and in their order, and
-/// `words` has the options. Nothing is opened yet.
-fn jobs_of<'a, R: AllocGlobal + Eprint + Files>(
-    rt: &'a R,
+/// A job for each file, which are the steps of `progress`. `answers` has the names of the acknowledgements, one for each
+/// of `files` and in their order, and `words` has the options. Nothing is opened yet.
+fn jobs_of<'a, R: AllocGlobal + ErrorTerminal + Files>(
+    progress: &'a Progress<'a, R>,
     files: &'a [&'a str],
     answers: &'a [FileNames],
     words: &RunWords,
@@ -249,24 +257,25 @@ fn jobs_of<'a, R: AllocGlobal + Eprint + Files>(
     ensures few { IfOk result (λ jobs. vec_len jobs ≤ length files.now) }
     ensures works { IfOk result (λ jobs. All (λ j. (j.reader.failed ≡ false) × (j.writer.failed ≡ false)) jobs.items) }
 {
-    let mut jobs = Vec::with_capacity(rt.alloc(), files.len())?;
+    let mut jobs = Vec::with_capacity(progress.runtime().alloc(), files.len())?;
     for (file, answer) in files.iter().zip(answers) {
-        jobs.push(job_of(rt, file, answer, words))?;
+        jobs.push(job_of(progress, file, answer, words))?;
     }
     Ok(jobs)
 }
 
 /// The job of a file and its acknowledgement.
-fn job_of<'a, R: AllocGlobal + Eprint + Files>(
-    rt: &'a R,
+fn job_of<'a, R: AllocGlobal + ErrorTerminal + Files>(
+    progress: &'a Progress<'a, R>,
     file: &'a str,
     answer: &'a FileNames,
     words: &RunWords,
 ) -> Job<InputFile<'a, R>, OutputFile<'a, R>>
     ensures { (result.reader.failed ≡ false) × (result.writer.failed ≡ false) }
 {
+    let rt = progress.runtime();
     Job {
-        reader: InputFile::new(rt, file, words.verbose),
+        reader: InputFile::new(rt, file, words.verbose).step_of(progress),
         writer: OutputFile::new(rt, answer, !words.no_clobber, words.verbose),
     }
 }

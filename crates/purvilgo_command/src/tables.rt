@@ -1,6 +1,7 @@
 //! A register as tables, and its summary.
 
 use crate::arguments::{Argument, CommandWords};
+use crate::error_terminal::ErrorTerminal;
 use crate::help::{CLAIMS_HELP, HISTORY_HELP, SUMMARY_HELP, WORKS_HELP};
 use crate::page_of_check::name_shown;
 use crate::printing::StandardOutput;
@@ -126,7 +127,7 @@ impl Wish {
 }
 
 /// Prints a table of a register on standard output, or the register's first fault. The register `-` is standard input.
-pub(crate) fn print_table<R: AllocGlobal + Input + Print + Eprint + Files>(
+pub(crate) fn print_table<R: AllocGlobal + Input + Print + ErrorTerminal + Files>(
     rt: &R,
     table: Table,
     path: &str,
@@ -152,7 +153,7 @@ fn wish_of(table: Table, wanted: Wanted, given: &ArgMatches) -> Wish {
 
 /// Prints a summary of a register on standard output, or the register's first fault. The register `-` is standard
 /// input.
-pub(crate) fn print_summary<R: AllocGlobal + Input + Print + Eprint + Files>(
+pub(crate) fn print_summary<R: AllocGlobal + Input + Print + ErrorTerminal + Files>(
     rt: &R,
     path: &str,
     given: &ArgMatches,
@@ -170,7 +171,7 @@ pub(crate) fn print_summary<R: AllocGlobal + Input + Print + Eprint + Files>(
 }
 
 /// Reads a register, and prints the page of its summary.
-fn print_summary_page<R: AllocGlobal + Input + Print + Eprint + Files>(
+fn print_summary_page<R: AllocGlobal + Input + Print + ErrorTerminal + Files>(
     rt: &R,
     path: &str,
     verbose: bool,
@@ -187,7 +188,7 @@ fn print_summary_page<R: AllocGlobal + Input + Print + Eprint + Files>(
 }
 
 /// Reads a register, and prints what `wish` names of it.
-fn print_register<R: AllocGlobal + Input + Print + Eprint + Files>(
+fn print_register<R: AllocGlobal + Input + Print + ErrorTerminal + Files>(
     rt: &R,
     path: &str,
     verbose: bool,

@@ -1,7 +1,9 @@
 //! How the jobs of a run ended, printed as each group of them ends.
 
+use crate::error_terminal::ErrorTerminal;
 use crate::messages::print_outcome;
 use crate::printing::StandardOutput;
+use crate::progress::Progress;
 use crate::run_command::RunWords;
 use cwr_desk::{FileOutcome, RunListener, outcome_line};
 use std::alloc::Global;
@@ -9,8 +11,9 @@ use std::cell::Cell;
 
 /// Prints how each job ended, on standard output, and keeps whether all are acknowledged and printed.
 #[derive(Drop)]
-pub(crate) struct OutcomePrinter<'w, R> {
-    rt: &'w R,
+pub(crate) struct OutcomePrinter<'w, 'p, R> {
+    /// How far the run is, whose line gives way to what is printed.
+    progress: &'w Progress<'p, R>,
     /// The files of the jobs, in order.
     files: &'w [&'w str],
     /// Whether the reasons of jobs that are not acknowledged are printed on standard error first.
@@ -23,11 +26,14 @@ pub(crate) struct OutcomePrinter<'w, R> {
     all: Cell<bool>,
 }
 
-impl<'w, R: AllocGlobal + Print + Eprint> OutcomePrinter<'w, R> {
+impl<'w, 'p, R: AllocGlobal + Print + ErrorTerminal> OutcomePrinter<'w, 'p, R> {
     /// A printer for the jobs of the files of a run, none of which has ended.
-    pub(crate) fn new(rt: &'w R, words: &'w RunWords) -> OutcomePrinter<'w, R> {
+    pub(crate) fn new(
+        progress: &'w Progress<'p, R>,
+        words: &'w RunWords,
+    ) -> OutcomePrinter<'w, 'p, R> {
         OutcomePrinter {
-            rt,
+            progress,
             files: words.files,
             verbose: words.verbose,
             sent: Cell::new(0),
@@ -45,10 +51,11 @@ impl<'w, R: AllocGlobal + Print + Eprint> OutcomePrinter<'w, R> {
     ///
     /// A line for which there is no memory is left out.
     fn print_outcomes(&self, files: &[&str], outcomes: &[FileOutcome]) -> bool {
-        let mut out = StandardOutput::behind(self.rt, self.sent.get(), self.failed.get());
+        let rt = self.progress.cleared();
+        let mut out = StandardOutput::behind(rt, self.sent.get(), self.failed.get());
         let mut all = true;
         for (file, outcome) in files.iter().zip(outcomes) {
-            let told = put_outcome(self.rt.alloc(), &mut out, file, outcome);
+            let told = put_outcome(rt.alloc(), &mut out, file, outcome);
             all = all && told && is_acknowledged(outcome);
         }
         self.sent.set(out.sent());
@@ -57,11 +64,11 @@ impl<'w, R: AllocGlobal + Print + Eprint> OutcomePrinter<'w, R> {
     }
 }
 
-impl<R: AllocGlobal + Print + Eprint> RunListener for OutcomePrinter<'_, R> {
+impl<R: AllocGlobal + Print + ErrorTerminal> RunListener for OutcomePrinter<'_, '_, R> {
     fn ended(&self, first: usize, outcomes: &[FileOutcome]) {
         let files = self.files.get(first..).unwrap_or(&[]);
         if self.verbose {
-            print_unacknowledged(self.rt, files, outcomes);
+            print_unacknowledged(self.progress.cleared(), files, outcomes);
         }
         let all = self.print_outcomes(files, outcomes);
         self.all.set(self.all.get() && all);

@@ -1,16 +1,19 @@
 //! Files and their acknowledgements against a register.
 
 use crate::arguments::{Argument, CommandWords, FILES_FROM};
+use crate::error_terminal::ErrorTerminal;
 use crate::file_names::ack_name;
 use crate::files::{InputFile, STANDARD_INPUT, whole_file};
 use crate::help::VERIFY_HELP;
 use crate::listed_files::given_list;
 use crate::printing::StandardOutput;
+use crate::progress::Progress;
 use crate::registers::{MAX_REGISTER_BYTES, REGISTER, audited_book};
 use crate::status::{bad_words, no_memory, status_of};
 use byte_streams::{ReadRefused, read_file};
 use clap::ArgMatches;
 use cwr_verify::{ReadFile, ReadText, VerifyError, read_text, verify_read};
+use progress_text::Counted;
 use std::io::{self, Write};
 use std::process::ExitCode;
 use std::rt::Files;
@@ -47,7 +50,7 @@ struct Answer {
 ///
 /// The register `-` is standard input. A refused register is reported as an audit reports it. The acknowledgement of a
 /// single file may have another name than its own.
-pub(crate) fn verify_files<R: AllocGlobal + Input + Print + Eprint + Files>(
+pub(crate) fn verify_files<R: AllocGlobal + Input + Print + ErrorTerminal + Files>(
     rt: &R,
     register: &str,
     given: &ArgMatches,
@@ -66,7 +69,7 @@ pub(crate) fn verify_files<R: AllocGlobal + Input + Print + Eprint + Files>(
 }
 
 /// Checks the files of these names against a register, as `verify_files` does.
-fn verify_named<R: AllocGlobal + Input + Print + Eprint + Files>(
+fn verify_named<R: AllocGlobal + Input + Print + ErrorTerminal + Files>(
     rt: &R,
     register: &str,
     given: &ArgMatches,
@@ -88,37 +91,39 @@ fn verify_named<R: AllocGlobal + Input + Print + Eprint + Files>(
 ///
 /// `rt` is the runtime, `book` has the entries, and `names` are those of the files. `ack` is the name of the
 /// acknowledgement, if it is given. `verbose` says whether steps, and the system's reasons, are printed.
-fn verify_at<R: AllocGlobal + Print + Eprint + Files>(
+fn verify_at<R: AllocGlobal + Print + ErrorTerminal + Files>(
     rt: &R,
     book: &Book,
     names: &[&str],
     ack: Option<&str>,
     verbose: bool,
 ) -> ExitCode {
+    let progress = Progress::of(rt, Counted::Files, names.len(), verbose);
     let (mut texts, mut answers) = (Vec::new(rt.alloc()), Vec::new(rt.alloc()));
     for name in names {
-        match pair_of(rt, name, ack, verbose) {
+        match pair_of(&progress, name, ack, verbose) {
             Ok((text, answer)) => {
                 if texts.push(text).is_err() || answers.push(answer).is_err() {
-                    return no_memory(rt);
+                    return no_memory(progress.cleared());
                 }
             }
             Err(status) => return status,
         }
+        progress.add(1);
     }
-    verify_and_print(rt, book, names, texts, &answers)
+    verify_and_print(progress.cleared(), book, names, texts, &answers)
 }
 
-/// The file of this name, with its acknowledgement.
-fn pair_of<R: AllocGlobal + Eprint + Files>(
-    rt: &R,
+/// The file of this name, with its acknowledgement. The line of `progress` gives way to what is printed.
+fn pair_of<R: AllocGlobal + ErrorTerminal + Files>(
+    progress: &Progress<R>,
     name: &str,
     ack: Option<&str>,
     verbose: bool,
 ) -> Result<(ReadText, Answer), ExitCode> {
-    let answer = answer_to(rt, name, ack)?;
-    let text = judged_file(rt, name, verbose)?;
-    let bytes = acknowledgement_bytes(rt, &answer, verbose)?;
+    let answer = answer_to(progress, name, ack)?;
+    let text = judged_file(progress, name, verbose)?;
+    let bytes = acknowledgement_bytes(progress, &answer, verbose)?;
     Ok((
         text,
         Answer {
@@ -129,60 +134,63 @@ fn pair_of<R: AllocGlobal + Eprint + Files>(
 }
 
 /// The result of judging the file of this name.
-fn judged_file<R: AllocGlobal + Eprint + Files>(
-    rt: &R,
+fn judged_file<R: AllocGlobal + ErrorTerminal + Files>(
+    progress: &Progress<R>,
     name: &str,
     verbose: bool,
 ) -> Result<ReadText, ExitCode> {
+    let rt = progress.runtime();
     let mut file = InputFile::new(rt, name, verbose);
-    let text = bytes_or_status(rt, name, whole_file(rt.alloc(), &mut file))?;
+    let text = bytes_or_status(progress, name, whole_file(rt.alloc(), &mut file))?;
     match read_text(rt.alloc(), &text) {
         Ok(read) => Ok(read),
-        Err(_) => Err(no_memory(rt)),
+        Err(_) => Err(no_memory(progress.cleared())),
     }
 }
 
 /// The name of the acknowledgement of a file: the given one, if any is given.
-fn answer_to<R: AllocGlobal + Eprint>(
-    rt: &R,
+fn answer_to<R: AllocGlobal + ErrorTerminal>(
+    progress: &Progress<R>,
     name: &str,
     ack: Option<&str>,
 ) -> Result<String, ExitCode> {
+    let rt = progress.runtime();
     let answer = match ack {
         Some(ack) => format!(in rt.alloc(); "{ack}"),
         None => ack_name(rt, name),
     };
     match answer {
         Ok(answer) => Ok(answer),
-        Err(_) => Err(no_memory(rt)),
+        Err(_) => Err(no_memory(progress.cleared())),
     }
 }
 
 /// The bytes of an acknowledgement.
-fn acknowledgement_bytes<R: AllocGlobal + Eprint + Files>(
-    rt: &R,
+fn acknowledgement_bytes<R: AllocGlobal + ErrorTerminal + Files>(
+    progress: &Progress<R>,
     name: &str,
     verbose: bool,
 ) -> Result<Vec<u8>, ExitCode> {
+    let rt = progress.runtime();
     let mut file = InputFile::new(rt, name, verbose);
     bytes_or_status(
-        rt,
+        progress,
         name,
         read_file(rt.alloc(), &mut file, MAX_REGISTER_BYTES),
     )
 }
 
 /// The bytes of a file that was read. If it could not be, the reason is printed on standard error.
-fn bytes_or_status<R: Eprint>(
-    rt: &R,
+fn bytes_or_status<R: AllocGlobal + ErrorTerminal>(
+    progress: &Progress<R>,
     name: &str,
     read: Result<Vec<u8>, ReadRefused>,
 ) -> Result<Vec<u8>, ExitCode> {
     match read {
         Ok(bytes) => Ok(bytes),
-        Err(ReadRefused::Memory) => Err(no_memory(rt)),
+        Err(ReadRefused::Memory) => Err(no_memory(progress.cleared())),
         Err(unread) => {
-            let _ = eprintln!(rt; "{name}: stopped: {unread}");
+            let _ = eprintln!(progress.cleared(); "{name}: stopped: {unread}");
             Err(ExitCode::FAILURE)
         }
     }

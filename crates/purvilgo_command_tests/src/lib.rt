@@ -14,6 +14,8 @@ mod option_runs;
 #[cfg(test)]
 mod other_words;
 #[cfg(test)]
+mod progress;
+#[cfg(test)]
 mod refused_words;
 #[cfg(test)]
 mod same_files;

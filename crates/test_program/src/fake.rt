@@ -10,6 +10,7 @@ use std::fmt::Display;
 use std::fs::Metadata;
 use std::io;
 use std::process::ExitCode;
+use std::sync::atomic::AtomicU64;
 use std::sync::{Mutex, Wait};
 use std::test::Fail;
 use std::thread::Threads;
@@ -42,6 +43,10 @@ pub struct Fake<'a, T> {
     pub(crate) has_read: Mutex<bool>,
     /// The number of bytes that standard output takes before a write fails.
     pub(crate) takes: usize,
+    /// The milliseconds that pass from one look at the clock to the next, if standard error is a terminal.
+    pub(crate) terminal: Option<u64>,
+    /// How often the clock was looked at.
+    pub(crate) looks: AtomicU64,
     pub(crate) alloc: Global,
     pub(crate) printed: Mutex<Vec<u8>>,
     pub(crate) complained: Mutex<String>,
@@ -64,6 +69,8 @@ impl<'a, T: AllocGlobal> Fake<'a, T> {
             calls: None,
             has_read: Mutex::new(false),
             takes: usize::MAX,
+            terminal: None,
+            looks: AtomicU64::new(0),
             alloc,
             printed: Mutex::new(Vec::new(alloc)),
             complained: Mutex::new(String::new(alloc)),
@@ -89,6 +96,8 @@ impl<'a, T: AllocGlobal> Fake<'a, T> {
             calls,
             has_read,
             takes,
+            terminal,
+            looks,
             alloc,
             printed,
             complained,
@@ -106,6 +115,8 @@ impl<'a, T: AllocGlobal> Fake<'a, T> {
             calls,
             has_read,
             takes,
+            terminal,
+            looks,
             alloc,
             printed,
             complained,
@@ -131,6 +142,8 @@ impl<'a, T: AllocGlobal> Fake<'a, T> {
             calls,
             has_read,
             takes,
+            terminal,
+            looks,
             alloc,
             printed,
             complained,
@@ -148,6 +161,8 @@ impl<'a, T: AllocGlobal> Fake<'a, T> {
             calls,
             has_read,
             takes,
+            terminal,
+            looks,
             alloc,
             printed,
             complained,
@@ -173,6 +188,8 @@ impl<'a, T: AllocGlobal> Fake<'a, T> {
             calls: _,
             has_read,
             takes,
+            terminal,
+            looks,
             alloc,
             printed,
             complained,
@@ -190,6 +207,8 @@ impl<'a, T: AllocGlobal> Fake<'a, T> {
             calls: Some(&disk.calls),
             has_read,
             takes,
+            terminal,
+            looks,
             alloc,
             printed,
             complained,
@@ -200,6 +219,14 @@ impl<'a, T: AllocGlobal> Fake<'a, T> {
     pub fn taking(self, most: usize) -> Fake<'a, T> {
         let mut fake = self;
         fake.takes = most;
+        fake
+    }
+
+    /// The same runtime, whose standard error is a terminal. From one look at the clock to the next so many milliseconds
+    /// pass.
+    pub fn at_terminal(self, pace: u64) -> Fake<'a, T> {
+        let mut fake = self;
+        fake.terminal = Some(pace);
         fake
     }
 
@@ -225,6 +252,8 @@ impl<'a, T: AllocGlobal> Fake<'a, T> {
             calls: _,
             has_read: _,
             takes: _,
+            terminal: _,
+            looks: _,
             alloc: _,
             printed,
             complained,

@@ -2,6 +2,7 @@
 
 use crate::fake::Fake;
 use crate::fake_files::{FakeFile, NO_SUCH_FILE, unsupported};
+use purvilgo_command::ErrorTerminal;
 use std::alloc::{Allocator, Global};
 use std::env::FillError;
 use std::fmt::Display;
@@ -10,7 +11,9 @@ use std::io::{self, BufRead, ErrorKind};
 use std::path::PathBuf;
 use std::rt::{Env, Files};
 use std::sync::Wait;
+use std::sync::atomic::Ordering;
 use std::thread::Threads;
+use std::time::{Clock, Duration};
 
 /// What stands behind the name of a register in that of its lock.
 const LOCK: &str = ".lock";
@@ -95,6 +98,27 @@ impl<T> Eprint for Fake<'_, T> {
 
     fn eprintln<D: Display + Drop>(&self, value: D) -> io::Result<()> {
         self.complain(value, "\n")
+    }
+}
+
+impl<T> Clock for Fake<'_, T> {
+    /// Time passes with each look alone.
+    fn monotonic(&self) -> io::Result<Duration> {
+        let Some(pace) = self.terminal else {
+            return Err(io::Error::from(ErrorKind::Unsupported));
+        };
+        let looks = self.looks.fetch_add(1, Ordering::SeqCst);
+        Ok(Duration::from_millis(looks.saturating_mul(pace)))
+    }
+
+    fn since_1970(&self) -> io::Result<Duration> {
+        unsupported()
+    }
+}
+
+impl<T> ErrorTerminal for Fake<'_, T> {
+    fn is_error_terminal(&self) -> bool {
+        self.terminal.is_some()
     }
 }
 

@@ -5,6 +5,7 @@
 
 use crate::fake::Fake;
 use crate::fake_files::FakeFile;
+use purvilgo_command::ErrorTerminal;
 use std::alloc::{Allocator, Global};
 use std::env::FillError;
 use std::fmt::Display;
@@ -15,6 +16,7 @@ use std::rt::{Env, Files};
 use std::sync::Wait;
 use std::sync::atomic::{AtomicU64, Ordering};
 use std::thread::{Threads, yield_now};
+use std::time::{Clock, Duration};
 
 /// The runtime, the workers that must come, and those that came.
 pub struct Meeting<'a, T> {
@@ -135,6 +137,22 @@ impl<T> Eprint for Meeting<'_, T> {
 
     fn eprintln<D: Display + Drop>(&self, value: D) -> io::Result<()> {
         self.fake.eprintln(value)
+    }
+}
+
+impl<T> Clock for Meeting<'_, T> {
+    fn monotonic(&self) -> io::Result<Duration> {
+        self.fake.monotonic()
+    }
+
+    fn since_1970(&self) -> io::Result<Duration> {
+        self.fake.since_1970()
+    }
+}
+
+impl<T> ErrorTerminal for Meeting<'_, T> {
+    fn is_error_terminal(&self) -> bool {
+        self.fake.is_error_terminal()
     }
 }
 
