@@ -146,7 +146,7 @@ impl<'a, R: AllocGlobal + ErrorTerminal + Files> InputFile<'a, R> {
 
     /// The same file, which is a step of this work once it was read to its end, or failed.
     pub(crate) fn step_of(self, progress: &'a Progress<'a, R>) -> InputFile<'a, R>
-        ensures { result.failed ≡ self.failed }
+        ensures { result.failed ≡ self.entry.failed }
     {
         let mut file = self;
         file.progress = Some(progress);
