@@ -19,7 +19,6 @@ use cwr_remarks::{
     remarked_long,
 };
 use cwr_source::WINDOW;
-use progress_text::Counted;
 use std::alloc::Global;
 use std::process::ExitCode;
 use std::rt::Files;
@@ -152,7 +151,7 @@ fn are_clean<R: AllocGlobal + Input + Print + ErrorTerminal + Files>(
     manner: Manner,
 ) -> bool {
     let mut out = StandardOutput::of(rt);
-    let progress = Progress::of(rt, Counted::Files, names.len(), manner.verbose);
+    let progress = Progress::of_files(rt, names.len(), manner.verbose);
     let mut clean = true;
     for name in names {
         match check_file(rt, &mut out, name, manner, &progress) {

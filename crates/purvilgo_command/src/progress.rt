@@ -42,9 +42,20 @@ struct Line {
 }
 
 impl<'a, R: AllocGlobal + ErrorTerminal> Progress<'a, R> {
-    /// Work that begins now, on `total` of what is counted, if that is known yet. With `verbose`, nothing is told of it.
-    pub(crate) fn of(rt: &'a R, counted: Counted, total: usize, verbose: bool) -> Progress<'a, R> {
-        let start = if !verbose && rt.is_error_terminal() {
+    /// The reading of a register that begins now. With `verbose`, nothing is told of it.
+    pub(crate) fn of_register(rt: &'a R, verbose: bool) -> Progress<'a, R> {
+        Progress::begun(rt, Counted::Entries, 0, !verbose)
+    }
+
+    /// Work on so many files that begins now. With `verbose`, nothing is told of it, and nothing of a single file.
+    pub(crate) fn of_files(rt: &'a R, files: usize, verbose: bool) -> Progress<'a, R> {
+        Progress::begun(rt, Counted::Files, files, !verbose && files > 1)
+    }
+
+    /// Work that begins now. `rt` is the runtime, `counted` says what is counted, and `total` how many there are, or is 0.
+    /// `wanted` says whether anything is told of it.
+    fn begun(rt: &'a R, counted: Counted, total: usize, wanted: bool) -> Progress<'a, R> {
+        let start = if wanted && rt.is_error_terminal() {
             Instant::now(rt).ok()
         } else {
             None

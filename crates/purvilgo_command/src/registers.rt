@@ -19,7 +19,6 @@ use crate::watched_register::{WatchedRegister, read_register};
 use atomic_file::{CallFailed, Exclusive, FileNames, lock};
 use byte_streams::Source;
 use clap::ArgMatches;
-use progress_text::Counted;
 pub use register_store::MAX_REGISTER_BYTES;
 use register_store::{REGISTER_WINDOW, ReadBookError, audit_source, new_book, read_book};
 use register_tables::{Audited, audit_json};
@@ -94,7 +93,7 @@ fn book_of_file<R: AllocGlobal + ErrorTerminal + Files>(
     ensures opening { IfOk result (λ book. is_opening book.history ≡ true) }
     ensures limit { IfOk result (λ book. book.limit ≡ max_entries) }
 {
-    let progress = Progress::of(rt, Counted::Entries, 0, verbose);
+    let progress = Progress::of_register(rt, verbose);
     let file = InputFile::new(rt, path, verbose);
     let book = read_book(rt.alloc(), &mut WatchedRegister::new(file, &progress));
     progress.clear();

@@ -22,7 +22,6 @@ use cwr_desk::{
 };
 use cwr_field::Memory;
 use cwr_record::Stamp;
-use progress_text::Counted;
 use run_options::WordsFault;
 use std::fs;
 use std::process::ExitCode;
@@ -102,7 +101,7 @@ where
     };
     match opening_book(rt, words.from, words.verbose) {
         Some(book) => {
-            let progress = Progress::of(rt, Counted::Files, words.files.len(), words.verbose);
+            let progress = Progress::of_files(rt, words.files.len(), words.verbose);
             run_at(&progress, words, &stamp, &targets, book)
         }
         None => ExitCode::FAILURE,

@@ -13,7 +13,6 @@ use crate::status::{bad_words, no_memory, status_of};
 use byte_streams::{ReadRefused, read_file};
 use clap::ArgMatches;
 use cwr_verify::{ReadFile, ReadText, VerifyError, read_text, verify_read};
-use progress_text::Counted;
 use std::io::{self, Write};
 use std::process::ExitCode;
 use std::rt::Files;
@@ -98,7 +97,7 @@ fn verify_at<R: AllocGlobal + Print + ErrorTerminal + Files>(
     ack: Option<&str>,
     verbose: bool,
 ) -> ExitCode {
-    let progress = Progress::of(rt, Counted::Files, names.len(), verbose);
+    let progress = Progress::of_files(rt, names.len(), verbose);
     let (mut texts, mut answers) = (Vec::new(rt.alloc()), Vec::new(rt.alloc()));
     for name in names {
         match pair_of(&progress, name, ack, verbose) {

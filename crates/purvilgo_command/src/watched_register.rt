@@ -7,7 +7,6 @@ use crate::files::{InputFile, Reading, STANDARD_INPUT, standard_input};
 use crate::progress::Progress;
 use byte_streams::{Failed, Source};
 use cwr_field::{cut, digits};
-use progress_text::Counted;
 use std::rt::Files;
 
 /// Reads a register, or standard input where the name is `-`, and tells how far it is read.
@@ -17,7 +16,7 @@ pub(crate) fn read_register<R: AllocGlobal + Input + ErrorTerminal + Files, T: R
     verbose: bool,
     reading: T,
 ) -> T::Made {
-    let progress = Progress::of(rt, Counted::Entries, 0, verbose);
+    let progress = Progress::of_register(rt, verbose);
     let made = if name == STANDARD_INPUT {
         reading.read(&mut WatchedRegister::new(standard_input(rt, verbose), &progress))
     } else {

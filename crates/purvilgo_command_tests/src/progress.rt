@@ -34,7 +34,7 @@ fn tells_how_far_a_register_is_read(rt: HostRuntime) -> Result<(), Fail> {
 }
 
 /// Three files are checked, each for 300 milliseconds. The first one ends too soon to be told of, and the line gives way
-/// to what is printed of the third.
+/// to what is printed of the third. Nothing is told of a single file.
 #[test]
 fn tells_how_many_files_are_checked(rt: HostRuntime) -> Result<(), Fail> {
     let plain = plain_file(rt.alloc())?;
@@ -43,13 +43,22 @@ fn tells_how_many_files_are_checked(rt: HostRuntime) -> Result<(), Fail> {
         ("b", FakeFile::Holds(&plain)),
         ("c", FakeFile::Broken),
     ];
-    let words = ["purvilgo", "check", "--quiet", "a", "b", "c"];
-    let fake = Fake::new(&rt, &words, b"")
-        .with_files(&files, &[])
-        .at_terminal(300);
-    let told =
+    let line =
         "\r2 of 3 files, 1 second left\x1b[K\r\x1b[Kc: stopped: read\n\r3 of 3 files\x1b[K\r\x1b[K";
-    expect_program(fake, ExitCode::FAILURE, b"", told)
+    for (words, pace, told) in [
+        (
+            &["purvilgo", "check", "--quiet", "a", "b", "c"][..],
+            300,
+            line,
+        ),
+        (&["purvilgo", "check", "c"][..], 6000, "stopped: read\n"),
+    ] {
+        let fake = Fake::new(&rt, words, b"")
+            .with_files(&files, &[])
+            .at_terminal(pace);
+        expect_program(fake, ExitCode::FAILURE, b"", told)?;
+    }
+    Ok(())
 }
 
 /// Two files are worked, each for a minute and a half.
