@@ -34,8 +34,7 @@ pub trait Sink {
     fn end_text(&mut self)
         ensures bytes { taken self.new ≡ taken self.old }
         ensures fails { has_failed self.new ≡ has_failed self.old }
-    {
-    }
+    {}
 }
 
 /// A text that did not go out completely: a write failed or took nothing after the first `sent` bytes of the text.

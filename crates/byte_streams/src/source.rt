@@ -39,6 +39,5 @@ pub trait Source {
         ensures bytes { left self.new ≡ left self.old }
         ensures counted { reads self.new ≡ reads self.old }
         ensures fails { has_failed self.new ≡ has_failed self.old }
-    {
-    }
+    {}
 }
