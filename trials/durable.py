@@ -2,11 +2,12 @@
 """Ends runs of a program in every way, and looks at what is there: durable.py PROGRAM
 
 The runs go from a register to the same one, with files that have acknowledgements of an earlier run and one that has none.
-They are killed before each of their system calls (by strace), and at random times; they find the disk full (a small
-tmpfs), a file that may not be written, links, devices; and two of them come at once. Whatever happens, the register is the
-old one or the whole new one, byte for byte and by `audit`, and an acknowledgement is the old one, or the whole new one
-whose decisions the register holds; of one that was cut the draft has the first bytes that its outcome line tells. What is
-expected is worked out here from the profile. Prints a table, and fails at the first thing that is otherwise."""
+Some take their files from a list, and so in groups. They are killed before each of their system calls (by strace), and at
+random times; they find the disk full (a small tmpfs), a file that may not be written, links, devices; and two of them come
+at once. Whatever happens, the register is the old one or the whole new one, byte for byte and by `audit`, and an
+acknowledgement is the old one, or the whole new one whose decisions the register holds; of one that was cut the draft has
+the first bytes that its outcome line tells. What is expected is worked out here from the profile. Prints a table, and fails
+at the first thing that is otherwise."""
 import collections
 import contextlib
 import os
@@ -26,14 +27,18 @@ from expected import Decided, acknowledgement, entry, register
 from many import check_digit, submission
 
 SECONDS = 60
+LISTED = ["--files-from", "names"]
 STAMP = ["--society", "007", "--name", "SOCIETY", "--date", "20240601", "--time", "090000"]
 CREATED = b"20240501120000"
 OLD_ACK = b"AN OLD ACKNOWLEDGEMENT\n"
 NOBODY = 65534
 KILLS = int(os.environ.get("KILLS", "200"))
 ROUNDS_OF_TWO = 50
-# Calls of which a thread makes now more, now fewer: as it waits, or finds that it need not.
-UNEVEN = {"futex", "madvise", "mprotect", "munmap", "sched_yield"}
+# Drafts are put on the disk by threads, of which one does now more, now fewer: a run in which none has made a call as often
+# as it is to be killed is made again.
+TURNS = 20
+# Calls of which a thread makes now more, now fewer: as it waits, or finds that it need not, or starts another one.
+UNEVEN = {"futex", "madvise", "mprotect", "munmap", "rt_sigprocmask", "sched_yield"}
 
 # A register before a run, by its entries; the files of the run, by name, with their transactions; and its words.
 Case = collections.namedtuple("Case", "opening files words")
@@ -62,11 +67,12 @@ def decided(transaction, work):
     return Decided(submitter, 1, place, b"NWR", title, number, iswc, [10_000] * 3, b"AS", work, 1, ())
 
 
-def a_case(opening, files, works, *options):
-    """A run of some files of so many works each, from a register of so many entries."""
+def a_case(opening, files, works, *options, listed=False):
+    """A run of some files of so many works each, from a register of so many entries. Its files are words, or listed in
+    the file `names`."""
     before = [decided(made, work) for work, made in enumerate(transactions(99, opening), 1)]
     named = {"%02d.v22" % file: list(transactions(file, works)) for file in range(1, files + 1)}
-    words = ["run", *options, *STAMP, "--from", "book", "--to", "book", *named]
+    words = ["run", *options, *STAMP, "--from", "book", "--to", "book", *(LISTED if listed else named)]
     return Case([entry(made) for made in before], named, words)
 
 
@@ -80,6 +86,8 @@ def set_up(folder, case):
                 file.write(OLD_ACK)
     with open(os.path.join(folder, "book"), "wb") as file:
         file.write(register(case.opening))
+    with open(os.path.join(folder, "names"), "w", encoding="utf-8") as file:
+        file.writelines(name + "\n" for name in case.files)
 
 
 def bytes_in(folder, name):
@@ -200,27 +208,29 @@ def calls_of(program, case):
         return list(found)
 
 
-def kills_at_each_call(program):
+def kills_at_each_call(program, what, case):
     """Kills a run before each of its system calls."""
-    case = a_case(100, 3, 8, "--in-turn")
     calls = calls_of(program, case)
     new, acks, drafts, ended_before = 0, 0, 0, 0
     for name, nth in calls:
-        with fresh(case) as folder:
-            injected = ["strace", "-f", "-o", "/dev/null", "-e", f"inject={name}:signal=KILL:when={nth}"]
-            ended = subprocess.run([*injected, program, *case.words], cwd=folder, capture_output=True, timeout=SECONDS)
-            want(ended.returncode == -signal.SIGKILL or (name in UNEVEN and ended.returncode == 0), f"not killed at {name} {nth}: {ended}")
-            ended_before += ended.returncode == 0
-            is_new, placed = look(program, folder, case)
-            new, acks, drafts = new + is_new, acks + placed, drafts + len(beside(folder)[0])
-            goes_on_after(program, folder, case, is_new)
+        for turn in range(TURNS):
+            with fresh(case) as folder:
+                injected = ["strace", "-f", "-o", "/dev/null", "-e", f"inject={name}:signal=KILL:when={nth}"]
+                ended = subprocess.run([*injected, program, *case.words], cwd=folder, capture_output=True, timeout=SECONDS)
+                if ended.returncode == 0 and name not in UNEVEN and turn + 1 < TURNS:
+                    continue
+                want(ended.returncode == -signal.SIGKILL or (name in UNEVEN and ended.returncode == 0), f"not killed at {name} {nth}: {ended}")
+                ended_before += ended.returncode == 0
+                is_new, placed = look(program, folder, case)
+                new, acks, drafts = new + is_new, acks + placed, drafts + len(beside(folder)[0])
+                goes_on_after(program, folder, case, is_new)
+                break
     want(0 < new < len(calls), "no run was killed after its register was kept, or none before")
-    tell("a kill before each system call", len(calls), (len(calls) - new, "old registers"), (new, "new"), (acks, "new acknowledgements"), (drafts, "drafts left"), (ended_before, "had ended"))
+    tell(f"a kill before each call: {what}", len(calls), (len(calls) - new, "old registers"), (new, "new"), (acks, "new acknowledgements"), (drafts, "drafts left"), (ended_before, "had ended"))
 
 
-def kills_at_random(program, *options):
+def kills_at_random(program, what, case):
     """Kills runs at random times, some of them before they begin to write and some after they have ended."""
-    case = a_case(1_000, 8, 400, *options)
     with fresh(case) as folder:
         start = time.perf_counter()
         run(program, folder, case.words)
@@ -237,7 +247,7 @@ def kills_at_random(program, *options):
             found["new acknowledgements"] += placed
             goes_on_after(program, folder, case, is_new)
     told = [(found[what], what) for what in ("new", "new acknowledgements", "had ended")]
-    tell(" ".join(["kills at random times", *options]), KILLS, (KILLS - found["new"], "old registers"), *told)
+    tell(f"kills at random times: {what}", KILLS, (KILLS - found["new"], "old registers"), *told)
 
 
 @contextlib.contextmanager
@@ -411,9 +421,11 @@ def main(program):
     print("%-34s %7s" % ("", "runs"))
     guards(program)
     order_of_calls(program)
-    kills_at_each_call(program)
-    kills_at_random(program, "--in-turn")
-    kills_at_random(program)
+    kills_at_each_call(program, "words", a_case(100, 3, 8, "--in-turn"))
+    kills_at_each_call(program, "a list", a_case(100, 66, 1, "--in-turn", listed=True))
+    kills_at_random(program, "in turn", a_case(1_000, 8, 400, "--in-turn"))
+    kills_at_random(program, "at once", a_case(1_000, 8, 400))
+    kills_at_random(program, "a list", a_case(1_000, 200, 20, listed=True))
     full_disks(program, "pages", 60)
     full_disks(program, "files", 20)
     two_at_once(program)
