@@ -146,7 +146,7 @@ impl Way {
 
 /// The options of a run, as they were given.
 #[derive(Drop)]
-pub(crate) struct RunWords<'m, 'a> {
+pub(crate) struct RunWords<'m, 'f, 'a> {
     /// The stamp of the acknowledgements.
     who: StampWords<'a>,
     /// The register of the book that the run begins with, if that is not an empty one.
@@ -160,12 +160,16 @@ pub(crate) struct RunWords<'m, 'a> {
     /// Whether steps, and the system's reasons, are printed.
     pub(crate) verbose: bool,
     /// The files to acknowledge.
-    pub(crate) files: &'m [&'a str],
+    pub(crate) files: &'m [&'f str],
 }
 
-impl<'m, 'a> RunWords<'m, 'a> {
+impl<'m, 'f, 'a> RunWords<'m, 'f, 'a> {
     /// The options that a command line of [`RUN`] was given, with these files, which are worked in this way.
-    fn given(matches: &ArgMatches<'a>, files: &'m [&'a str], way: Way) -> Option<RunWords<'m, 'a>>
+    fn given(
+        matches: &ArgMatches<'a>,
+        files: &'m [&'f str],
+        way: Way,
+    ) -> Option<RunWords<'m, 'f, 'a>>
         ensures files { IfSome result (λ words. words.files ≡ files.entry) }
         ensures way { IfSome result (λ words. words.way ≡ way) }
     {
@@ -220,7 +224,7 @@ impl<'m, 'a> RunWords<'m, 'a> {
 pub(crate) fn right_words<'m, 'a, R: Eprint>(
     rt: &R,
     matches: &'m ArgMatches<'a>,
-) -> Result<RunWords<'m, 'a>, ExitCode>
+) -> Result<RunWords<'m, 'a, 'a>, ExitCode>
     ensures few { IfOk result (λ words. words.way ≡ Way.AtOnce → length words.files.now < 64) }
 {
     let Some(files) = matches.get_strs("FILE") else {
@@ -237,11 +241,11 @@ pub(crate) fn right_words<'m, 'a, R: Eprint>(
 
 /// The options of a run on the files of a list, if nothing is wrong with them. Else the fault is printed on standard
 /// error, and its status returned.
-pub(crate) fn right_listed_words<'m, 'a, R: AllocGlobal + Eprint>(
+pub(crate) fn right_listed_words<'m, 'f, 'a, R: AllocGlobal + Eprint>(
     rt: &R,
     matches: &ArgMatches<'a>,
-    files: &'m [&'a str],
-) -> Result<RunWords<'m, 'a>, ExitCode>
+    files: &'m [&'f str],
+) -> Result<RunWords<'m, 'f, 'a>, ExitCode>
     ensures few { IfOk result (λ words. words.way ≡ Way.AtOnce → length words.files.now < 64) }
 {
     let Some(words) = RunWords::given(matches, files, Way::of_list(matches)) else {

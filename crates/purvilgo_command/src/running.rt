@@ -147,7 +147,7 @@ where
     let Ok(jobs) = jobs_of(progress, words.files, &targets.answers, words) else {
         return no_memory(rt);
     };
-    let printer = OutcomePrinter::new(&progress, words);
+    let printer = OutcomePrinter::new(progress, words.files, words.verbose);
     let served = serve_jobs(rt, words.way, jobs, book, stamp, &printer);
     progress.clear();
     match served {

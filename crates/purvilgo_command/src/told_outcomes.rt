@@ -4,18 +4,17 @@ use crate::error_terminal::ErrorTerminal;
 use crate::messages::print_outcome;
 use crate::printing::StandardOutput;
 use crate::progress::Progress;
-use crate::run_command::RunWords;
 use cwr_desk::{FileOutcome, RunListener, outcome_line};
 use std::alloc::Global;
 use std::cell::Cell;
 
 /// Prints how each job ended, on standard output, and keeps whether all are acknowledged and printed.
 #[derive(Drop)]
-pub(crate) struct OutcomePrinter<'w, 'p, R> {
+pub(crate) struct OutcomePrinter<'w, 'p, 'm, 'f, R> {
     /// How far the run is, whose line gives way to what is printed.
     progress: &'w Progress<'p, R>,
     /// The files of the jobs, in order.
-    files: &'w [&'w str],
+    files: &'m [&'f str],
     /// Whether the reasons of jobs that are not acknowledged are printed on standard error first.
     verbose: bool,
     /// The number of bytes that standard output took so far.
@@ -26,16 +25,17 @@ pub(crate) struct OutcomePrinter<'w, 'p, R> {
     all: Cell<bool>,
 }
 
-impl<'w, 'p, R: AllocGlobal + Print + ErrorTerminal> OutcomePrinter<'w, 'p, R> {
-    /// A printer for the jobs of the files of a run, none of which has ended.
+impl<'w, 'p, 'm, 'f, R: AllocGlobal + Print + ErrorTerminal> OutcomePrinter<'w, 'p, 'm, 'f, R> {
+    /// A printer for the jobs of these files, none of which has ended.
     pub(crate) fn new(
         progress: &'w Progress<'p, R>,
-        words: &'w RunWords,
-    ) -> OutcomePrinter<'w, 'p, R> {
+        files: &'m [&'f str],
+        verbose: bool,
+    ) -> OutcomePrinter<'w, 'p, 'm, 'f, R> {
         OutcomePrinter {
             progress,
-            files: words.files,
-            verbose: words.verbose,
+            files,
+            verbose,
             sent: Cell::new(0),
             failed: Cell::new(false),
             all: Cell::new(true),
@@ -64,7 +64,7 @@ impl<'w, 'p, R: AllocGlobal + Print + ErrorTerminal> OutcomePrinter<'w, 'p, R> {
     }
 }
 
-impl<R: AllocGlobal + Print + ErrorTerminal> RunListener for OutcomePrinter<'_, '_, R> {
+impl<R: AllocGlobal + Print + ErrorTerminal> RunListener for OutcomePrinter<'_, '_, '_, '_, R> {
     fn ended(&self, first: usize, outcomes: &[FileOutcome]) {
         let files = self.files.get(first..).unwrap_or(&[]);
         if self.verbose {
