@@ -152,7 +152,12 @@ where
     progress.clear();
     match served {
         Ok(run) => {
-            let kept = keep_run(rt, &run.book, run.jobs, waiting, targets, words);
+            let Run {
+                book,
+                outcomes: _,
+                jobs,
+            } = run;
+            let kept = keep_run(rt, &book, jobs, waiting, targets, words);
             status_of(printer.are_all_told() && kept)
         }
         Err(jobs) => {
