@@ -10,7 +10,7 @@ take_group-requires-clause-between g c = (c.args.stamp.now, c.args.book, c.args.
 
 pub put_group-requires : goal.put_group-requires
 put_group-requires g c =
-    let served = c.serve_in_order-served.ensures in record {
+    let served = c.serve_group-served.ensures in record {
       served = (
         c.args.stamp.now,
         c.args.book,
@@ -25,13 +25,13 @@ put_group-requires g c =
 pub returns-in_err-between-2-clause-cut_short : goal.returns-in_err-between-2-clause-cut_short
 returns-in_err-between-2-clause-cut_short g c =
     let p = err_from_is_err_and c.from_residual-in_err-between-2.result c.from_residual-in_err-between-2.ensures.1 in
-    let served = c.serve_in_order-served.ensures in
+    let served = c.serve_group-served.ensures in
     rw (p.1, p.2) (c.in_err-between-2.ensures.cut_short c.args.stamp.now c.args.book c.in_ok-taken.group.book c.args.jobs.items c.in_ok-taken.group.jobs.items
     (c.in_ok-taken.ensures.taken c.args.stamp.now c.args.book c.args.jobs.items c.loop-alloc.invariant) (served.run, served.in_turn, served.back))
 
 pub loop-alloc-preserved : goal.loop-alloc-preserved
 loop-alloc-preserved g c =
-    let served = c.serve_in_order-served.ensures in
+    let served = c.serve_group-served.ensures in
     c.in_ok-between-2.ensures.between c.args.stamp.now c.args.book c.in_ok-taken.group.book c.args.jobs.items c.in_ok-taken.group.jobs.items
     (c.in_ok-taken.ensures.taken c.args.stamp.now c.args.book c.args.jobs.items c.loop-alloc.invariant) (served.run, served.in_turn, served.back)
 
